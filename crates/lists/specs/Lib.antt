@@ -1,0 +1,7 @@
+pub mod Over
+pub mod Pick
+pub mod Sect
+pub mod Rows
+pub mod Bytes
+pub mod All
+pub mod Same
