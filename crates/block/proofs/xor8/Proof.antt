@@ -1,0 +1,41 @@
+use mathlib.Core.Path.{_∙_, ap₂, ap}
+use lib.Bits.{bitXor}
+use denote.Ref.{now}
+use Rattle.block.specs.Block.{le8}
+use Rattle.block.specs.XorWord.{le8-xor-words}
+use borrow.Author.Needs.{needs}
+use Rattle.block.proofs.xor8.Statement.{statement}
+use Rattle.block.proofs.xor8.Tie as tie
+use Rattle.block.proofs.xor8.Reads as reads
+use Rattle.block.proofs.xor8.Lts as lts
+use Rattle.block.proofs.load64.Reads as load64-reads
+use Rattle.block.proofs.store64.Reads as store64-reads
+
+-- src/lib.rt:125:13
+load64-requires : tie.Need-load64-requires
+load64-requires c κs = search needs
+
+-- src/lib.rt:125:28
+load64-requires-2 : tie.Need-load64-requires-2
+load64-requires-2 c κs = search needs
+
+-- src/lib.rt:126:5
+store64-requires : tie.Need-store64-requires
+store64-requires c κs = search needs
+
+-- src/lib.rt:121:1
+same-length : tie.Need-same-length
+same-length c = search needs
+
+-- src/lib.rt:121:1
+returns : tie.Need-returns
+returns c =
+    let k = c .before .before .before .before .before .before .before .before in
+    let s = k .before in
+    c .before .before .store64 .ensures
+    ∙ ap le8 (ap₂ bitXor (c .before .before .before .before .before .load64 .ensures) (c .before .before .before .before .load642 .ensures))
+    ∙ le8-xor-words (now (s .args .a)) (now (s .args .b)) (λ i. k .slice-known .given i .fits) (λ i. c .before .before .before .before .before .before .before .shared-slice-known .given i .fits) (s .pre .0) (s .pre .1)
+
+pub xor8-spec : {M : Type 1} → statement M
+xor8-spec =
+    tie.close (tie.spec load64-requires load64-requires-2 store64-requires same-length returns)
