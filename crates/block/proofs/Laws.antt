@@ -7,14 +7,13 @@ use native.Mathlib.Nat.{mul-zero, mul-one, mod-lt, zero-lt-suc}
 use native.Mathlib.Omega.{arith}
 use lib.ListN.{length, getD, take, drop, set, length-set, List·getD-eq-default}
 use lib.Seq.{drop-at, getD-take, getD-drop}
-use lib.Pow.{pow-pos}
 use lib.Bits.{bitXor, xor-zero-r}
 use lib.Dec.{eqb}
 use mir.Val.{boolByte}
 use Rattle.lists.specs.Over.{tab, tab-zero, tab-step, length-tab, over-get, over-next, over-length, length-take-drop}
 use Rattle.lists.specs.Tab.{tab-add, tab-rest}
 use Rattle.lists.specs.Rows.{tab-ext}
-use Rattle.algebra.specs.Group.{XorGroup, bitOf, odd, sel}
+use Rattle.algebra.specs.Group.{bitOf, odd, sel}
 use Rattle.block.specs.Block.{Block, xorAt, xorInplace, zeroOf}
 use Rattle.block.specs.Group.{blocks}
 use borrow.Rule.Slice.PartMut.{putMid}

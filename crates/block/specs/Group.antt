@@ -1,8 +1,7 @@
 -- Blocks are an XOR group; a test of two Blocks.
 use mathlib.Core.Path.{_≡_, refl, sym, ap, ap₂, _∙_}
 use mathlib.Core.Bool.{Bool, true, false, _&&_}
-use Prim.Native.Nat.{ℕ}
-use lib.Bits.{bitXor, xor-comm, xor-self, xor-zero-l}
+use lib.Bits.{xor-comm, xor-self, xor-zero-l}
 use lib.Dec.{eqb}
 use borrow.Author.Tests.{eqb-true, eq-eqb}
 use Rattle.lists.specs.All.{true-false}

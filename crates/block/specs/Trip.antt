@@ -1,22 +1,20 @@
 -- Bytes there and back: what is read where a word or a Block was written, and what is written of what was read.
 use mathlib.Core.Path.{_≡_, refl, sym, ap, ap₂, _∙_}
 use mathlib.Core.Bool.{Bool, true, false}
-use mathlib.Core.Logic.{_≢_}
 use mathlib.Core.List.{List, [], _∷_, _++_, append-assoc, append-nil}
-use Prim.Native.Nat.{ℕ, zero, suc, _+_, _-_, _*_, _/_, _%_, _^_, _<_, _≤_}
+use Prim.Native.Nat.{ℕ, zero, suc, _+_, _*_, _/_, _%_, _^_, _<_, _≤_}
 use native.Mathlib.Nat.{add-zero, add-assoc, mod-eq-of-lt, le-refl}
 use native.Mathlib.Omega.{arith}
 use lib.ListN.{length, getD, take, drop, length-append}
-use lib.Seq.{getD-take, getD-drop, take-at, drop-at, take-add, drop-drop}
-use lib.Bits.{bitXor, xor-shr, xor-mod, xor-lt}
+use lib.Seq.{getD-take, getD-drop, drop-at, take-add, drop-drop}
+use lib.Bits.{xor-lt}
 use Rattle.lists.specs.Over.{tab}
 use Rattle.lists.specs.Tab.{take-tab}
-use Rattle.lists.specs.Bytes.{Bytes, bytes-nil, bytes-cons, bytes-append}
-use Rattle.algebra.specs.Group.{XorGroup, sel}
+use Rattle.lists.specs.Bytes.{Bytes, bytes-append}
+use Rattle.algebra.specs.Group.{sel}
 use Rattle.algebra.specs.Sum.{sum, others, neq}
-use Rattle.block.specs.Block.{Block, leOf, wordAt, blockAt, le8, bytesOf, xorOf, zeroOf, xorAt, xorInplace}
+use Rattle.block.specs.Block.{Block, leOf, wordAt, blockAt, le8, bytesOf, xorOf, zeroOf}
 use Rattle.block.specs.Group.{blocks}
-use Rattle.block.specs.Xor.{xor-part}
 
 -- ---- a word or a Block depends on its own bytes alone
 pub word-ext : (s t : List ℕ) (a b : ℕ) → ((j : ℕ) → j < 8 → getD s (a + j) 0 ≡ getD t (b + j) 0) → wordAt s a ≡ wordAt t b

@@ -1,20 +1,19 @@
 -- XOR of words and Blocks is XOR of their bytes.
-use mathlib.Core.Path.{_≡_, refl, sym, ap, ap₂, _∙_}
+use mathlib.Core.Path.{_≡_, sym, ap, ap₂, _∙_}
 use mathlib.Core.List.{List, [], _∷_, _++_}
-use Prim.Native.Nat.{ℕ, _+_, _/_, _%_, _^_, _<_, _≤_}
+use Prim.Native.Nat.{ℕ, _+_, _/_, _%_, _^_, _≤_}
 use native.Mathlib.Omega.{arith}
-use lib.ListN.{length, getD, take, drop, length-append, List·getD-append}
+use lib.ListN.{length, getD, length-append, List·getD-append}
 use lib.Seq.{getD-append-add, take-all}
 use lib.Bits.{bitXor, xor-shr, xor-mod, xor-lt}
 use Rattle.lists.specs.Over.{tab}
 use Rattle.lists.specs.Tab.{tab-add}
 use Rattle.lists.specs.Rows.{tab-ext}
 use Rattle.lists.specs.Bytes.{Bytes}
-use Rattle.algebra.specs.Group.{XorGroup}
 use Rattle.block.specs.Block.{Block, wordAt, blockAt, le8, bytesOf, xorOf, xorAt, xorInplace}
 use Rattle.block.specs.Group.{blocks}
 use Rattle.block.specs.Xor.{xor-part}
-use Rattle.block.specs.Trip.{length-le8, length-bytesOf, le8-word, bytesOf-at, word-here, block-here, small-word, small-at, small-xor}
+use Rattle.block.specs.Trip.{length-le8, le8-word, bytesOf-at, word-here, block-here, small-word, small-at, small-xor}
 
 -- byte k of the XOR of two numbers
 byte-xor : (u v k : ℕ) → bitXor u v / 2 ^ k % 2 ^ 8 ≡ bitXor (u / 2 ^ k % 2 ^ 8) (v / 2 ^ k % 2 ^ 8)

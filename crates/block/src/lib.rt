@@ -2,12 +2,10 @@
 // A Block is kept as its low and its high 64 bits; in memory it is its 16 bytes.
 // Secrets decide no branch and no index here: `const_mul` multiplies by the bit, `equals` looks at both words.
 ghost use mathlib.Core.Path.{_≡_};
-ghost use mathlib.Core.Bool.{_&&_};
-ghost use Prim.Native.Nat.{ℕ, _+_, _*_, _<_, _≤_, _/_, _%_};
-ghost use lib.ListN.{length, getD, take, drop};
-ghost use lib.Bits.{bitXor};
-ghost use Rattle.algebra.specs.Group.{XorGroup, sel, odd, num};
-ghost use Rattle.block.specs.Block.{leOf, wordAt, blockAt, xorOf, zeroOf, eqBlock, le8, bytesOf, xorInplace};
+ghost use Prim.Native.Nat.{_+_, _≤_, _<_};
+ghost use lib.ListN.{length, getD};
+ghost use Rattle.algebra.specs.Group.{sel, odd, num};
+ghost use Rattle.block.specs.Block.{leOf, wordAt, blockAt, eqBlock, le8, bytesOf, xorInplace};
 ghost use Rattle.block.specs.Group.{blocks};
 
 // The low and the high 64 bits.
@@ -90,7 +88,9 @@ pub fn load(s: &[u8], at: usize) -> Block
     requires { ⌜ at + 16 ≤ length (now s) ⌝ }
     ensures { λ r. ⌜ r ≡ blockAt (now (s .entry)) at ⌝ }
 {
-    Block(load64(s, at), load64(s, at + 8))
+    let low = load64(s, at);
+    let high = load64(s, at + 8);
+    Block(low, high)
 }
 
 // Writes w as the 8 bytes of out, low byte first.

@@ -6,28 +6,7 @@ use Rattle.block.specs.XorWord.{le8-xor-words}
 use borrow.Author.Needs.{needs}
 use Rattle.block.proofs.xor8.Statement.{statement}
 use Rattle.block.proofs.xor8.Tie as tie
-use Rattle.block.proofs.xor8.Reads as reads
-use Rattle.block.proofs.xor8.Lts as lts
-use Rattle.block.proofs.load64.Reads as load64-reads
-use Rattle.block.proofs.store64.Reads as store64-reads
 
--- src/lib.rt:125:13
-load64-requires : tie.Need-load64-requires
-load64-requires c κs = search needs
-
--- src/lib.rt:125:28
-load64-requires-2 : tie.Need-load64-requires-2
-load64-requires-2 c κs = search needs
-
--- src/lib.rt:126:5
-store64-requires : tie.Need-store64-requires
-store64-requires c κs = search needs
-
--- src/lib.rt:121:1
-same-length : tie.Need-same-length
-same-length c = search needs
-
--- src/lib.rt:121:1
 returns : tie.Need-returns
 returns c =
     let k = c .before .before .before .before .before .before .before .before in
@@ -38,4 +17,4 @@ returns c =
 
 pub xor8-spec : {M : Type 1} → statement M
 xor8-spec =
-    tie.close (tie.spec load64-requires load64-requires-2 store64-requires same-length returns)
+    tie.close (tie.spec (λ c κs. search needs) (λ c κs. search needs) (λ c κs. search needs) (λ c. search needs) returns)

@@ -2,10 +2,7 @@ use mathlib.Core.Path.{refl}
 use Rattle.block.specs.Block.{eqBlock}
 use Rattle.block.proofs.Block.equals.Statement.{statement}
 use Rattle.block.proofs.Block.equals.Tie as tie
-use Rattle.block.proofs.Block.equals.Reads as reads
-use Rattle.block.proofs.Block.equals.Lts as lts
 
--- src/lib.rt:51:5
 returns : tie.Need-returns
 unfolding eqBlock
 returns c = refl

@@ -3,10 +3,7 @@ use Rattle.block.specs.Block.{xorOf}
 use Rattle.block.specs.Group.{blocks}
 use Rattle.block.proofs.Block.xor.Statement.{statement}
 use Rattle.block.proofs.Block.xor.Tie as tie
-use Rattle.block.proofs.Block.xor.Reads as reads
-use Rattle.block.proofs.Block.xor.Lts as lts
 
--- src/lib.rt:36:5
 returns : tie.Need-returns
 unfolding blocks xorOf
 returns c = refl

@@ -3,10 +3,7 @@ use Rattle.block.specs.Block.{zeroOf}
 use Rattle.block.specs.Group.{blocks}
 use Rattle.block.proofs.Block.zero.Statement.{statement}
 use Rattle.block.proofs.Block.zero.Tie as tie
-use Rattle.block.proofs.Block.zero.Reads as reads
-use Rattle.block.proofs.Block.zero.Lts as lts
 
--- src/lib.rt:18:5
 returns : tie.Need-returns
 unfolding blocks zeroOf
 returns c = refl
