@@ -1,5 +1,5 @@
 -- Blocks and words as numbers, and their bytes: byte 0 is lowest. XOR of byte strings, byte by byte.
-use Prim.Native.Nat.{ℕ, _+_, _*_, _/_, _%_}
+use Prim.Native.Nat.{ℕ, _+_, _*_, _/_, _%_, _^_, _<_}
 use mathlib.Core.Bool.{Bool, _&&_}
 use mathlib.Core.List.{List, [], _∷_, _++_}
 use lib.ListN.{length, getD}
@@ -23,6 +23,11 @@ wordAt s at =
 -- the 16 bytes at `at`: the low word, then the high word
 unfoldable pub blockAt : List ℕ → ℕ → Block
 blockAt s at = record { 0 = wordAt s at; 1 = wordAt s (at + 8) }
+
+-- both words fit 64 bits, as in the code
+pub record Small (b : Block) : Type 0 where
+  pub low : b .0 < 2 ^ 64
+  pub high : b .1 < 2 ^ 64
 
 -- ---- bytes of numbers
 

@@ -10,11 +10,14 @@ use lib.Seq.{getD-take, getD-drop, drop-at, take-add, drop-drop}
 use lib.Bits.{xor-lt}
 use Rattle.lists.specs.Over.{tab}
 use Rattle.lists.specs.Tab.{take-tab}
+use Rattle.lists.specs.Sect.{get}
+use Rattle.lists.specs.Rows.{chunk}
 use Rattle.lists.specs.Bytes.{Bytes, bytes-append}
 use Rattle.algebra.specs.Group.{sel}
 use Rattle.algebra.specs.Sum.{sum, others, neq}
 use Rattle.block.specs.Block.{Block, leOf, wordAt, blockAt, le8, bytesOf, xorOf, zeroOf}
 use Rattle.block.specs.Group.{blocks}
+pub use Rattle.block.specs.Block.{Small}
 
 -- ---- a word or a Block depends on its own bytes alone
 pub word-ext : (s t : List ℕ) (a b : ℕ) → ((j : ℕ) → j < 8 → getD s (a + j) 0 ≡ getD t (b + j) 0) → wordAt s a ≡ wordAt t b
@@ -48,12 +51,22 @@ module _ (s : List ℕ) (k at : ℕ) where
   pub block-take : at + 16 ≤ k → blockAt (take k s) at ≡ blockAt s at
   block-take h = block-ext (take k s) s at at (λ j l. getD-take k s (at + j) 0 (omega arith))
 
--- read from a part that was cut out
+-- read from a part that was cut out, or from a row
+pub word-get : (s : List ℕ) (a k at : ℕ) → at + 8 ≤ k → wordAt (get a k s) at ≡ wordAt s (a + at)
+word-get s a k at h = word-take (drop a s) k at h ∙ word-drop s a at
+
+pub block-get : (s : List ℕ) (a k at : ℕ) → at + 16 ≤ k → blockAt (get a k s) at ≡ blockAt s (a + at)
+block-get s a k at h = block-take (drop a s) k at h ∙ block-drop s a at
+
+pub block-chunk : (m k : ℕ) (s : List ℕ) (at : ℕ) → at + 16 ≤ m → blockAt (chunk m k s) at ≡ blockAt s (k * m + at)
+unfolding chunk
+block-chunk m k s at h = block-get s (k * m) m at h
+
 pub word-part : (s : List ℕ) (at : ℕ) → wordAt (take 8 (drop at s)) 0 ≡ wordAt s at
-word-part s at = word-take (drop at s) 8 0 (omega arith) ∙ word-drop s at 0 ∙ ap (wordAt s) (add-zero at)
+word-part s at = word-get s at 8 0 (omega arith) ∙ ap (wordAt s) (add-zero at)
 
 pub block-part : (s : List ℕ) (at : ℕ) → blockAt (take 16 (drop at s)) 0 ≡ blockAt s at
-block-part s at = block-take (drop at s) 16 0 (omega arith) ∙ block-drop s at 0 ∙ ap (blockAt s) (add-zero at)
+block-part s at = block-get s at 16 0 (omega arith) ∙ ap (blockAt s) (add-zero at)
 
 -- ---- lengths and bytes of what is written
 pub length-le8 : (w : ℕ) → length (le8 w) ≡ 8
@@ -95,11 +108,6 @@ word-le8 w rest h =
     let s1 : w / 0x1_0000 * 256 + w / 0x100 % 256 ≡ w / 0x100 = omega arith in
     let s0 : w / 256 * 256 + w % 256 ≡ w = omega arith in
     rw (s6, s5, s4, s3, s2, s1, s0)
-
--- both words fit 64 bits
-pub record Small (b : Block) : Type 0 where
-  pub low : b .0 < 2 ^ 64
-  pub high : b .1 < 2 ^ 64
 
 pub block-bytesOf : (b : Block) (rest : List ℕ) → Small b → blockAt (bytesOf b ++ rest) 0 ≡ b
 unfolding blockAt bytesOf

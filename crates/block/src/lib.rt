@@ -57,13 +57,8 @@ impl Block {
 fn from_le(b0: u8, b1: u8, b2: u8, b3: u8, b4: u8, b5: u8, b6: u8, b7: u8) -> u64
     ensures { λ r. ⌜ r ≡ leOf b0 b1 b2 b3 b4 b5 b6 b7 ⌝ }
 {
-    (((((((b7 as u64) * 256 + b6 as u64) * 256 + b5 as u64) * 256 + b4 as u64) * 256 + b3 as u64)
-        * 256
-        + b2 as u64)
-        * 256
-        + b1 as u64)
-        * 256
-        + b0 as u64
+    let high = (((b7 as u64) * 256 + b6 as u64) * 256 + b5 as u64) * 256 + b4 as u64;
+    (((high * 256 + b3 as u64) * 256 + b2 as u64) * 256 + b1 as u64) * 256 + b0 as u64
 }
 
 // The 8 bytes at `at`.
