@@ -1,0 +1,8 @@
+pub mod Xor
+pub mod Group
+pub mod Sum
+pub mod Half
+pub mod Leaky
+pub mod Taut
+pub mod Share
+pub mod Solve

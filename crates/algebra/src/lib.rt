@@ -1,0 +1,1 @@
+// The XOR algebra of the AND session, in specs/. No code.

@@ -1,0 +1,1 @@
+// Laws about lists and buffers, in specs/. No code.
