@@ -30,12 +30,13 @@ macAt s at k = blockAt s (at + macOff k)
 unfoldable pub keyAt : List ℕ → ℕ → ℕ → Block
 keyAt s at k = blockAt s (at + keyOff k)
 
+-- party i's own entry is zero
+unfoldable pub ownZero : ℕ → List ℕ → ℕ → Bool
+ownZero i s at = eqBlock (macAt s at i) (blocks .nil) && eqBlock (keyAt s at i) (blocks .nil)
+
 -- 1 for a bit byte above 1, then 4 for an own entry that isn't zero, else 0
 unfoldable pub recordFault : ℕ → List ℕ → ℕ → ℕ
-recordFault i s at =
-    pick (leb (getD s at 0) 1)
-    (pick (eqBlock (macAt s at i) (blocks .nil) && eqBlock (keyAt s at i) (blocks .nil)) 0 4)
-    1
+recordFault i s at = pick (leb (getD s at 0) 1) (pick (ownZero i s at) 0 4) 1
 
 -- the first fault of `count` records, record by record, else 0
 unfoldable pub recordsFault : ℕ → ℕ → List ℕ → ℕ → ℕ

@@ -31,9 +31,12 @@ shares = record {
   self = λ a j. record { bit = bits .self (a .bit) j; mac = λ k. blocks .self (a .mac k) j; key = λ k. blocks .self (a .key k) j };
 }
 
--- the entry of party k; the own entry is zero
+-- the entry of party k in party i's record, with the MAC m and the key y; the own entry is zero
+unfoldable pub entryBytes : ℕ → ℕ → Block → Block → List ℕ
+entryBytes i k m y = pick (neq i k) (bytesOf m ++ bytesOf y) (replicate 32 0)
+
 unfoldable pub entryOf : ℕ → Share → ℕ → List ℕ
-entryOf i x k = pick (neq i k) (bytesOf (x .mac k) ++ bytesOf (x .key k)) (replicate 32 0)
+entryOf i x k = entryBytes i k (x .mac k) (x .key k)
 
 -- party i's record of x among n parties
 unfoldable pub recordOf : ℕ → ℕ → Share → List ℕ
