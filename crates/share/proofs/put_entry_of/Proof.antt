@@ -1,32 +1,21 @@
+use mathlib.Core.Path.{_∙_, ap₂}
+use mathlib.Core.List.{_++_}
 use borrow.Author.Needs.{needs}
+use Rattle.algebra.specs.Sum.{neq}
+use Rattle.block.specs.declared.Block.{Block}
+use Rattle.block.specs.Block.{bytesOf}
+use Rattle.share.proofs.Laws.{own-entry}
 use Rattle.share.proofs.put_entry_of.Statement.{statement}
 use Rattle.share.proofs.put_entry_of.Tie as tie
-use Rattle.share.proofs.put_entry_of.Reads as reads
-use Rattle.share.proofs.put_entry_of.Lts as lts
-use Rattle.block.proofs.Block.const_mul.Reads as const-mul-reads
-use Rattle.share.proofs.put_entry.Reads as put-entry-reads
 
--- src/lib.rt:164:24
-const-mul-requires : tie.Need-const-mul-requires
-const-mul-requires c κs = search needs
-
--- src/lib.rt:164:51
-const-mul-requires-2 : tie.Need-const-mul-requires-2
-const-mul-requires-2 c κs = search needs
-
--- src/lib.rt:164:5
-put-entry-requires : tie.Need-put-entry-requires
-put-entry-requires c κs = search needs
-
--- src/lib.rt:159:1
-same-length : tie.Need-same-length
-same-length c = search needs
-
--- src/lib.rt:159:1
 returns : tie.Need-returns
-returns c = ?
+unfolding neq
+returns c =
+    let s = c .before .before .before .before .before .before .before in
+    c .before .before .put-entry .ensures
+    ∙ ap₂ (λ (m k : Block). bytesOf m ++ bytesOf k) (c .before .before .before .before .const-mul .ensures) (c .before .before .before .const-mul2 .ensures)
+    ∙ own-entry (s .args .i) (s .args .of) (s .args .m .0) (s .args .k .0)
 
 pub put-entry-of-spec : {M : Type 1} → statement M
 put-entry-of-spec =
-    tie.close
-    (tie.spec const-mul-requires const-mul-requires-2 put-entry-requires same-length returns)
+    tie.close (tie.spec (λ c κs. search needs) (λ c κs. search needs) (λ c κs. search needs) (λ c. search needs) returns)
