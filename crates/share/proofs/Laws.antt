@@ -2,15 +2,20 @@
 use mathlib.Core.Path.{_≡_, refl, sym, ap, ap₂, _∙_}
 use mathlib.Core.Bool.{Bool, true, false}
 use mathlib.Core.List.{List, [], _∷_, _++_}
-use Prim.Native.Nat.{ℕ, zero, suc, _+_, _*_, _<_, _≤_}
+use Prim.Native.Nat.{ℕ, zero, suc, _+_, _-_, _*_, _<_, _≤_}
+use native.Mathlib.Numerals.{add-one}
 use native.Mathlib.Omega.{arith}
 use lib.ListN.{length, getD, take, drop, set, replicate}
+use lib.Seq.{drop-cons, drop-at}
+use borrow.Rule.Slice.PartMut.{putMid}
 use Rattle.lists.specs.Pick.{pick}
+use Rattle.lists.specs.Over.{cat, length-cat, over-next, over-length, over-full}
 use Rattle.algebra.specs.Group.{XorGroup, sel}
 use Rattle.algebra.specs.Sum.{neq}
 use Rattle.block.specs.Block.{bytesOf, le8, zeroOf}
 use Rattle.block.specs.declared.Block.{Block}
 use Rattle.block.specs.Group.{blocks}
+use Rattle.share.specs.Record.{recordLen, macOff}
 use Rattle.share.specs.Share.{entryBytes}
 
 -- ---- an entry that is zero where it is the own one
@@ -22,3 +27,38 @@ own-entry i k m y = go (neq i k)
 
     go true = refl
     go false = refl
+
+-- ---- a record that is written entry by entry: d is l with its first k entries overwritten by g 0, .., g (k - 1)
+pub record Filled (g : ℕ → List ℕ) (k : ℕ) (l d : List ℕ) : Type 0 where
+  pub here : d ≡ (getD l 0 0 ∷ cat k g) ++ drop (macOff k) l
+  pub same : length d ≡ length l
+
+module _ (g : ℕ → List ℕ) (long : (k : ℕ) → length (g k) ≡ 32) (n : ℕ) (l : List ℕ) (whole : length l ≡ recordLen n) where
+  written : (k : ℕ) → length (getD l 0 0 ∷ cat k g) ≡ macOff k
+  written k = ap suc (length-cat k 32 g (λ j h. long j)) ∙ (let e : suc (k * 32) ≡ macOff k = omega arith in e)
+
+  pub filled-none : Filled g 0 l l
+  unfolding cat
+  filled-none = record { here = drop-cons l 0 0 (omega arith); same = refl }
+
+  module _ (k a e : ℕ) (d : List ℕ) (f : Filled g k l d) (h : k < n) (start : a ≡ macOff k) (end : e ≡ a + 32) where
+    -- entry k, as it is lent, is still the old one
+    pub filled-part : take (e - a) (drop a d) ≡ take 32 (drop (macOff k) l)
+    filled-part =
+        ap₂ (λ m o. take m (drop o d)) (let w : e - a ≡ 32 = omega arith in w) start
+        ∙ ap (λ (s : List ℕ). take 32 (drop (macOff k) s)) (f .here)
+        ∙ ap (take 32) (drop-at (getD l 0 0 ∷ cat k g) (drop (macOff k) l) (macOff k) (written k))
+
+    pub filled-turn : (x : List ℕ) → x ≡ g k → Filled g (k + 1) l (putMid a (e - a) d x)
+    unfolding cat
+    filled-turn x hx =
+        let p : putMid a (e - a) d x ≡ (getD l 0 0 ∷ cat (k + 1) g) ++ drop (macOff (k + 1)) l =
+        over-next (getD l 0 0 ∷ cat k g) (g k) x l d a (e - a) (macOff (k + 1)) (f .here ∙ ap (λ o. (getD l 0 0 ∷ cat k g) ++ drop o l) (sym start)) (written k ∙ sym start) hx (omega arith)
+        ∙ rw (add-one k) refl in
+        record { here = p; same = over-length (getD l 0 0 ∷ cat (k + 1) g) l (putMid a (e - a) d x) (macOff (k + 1)) p (written (k + 1)) (omega arith) }
+
+  -- after the last turn, with the bit
+  pub filled-bit : (k v : ℕ) (d : List ℕ) → Filled g k l d → k ≡ n → set d 0 v ≡ v ∷ cat n g
+  filled-bit k v d f e =
+      ap (λ (s : List ℕ). set s 0 v) (f .here ∙ over-full (getD l 0 0 ∷ cat k g) l (macOff k) (omega arith))
+      ∙ ap (λ m. v ∷ cat m g) e

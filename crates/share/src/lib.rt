@@ -170,7 +170,6 @@ pub fn copy_record(out: &mut [u8], s: &[u8], at: usize, n: usize, i: usize)
     requires { ⌜ at + recordLen n ≤ length (now s) ⌝ }
     ensures { λ _. ⌜ now (out .exit) ≡ recordOf n i (shareAt (now (s .entry)) at) ⌝ }
 {
-    out[0] = block::bit_byte(bit_at(s, at));
     let mut k = 0;
     while k < n {
         let a = mac_off(k);
@@ -178,6 +177,7 @@ pub fn copy_record(out: &mut [u8], s: &[u8], at: usize, n: usize, i: usize)
         put_entry_of(&mut out[a..e], i, k, mac_at(s, at, k), key_at(s, at, k));
         k += 1;
     }
+    out[0] = block::bit_byte(bit_at(s, at));
 }
 
 // Adds d times the entry of party `of` in the record at `at` of s: d decides no branch.
@@ -207,7 +207,6 @@ pub fn add_record(out: &mut [u8], s: &[u8], at: usize, n: usize, i: usize, d: bo
     }
 {
     let bit = bit_at(out, 0) ^ (bit_at(s, at) & d);
-    out[0] = block::bit_byte(bit);
     let mut k = 0;
     while k < n {
         let a = mac_off(k);
@@ -215,4 +214,5 @@ pub fn add_record(out: &mut [u8], s: &[u8], at: usize, n: usize, i: usize, d: bo
         add_entry(&mut out[a..e], s, at, i, k, d);
         k += 1;
     }
+    out[0] = block::bit_byte(bit);
 }

@@ -21,53 +21,53 @@ bit-at-requires c κs = ?
 bit-at-requires-2 : tie.Need-bit-at-requires-2 Inv-loop μ-loop
 bit-at-requires-2 c κs = ?
 
--- src/lib.rt:210:14
-bit-byte-requires : tie.Need-bit-byte-requires Inv-loop μ-loop
-bit-byte-requires c κs = ?
-
--- src/lib.rt:210:5
-slice-write-out : tie.Need-slice-write-out Inv-loop μ-loop
-slice-write-out c = ?
-
--- src/lib.rt:212:5
+-- src/lib.rt:211:5
 loop-holds : tie.Need-loop-holds Inv-loop μ-loop
 loop-holds c = ?
 
--- src/lib.rt:213:13
+-- src/lib.rt:212:13
 mac-off-requires : tie.Need-mac-off-requires Inv-loop μ-loop
 mac-off-requires c κs = ?
 
--- src/lib.rt:214:17
+-- src/lib.rt:213:17
 add-e : tie.Need-add-e Inv-loop μ-loop
 add-e c = ?
 
--- src/lib.rt:215:19
+-- src/lib.rt:214:19
 sub-add-entry : tie.Need-sub-add-entry Inv-loop μ-loop
 sub-add-entry c = ?
 
--- src/lib.rt:215:19
+-- src/lib.rt:214:19
 part-add-entry-start : tie.Need-part-add-entry-start Inv-loop μ-loop
 part-add-entry-start c = ?
 
--- src/lib.rt:215:19
+-- src/lib.rt:214:19
 part-add-entry-end : tie.Need-part-add-entry-end Inv-loop μ-loop
 part-add-entry-end c = ?
 
--- src/lib.rt:215:9
+-- src/lib.rt:214:9
 add-entry-requires : tie.Need-add-entry-requires Inv-loop μ-loop
 add-entry-requires c κs = ?
 
--- src/lib.rt:216:9
+-- src/lib.rt:215:9
 add-k : tie.Need-add-k Inv-loop μ-loop
 add-k c = ?
 
--- src/lib.rt:212:5
+-- src/lib.rt:211:5
 loop-less : tie.Need-loop-less Inv-loop μ-loop
 loop-less c = ?
 
--- src/lib.rt:212:5
+-- src/lib.rt:211:5
 loop-again : tie.Need-loop-again Inv-loop μ-loop
 loop-again c = ?
+
+-- src/lib.rt:217:14
+bit-byte-requires : tie.Need-bit-byte-requires Inv-loop μ-loop
+bit-byte-requires c κs = ?
+
+-- src/lib.rt:217:5
+slice-write-out : tie.Need-slice-write-out Inv-loop μ-loop
+slice-write-out c = ?
 
 -- src/lib.rt:201:1
 same-length : tie.Need-same-length Inv-loop μ-loop
@@ -85,8 +85,6 @@ add-record-spec =
     μ-loop
     bit-at-requires
     bit-at-requires-2
-    bit-byte-requires
-    slice-write-out
     loop-holds
     mac-off-requires
     add-e
@@ -97,5 +95,7 @@ add-record-spec =
     add-k
     loop-less
     loop-again
+    bit-byte-requires
+    slice-write-out
     same-length
     returns)

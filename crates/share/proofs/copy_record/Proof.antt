@@ -15,65 +15,65 @@ Inv-loop out₀ s at n i k₀ out k = ?
 abbrev μ-loop : tie.MeasureT-loop
 μ-loop out₀ s at n i k₀ out k = ?
 
--- src/lib.rt:173:30
-bit-at-requires : tie.Need-bit-at-requires Inv-loop μ-loop
-bit-at-requires c κs = ?
-
--- src/lib.rt:173:14
-bit-byte-requires : tie.Need-bit-byte-requires Inv-loop μ-loop
-bit-byte-requires c κs = ?
-
--- src/lib.rt:173:5
-slice-write-out : tie.Need-slice-write-out Inv-loop μ-loop
-slice-write-out c = ?
-
--- src/lib.rt:175:5
+-- src/lib.rt:174:5
 loop-holds : tie.Need-loop-holds Inv-loop μ-loop
 loop-holds c = ?
 
--- src/lib.rt:176:13
+-- src/lib.rt:175:13
 mac-off-requires : tie.Need-mac-off-requires Inv-loop μ-loop
 mac-off-requires c κs = ?
 
--- src/lib.rt:177:17
+-- src/lib.rt:176:17
 add-e : tie.Need-add-e Inv-loop μ-loop
 add-e c = ?
 
--- src/lib.rt:178:22
+-- src/lib.rt:177:22
 sub-put-entry-of : tie.Need-sub-put-entry-of Inv-loop μ-loop
 sub-put-entry-of c = ?
 
--- src/lib.rt:178:22
+-- src/lib.rt:177:22
 part-put-entry-of-start : tie.Need-part-put-entry-of-start Inv-loop μ-loop
 part-put-entry-of-start c = ?
 
--- src/lib.rt:178:22
+-- src/lib.rt:177:22
 part-put-entry-of-end : tie.Need-part-put-entry-of-end Inv-loop μ-loop
 part-put-entry-of-end c = ?
 
--- src/lib.rt:178:44
+-- src/lib.rt:177:44
 mac-at-requires : tie.Need-mac-at-requires Inv-loop μ-loop
 mac-at-requires c κs = ?
 
--- src/lib.rt:178:62
+-- src/lib.rt:177:62
 key-at-requires : tie.Need-key-at-requires Inv-loop μ-loop
 key-at-requires c κs = ?
 
--- src/lib.rt:178:9
+-- src/lib.rt:177:9
 put-entry-of-requires : tie.Need-put-entry-of-requires Inv-loop μ-loop
 put-entry-of-requires c κs = ?
 
--- src/lib.rt:179:9
+-- src/lib.rt:178:9
 add-k : tie.Need-add-k Inv-loop μ-loop
 add-k c = ?
 
--- src/lib.rt:175:5
+-- src/lib.rt:174:5
 loop-less : tie.Need-loop-less Inv-loop μ-loop
 loop-less c = ?
 
--- src/lib.rt:175:5
+-- src/lib.rt:174:5
 loop-again : tie.Need-loop-again Inv-loop μ-loop
 loop-again c = ?
+
+-- src/lib.rt:180:30
+bit-at-requires : tie.Need-bit-at-requires Inv-loop μ-loop
+bit-at-requires c κs = ?
+
+-- src/lib.rt:180:14
+bit-byte-requires : tie.Need-bit-byte-requires Inv-loop μ-loop
+bit-byte-requires c κs = ?
+
+-- src/lib.rt:180:5
+slice-write-out : tie.Need-slice-write-out Inv-loop μ-loop
+slice-write-out c = ?
 
 -- src/lib.rt:168:1
 same-length : tie.Need-same-length Inv-loop μ-loop
@@ -89,9 +89,6 @@ copy-record-spec =
     (tie.spec
     Inv-loop
     μ-loop
-    bit-at-requires
-    bit-byte-requires
-    slice-write-out
     loop-holds
     mac-off-requires
     add-e
@@ -104,5 +101,8 @@ copy-record-spec =
     add-k
     loop-less
     loop-again
+    bit-at-requires
+    bit-byte-requires
+    slice-write-out
     same-length
     returns)
