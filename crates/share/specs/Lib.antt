@@ -1,3 +1,4 @@
 pub mod Record
 pub mod RecordLaws
 pub mod Share
+pub mod ShareLaws
