@@ -2,3 +2,4 @@ pub mod Record
 pub mod RecordLaws
 pub mod Share
 pub mod ShareLaws
+pub mod Parties
