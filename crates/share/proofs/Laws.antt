@@ -1,6 +1,6 @@
 -- What the code of this crate computes, over plain variables.
 use mathlib.Core.Path.{_≡_, refl, sym, ap, ap₂, _∙_}
-use mathlib.Core.Bool.{Bool, true, false}
+use mathlib.Core.Bool.{Bool, true, false, not, _&&_, Bool·beq}
 use mathlib.Core.List.{List, [], _∷_, _++_}
 use Prim.Native.Nat.{ℕ, zero, suc, _+_, _-_, _*_, _<_, _≤_}
 use native.Mathlib.Numerals.{add-one}
@@ -10,13 +10,15 @@ use lib.Seq.{drop-cons, drop-at}
 use borrow.Rule.Slice.PartMut.{putMid}
 use Rattle.lists.specs.Pick.{pick}
 use Rattle.lists.specs.Over.{cat, length-cat, over-next, over-length, over-full}
-use Rattle.algebra.specs.Group.{XorGroup, sel}
+use Rattle.algebra.specs.Group.{XorGroup, bits, addb, sel}
 use Rattle.algebra.specs.Sum.{neq}
-use Rattle.block.specs.Block.{bytesOf, le8, zeroOf}
+use Rattle.block.specs.Block.{blockAt, bytesOf, le8, zeroOf}
 use Rattle.block.specs.declared.Block.{Block}
 use Rattle.block.specs.Group.{blocks}
-use Rattle.share.specs.Record.{recordLen, macOff}
-use Rattle.share.specs.Share.{entryBytes}
+use Rattle.block.specs.Trip.{block-drop, block-take}
+use Rattle.share.specs.Record.{recordLen, macOff, keyOff, macAt, keyAt}
+use Rattle.share.specs.Share.{Share, shareAt, shares, entryBytes, entryOf}
+use Rattle.share.specs.ShareLaws.{bit-sel, mac-sel, key-sel}
 
 -- ---- an entry that is zero where it is the own one
 pub own-entry : (i k : ℕ) (m y : Block) → bytesOf (sel blocks (neq i k) m) ++ bytesOf (sel blocks (neq i k) y) ≡ entryBytes i k m y
@@ -62,3 +64,38 @@ module _ (g : ℕ → List ℕ) (long : (k : ℕ) → length (g k) ≡ 32) (n : 
   filled-bit k v d f e =
       ap (λ (s : List ℕ). set s 0 v) (f .here ∙ over-full (getD l 0 0 ∷ cat k g) l (macOff k) (omega arith))
       ∙ ap (λ m. v ∷ cat m g) e
+
+-- ---- the old entry, in the part of a record that was lent
+module _ (k : ℕ) (l part : List ℕ) (here : part ≡ take 32 (drop (macOff k) l)) where
+  old-block : (o : ℕ) → o + 16 ≤ 32 → blockAt part o ≡ blockAt l (macOff k + o)
+  old-block o h = ap (λ (s : List ℕ). blockAt s o) here ∙ block-take (drop (macOff k) l) 32 o h ∙ block-drop l (macOff k) o
+
+  old-mac : blockAt part 0 ≡ macAt l 0 k
+  unfolding macAt
+  old-mac = old-block 0 (omega arith) ∙ ap (blockAt l) (let e : macOff k + 0 ≡ 0 + macOff k = omega arith in e)
+
+  old-key : blockAt part 16 ≡ keyAt l 0 k
+  unfolding keyAt
+  old-key = old-block 16 (omega arith) ∙ ap (blockAt l) (let e : macOff k + 16 ≡ 0 + keyOff k = omega arith in e)
+
+  -- d times a share, added in that part
+  pub added : (i : ℕ) (d : Bool) (x : Share)
+      → entryBytes i k (blocks .op (blockAt part 0) (sel blocks d (x .mac k))) (blocks .op (blockAt part 16) (sel blocks d (x .key k)))
+      ≡ entryOf i (shares .op (shareAt l 0) (sel shares d x)) k
+  unfolding entryOf shares shareAt
+  added i d x = ap₂ (entryBytes i k) (ap₂ (blocks .op) old-mac (sym (mac-sel d x k))) (ap₂ (blocks .op) old-key (sym (key-sel d x k)))
+
+-- ---- the bit of the sum
+xor-and : (a b d : Bool) → not (Bool·beq a (b && d)) ≡ addb a (sel bits d b)
+xor-and false false false = refl
+xor-and false false true = refl
+xor-and false true false = refl
+xor-and false true true = refl
+xor-and true false false = refl
+xor-and true false true = refl
+xor-and true true false = refl
+xor-and true true true = refl
+
+pub added-bit : (x y : Share) (d : Bool) → not (Bool·beq (x .bit) (y .bit && d)) ≡ (shares .op x (sel shares d y)) .bit
+unfolding shares
+added-bit x y d = xor-and (x .bit) (y .bit) d ∙ ap (addb (x .bit)) (sym (bit-sel d y))

@@ -1,101 +1,69 @@
+use mathlib.Core.Path.{_≡_, refl, sym, ap, ap₂, _∙_}
+use mathlib.Core.Bool.{Bool, not, _&&_, Bool·beq}
+use mathlib.Core.List.{_∷_}
+use Prim.Native.Nat.{_+_, _-_, _≤_}
+use native.Mathlib.Omega.{arith}
+use lib.ListN.{length-set}
+use denote.Ref.{now}
+use borrow.Author.Needs.{needs}
+use Rattle.lists.specs.Over.{cat}
+use Rattle.algebra.specs.Group.{XorGroup, sel, num}
+use Rattle.share.specs.Share.{Share, shareAt, shares, entryOf, recordOf}
+use Rattle.share.specs.ShareLaws.{length-entryOf}
+use Rattle.share.proofs.Laws.{Filled, filled-none, filled-part, filled-turn, filled-bit, added, added-bit}
 use Rattle.share.proofs.add_record.Statement.{statement}
 use Rattle.share.proofs.add_record.Tie as tie
-use Rattle.share.proofs.add_record.Reads as reads
-use Rattle.share.proofs.add_record.Lts as lts
-use Rattle.block.proofs.bit_byte.Reads as bit-byte-reads
-use Rattle.share.proofs.add_entry.Reads as add-entry-reads
-use Rattle.share.proofs.bit_at.Reads as bit-at-reads
-use Rattle.share.proofs.mac_off.Reads as mac-off-reads
 
 abbrev Inv-loop : tie.InvT-loop
-Inv-loop out₀ s at n i d bit k₀ out k = ?
+Inv-loop out₀ s at n i d bit k₀ out k = (k ≤ n) × Filled (entryOf i (shares .op (shareAt out₀ 0) (sel shares d (shareAt s at)))) k out₀ out
 
 abbrev μ-loop : tie.MeasureT-loop
-μ-loop out₀ s at n i d bit k₀ out k = ?
+μ-loop out₀ s at n i d bit k₀ out k = n - k
 
--- src/lib.rt:209:15
-bit-at-requires : tie.Need-bit-at-requires Inv-loop μ-loop
-bit-at-requires c κs = ?
+-- the sum
+new : tie.Start Inv-loop μ-loop → Share
+new s = shares .op (shareAt (now (s .args .out)) 0) (sel shares (s .args .d) (shareAt (now (s .args .s)) (s .args .at)))
 
--- src/lib.rt:209:33
-bit-at-requires-2 : tie.Need-bit-at-requires-2 Inv-loop μ-loop
-bit-at-requires-2 c κs = ?
-
--- src/lib.rt:211:5
 loop-holds : tie.Need-loop-holds Inv-loop μ-loop
-loop-holds c = ?
+unfolding new
+loop-holds c =
+    let s = c .before .before .before .before .before in
+    (search needs, filled-none (entryOf (s .args .i) (new s)) (length-entryOf (s .args .n) (s .args .i) (new s)) (s .args .n) (now (s .args .out)) (s .pre .0 .1))
 
--- src/lib.rt:212:13
-mac-off-requires : tie.Need-mac-off-requires Inv-loop μ-loop
-mac-off-requires c κs = ?
-
--- src/lib.rt:213:17
-add-e : tie.Need-add-e Inv-loop μ-loop
-add-e c = ?
-
--- src/lib.rt:214:19
-sub-add-entry : tie.Need-sub-add-entry Inv-loop μ-loop
-sub-add-entry c = ?
-
--- src/lib.rt:214:19
-part-add-entry-start : tie.Need-part-add-entry-start Inv-loop μ-loop
-part-add-entry-start c = ?
-
--- src/lib.rt:214:19
-part-add-entry-end : tie.Need-part-add-entry-end Inv-loop μ-loop
-part-add-entry-end c = ?
-
--- src/lib.rt:214:9
-add-entry-requires : tie.Need-add-entry-requires Inv-loop μ-loop
-add-entry-requires c κs = ?
-
--- src/lib.rt:215:9
-add-k : tie.Need-add-k Inv-loop μ-loop
-add-k c = ?
-
--- src/lib.rt:211:5
-loop-less : tie.Need-loop-less Inv-loop μ-loop
-loop-less c = ?
-
--- src/lib.rt:211:5
 loop-again : tie.Need-loop-again Inv-loop μ-loop
-loop-again c = ?
+unfolding new shareAt
+loop-again c =
+    let p = c .before .before in
+    let o = p .before .before in
+    let l = o .before .before in
+    let s = l .before .before .before .before .before .before in
+    let x = shareAt (now (s .args .s)) (s .args .at) in
+    let part = filled-part (entryOf (s .args .i) (new s)) (length-entryOf (s .args .n) (s .args .i) (new s)) (s .args .n) (now (s .args .out)) (s .pre .0 .1)
+    (l .loop .k) (o .mac-off .result) (o .mac-off .result + 32) (l .loop .out) (l .loop .inv .1) (o .before .loop-test .taken) (o .mac-off .ensures) refl in (
+      omega (arith, o),
+      filled-turn (entryOf (s .args .i) (new s)) (length-entryOf (s .args .n) (s .args .i) (new s)) (s .args .n) (now (s .args .out)) (s .pre .0 .1)
+      (l .loop .k) (o .mac-off .result) (o .mac-off .result + 32) (l .loop .out) (l .loop .inv .1) (o .before .loop-test .taken) (o .mac-off .ensures) refl
+      (p .add-entry .last .0)
+      (p .add-entry .ensures ∙ added (l .loop .k) (now (s .args .out)) _ part (s .args .i) (s .args .d) x),
+    )
 
--- src/lib.rt:217:14
-bit-byte-requires : tie.Need-bit-byte-requires Inv-loop μ-loop
-bit-byte-requires c κs = ?
-
--- src/lib.rt:217:5
-slice-write-out : tie.Need-slice-write-out Inv-loop μ-loop
-slice-write-out c = ?
-
--- src/lib.rt:201:1
 same-length : tie.Need-same-length Inv-loop μ-loop
-same-length c = ?
+same-length c = simp length-set (c .before .before .loop .inv .1 .same)
 
--- src/lib.rt:201:1
 returns : tie.Need-returns Inv-loop μ-loop
-returns c = ?
+unfolding recordOf new shareAt
+returns c =
+    let l = c .before .before in
+    let s = l .before .before .before .before .before .before in
+    filled-bit (entryOf (s .args .i) (new s)) (length-entryOf (s .args .n) (s .args .i) (new s)) (s .args .n) (now (s .args .out)) (s .pre .0 .1)
+    (l .loop .k) (c .bit-byte .result) (l .loop .out) (l .loop .inv .1) (omega arith)
+    ∙ ap (λ b. b ∷ cat (s .args .n) (entryOf (s .args .i) (new s))) 
+    (c .bit-byte .ensures
+    ∙ ap num
+    (ap₂ (λ (a b : Bool). not (Bool·beq a (b && s .args .d))) (l .before .before .bit-at .ensures) (l .before .bit-at2 .ensures)
+    ∙ added-bit (shareAt (now (s .args .out)) 0) (shareAt (now (s .args .s)) (s .args .at)) (s .args .d)))
 
 pub add-record-spec : {M : Type 1} → statement M
 add-record-spec =
     tie.close
-    (tie.spec
-    Inv-loop
-    μ-loop
-    bit-at-requires
-    bit-at-requires-2
-    loop-holds
-    mac-off-requires
-    add-e
-    sub-add-entry
-    part-add-entry-start
-    part-add-entry-end
-    add-entry-requires
-    add-k
-    loop-less
-    loop-again
-    bit-byte-requires
-    slice-write-out
-    same-length
-    returns)
+    (tie.spec Inv-loop μ-loop (λ c κs. search needs) (λ c κs. search needs) loop-holds (λ c κs. search needs) (λ c. search needs) (λ c. search needs) (λ c. search needs) (λ c. search needs) (λ c κs. search needs) (λ c. search needs) (λ c. search needs) loop-again (λ c κs. search needs) (λ c. search needs) same-length returns)
