@@ -30,40 +30,49 @@ own-entry i k m y = go (neq i k)
     go true = refl
     go false = refl
 
--- ---- a record that is written entry by entry: d is l with its first k entries overwritten by g 0, .., g (k - 1)
-pub record Filled (g : ℕ → List ℕ) (k : ℕ) (l d : List ℕ) : Type 0 where
+-- ---- a record among n parties that is written entry by entry: d is l with its first k entries overwritten by g 0, .., g (k - 1)
+pub record Filled (g : ℕ → List ℕ) (n k : ℕ) (l d : List ℕ) : Type 0 where
   pub here : d ≡ (getD l 0 0 ∷ cat k g) ++ drop (macOff k) l
   pub same : length d ≡ length l
+  pub long : (j : ℕ) → length (g j) ≡ 32
+  pub whole : length l ≡ recordLen n
 
-module _ (g : ℕ → List ℕ) (long : (k : ℕ) → length (g k) ≡ 32) (n : ℕ) (l : List ℕ) (whole : length l ≡ recordLen n) where
-  written : (k : ℕ) → length (getD l 0 0 ∷ cat k g) ≡ macOff k
-  written k = ap suc (length-cat k 32 g (λ j h. long j)) ∙ (let e : suc (k * 32) ≡ macOff k = omega arith in e)
+written : (g : ℕ → List ℕ) → ((j : ℕ) → length (g j) ≡ 32) → (v k : ℕ) → length (v ∷ cat k g) ≡ macOff k
+written g long v k = ap suc (length-cat k 32 g (λ j h. long j)) ∙ (let e : suc (k * 32) ≡ macOff k = omega arith in e)
 
-  pub filled-none : Filled g 0 l l
-  unfolding cat
-  filled-none = record { here = drop-cons l 0 0 (omega arith); same = refl }
+pub filled-none : (g : ℕ → List ℕ) (n : ℕ) (l : List ℕ) → ((j : ℕ) → length (g j) ≡ 32) → length l ≡ recordLen n → Filled g n 0 l l
+unfolding cat
+filled-none g n l long whole = record { here = drop-cons l 0 0 (omega arith); same = refl; long = long; whole = whole }
 
-  module _ (k a e : ℕ) (d : List ℕ) (f : Filled g k l d) (h : k < n) (start : a ≡ macOff k) (end : e ≡ a + 32) where
-    -- entry k, as it is lent, is still the old one
+module _ {g : ℕ → List ℕ} {n k : ℕ} {l d : List ℕ} (f : Filled g n k l d) where
+  -- the part from a to e is entry k
+  module _ (a e : ℕ) (start : a ≡ macOff k) (end : e ≡ a + 32) where
+    -- as it is lent, it is still the old one
     pub filled-part : take (e - a) (drop a d) ≡ take 32 (drop (macOff k) l)
     filled-part =
         ap₂ (λ m o. take m (drop o d)) (let w : e - a ≡ 32 = omega arith in w) start
         ∙ ap (λ (s : List ℕ). take 32 (drop (macOff k) s)) (f .here)
-        ∙ ap (take 32) (drop-at (getD l 0 0 ∷ cat k g) (drop (macOff k) l) (macOff k) (written k))
+        ∙ ap (take 32) (drop-at (getD l 0 0 ∷ cat k g) (drop (macOff k) l) (macOff k) (written g (f .long) (getD l 0 0) k))
 
-    pub filled-turn : (x : List ℕ) → x ≡ g k → Filled g (k + 1) l (putMid a (e - a) d x)
+    pub filled-turn : (x : List ℕ) → k < n → x ≡ g k → Filled g n (k + 1) l (putMid a (e - a) d x)
     unfolding cat
-    filled-turn x hx =
+    filled-turn x h hx =
         let p : putMid a (e - a) d x ≡ (getD l 0 0 ∷ cat (k + 1) g) ++ drop (macOff (k + 1)) l =
-        over-next (getD l 0 0 ∷ cat k g) (g k) x l d a (e - a) (macOff (k + 1)) (f .here ∙ ap (λ o. (getD l 0 0 ∷ cat k g) ++ drop o l) (sym start)) (written k ∙ sym start) hx (omega arith)
+        over-next (getD l 0 0 ∷ cat k g) (g k) x l d a (e - a) (macOff (k + 1)) (f .here ∙ ap (λ o. (getD l 0 0 ∷ cat k g) ++ drop o l) (sym start))
+        (written g (f .long) (getD l 0 0) k ∙ sym start) hx (omega arith)
         ∙ rw (add-one k) refl in
-        record { here = p; same = over-length (getD l 0 0 ∷ cat (k + 1) g) l (putMid a (e - a) d x) (macOff (k + 1)) p (written (k + 1)) (omega arith) }
+        record {
+          here = p;
+          same = over-length (getD l 0 0 ∷ cat (k + 1) g) l (putMid a (e - a) d x) (macOff (k + 1)) p (written g (f .long) (getD l 0 0) (k + 1)) (omega (arith, f .whole));
+          long = f .long;
+          whole = f .whole;
+        }
 
   -- after the last turn, with the bit
-  pub filled-bit : (k v : ℕ) (d : List ℕ) → Filled g k l d → k ≡ n → set d 0 v ≡ v ∷ cat n g
-  filled-bit k v d f e =
-      ap (λ (s : List ℕ). set s 0 v) (f .here ∙ over-full (getD l 0 0 ∷ cat k g) l (macOff k) (omega arith))
-      ∙ ap (λ m. v ∷ cat m g) e
+  pub filled-bit : (v w : ℕ) → k ≡ n → v ≡ w → set d 0 v ≡ w ∷ cat n g
+  filled-bit v w e h =
+      ap (λ (s : List ℕ). set s 0 v) (f .here ∙ over-full (getD l 0 0 ∷ cat k g) l (macOff k) (omega (arith, f .whole)))
+      ∙ ap₂ (λ b m. b ∷ cat m g) h e
 
 -- ---- the old entry, in the part of a record that was lent
 module _ (k : ℕ) (l part : List ℕ) (here : part ≡ take 32 (drop (macOff k) l)) where

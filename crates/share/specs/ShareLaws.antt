@@ -145,15 +145,15 @@ pub zero-pair : bytesOf (blocks .nil) ++ bytesOf (blocks .nil) ≡ replicate 32 
 unfolding bytesOf le8 blocks zeroOf
 zero-pair = refl
 
-module _ (n i : ℕ) (x : Share) where
-  pub length-entryOf : (k : ℕ) → length (entryOf i x k) ≡ 32
-  unfolding entryOf
-  length-entryOf k = length-entry i k (x .mac k) (x .key k)
+pub length-entryOf : (i : ℕ) (x : Share) (k : ℕ) → length (entryOf i x k) ≡ 32
+unfolding entryOf
+length-entryOf i x k = length-entry i k (x .mac k) (x .key k)
 
+module _ (n i : ℕ) (x : Share) where
   pub length-recordOf : length (recordOf n i x) ≡ recordLen n
   unfolding recordOf
   length-recordOf =
-      ap suc (length-cat n 32 (entryOf i x) (λ k h. length-entryOf k)) ∙ (let e : suc (n * 32) ≡ recordLen n = omega arith in e)
+      ap suc (length-cat n 32 (entryOf i x) (λ k h. length-entryOf i x k)) ∙ (let e : suc (n * 32) ≡ recordLen n = omega arith in e)
 
   num-byte : (b : Bool) → num b < 256
   num-byte false = omega arith
@@ -200,7 +200,7 @@ module _ (n i : ℕ) (x : Share) where
   unfolding recordOf chunk
   entry-part k h =
       ap (λ a. take 32 (drop a (num (x .bit) ∷ cat n (entryOf i x)))) (let e : macOff k ≡ suc (k * 32) = omega arith in e)
-      ∙ chunk-cat 32 n (entryOf i x) (λ j l. length-entryOf n i x j) k h
+      ∙ chunk-cat 32 n (entryOf i x) (λ j l. length-entryOf i x j) k h
 
   part-block : (k o : ℕ) → k < n → o + 16 ≤ 32 → blockAt (recordOf n i x) (macOff k + o) ≡ blockAt (entryOf i x k) o
   part-block k o h w =

@@ -15,49 +15,37 @@ use Rattle.share.proofs.add_record.Statement.{statement}
 use Rattle.share.proofs.add_record.Tie as tie
 
 abbrev Inv-loop : tie.InvT-loop
-Inv-loop out₀ s at n i d bit k₀ out k = (k ≤ n) × Filled (entryOf i (shares .op (shareAt out₀ 0) (sel shares d (shareAt s at)))) k out₀ out
+Inv-loop out₀ s at n i d bit k₀ out k = (k ≤ n) × Filled (entryOf i (shares .op (shareAt out₀ 0) (sel shares d (shareAt s at)))) n k out₀ out
 
 abbrev μ-loop : tie.MeasureT-loop
 μ-loop out₀ s at n i d bit k₀ out k = n - k
 
--- the sum
-new : tie.Start Inv-loop μ-loop → Share
-new s = shares .op (shareAt (now (s .args .out)) 0) (sel shares (s .args .d) (shareAt (now (s .args .s)) (s .args .at)))
-
 loop-holds : tie.Need-loop-holds Inv-loop μ-loop
-unfolding new
 loop-holds c =
     let s = c .before .before .before .before .before in
-    (search needs, filled-none (entryOf (s .args .i) (new s)) (length-entryOf (s .args .n) (s .args .i) (new s)) (s .args .n) (now (s .args .out)) (s .pre .0 .1))
+    (search needs, filled-none _ (s .args .n) (now (s .args .out)) (length-entryOf (s .args .i) _) (s .pre .0 .1))
 
 loop-again : tie.Need-loop-again Inv-loop μ-loop
-unfolding new shareAt
+unfolding shareAt
 loop-again c =
     let p = c .before .before in
     let o = p .before .before in
     let l = o .before .before in
     let s = l .before .before .before .before .before .before in
-    let x = shareAt (now (s .args .s)) (s .args .at) in
-    let part = filled-part (entryOf (s .args .i) (new s)) (length-entryOf (s .args .n) (s .args .i) (new s)) (s .args .n) (now (s .args .out)) (s .pre .0 .1)
-    (l .loop .k) (o .mac-off .result) (o .mac-off .result + 32) (l .loop .out) (l .loop .inv .1) (o .before .loop-test .taken) (o .mac-off .ensures) refl in (
+    let a = o .mac-off .result in
+    let part = filled-part (l .loop .inv .1) a (a + 32) (o .mac-off .ensures) refl in
+    let x = shareAt (now (s .args .s)) (s .args .at) in (
       omega (arith, o),
-      filled-turn (entryOf (s .args .i) (new s)) (length-entryOf (s .args .n) (s .args .i) (new s)) (s .args .n) (now (s .args .out)) (s .pre .0 .1)
-      (l .loop .k) (o .mac-off .result) (o .mac-off .result + 32) (l .loop .out) (l .loop .inv .1) (o .before .loop-test .taken) (o .mac-off .ensures) refl
-      (p .add-entry .last .0)
+      filled-turn (l .loop .inv .1) a (a + 32) (o .mac-off .ensures) refl (p .add-entry .last .0) (o .before .loop-test .taken)
       (p .add-entry .ensures ∙ added (l .loop .k) (now (s .args .out)) _ part (s .args .i) (s .args .d) x),
     )
 
-same-length : tie.Need-same-length Inv-loop μ-loop
-same-length c = simp length-set (c .before .before .loop .inv .1 .same)
-
 returns : tie.Need-returns Inv-loop μ-loop
-unfolding recordOf new shareAt
+unfolding recordOf shareAt
 returns c =
     let l = c .before .before in
     let s = l .before .before .before .before .before .before in
-    filled-bit (entryOf (s .args .i) (new s)) (length-entryOf (s .args .n) (s .args .i) (new s)) (s .args .n) (now (s .args .out)) (s .pre .0 .1)
-    (l .loop .k) (c .bit-byte .result) (l .loop .out) (l .loop .inv .1) (omega arith)
-    ∙ ap (λ b. b ∷ cat (s .args .n) (entryOf (s .args .i) (new s))) 
+    filled-bit (l .loop .inv .1) (c .bit-byte .result) _ (omega arith)
     (c .bit-byte .ensures
     ∙ ap num
     (ap₂ (λ (a b : Bool). not (Bool·beq a (b && s .args .d))) (l .before .before .bit-at .ensures) (l .before .bit-at2 .ensures)
@@ -66,4 +54,4 @@ returns c =
 pub add-record-spec : {M : Type 1} → statement M
 add-record-spec =
     tie.close
-    (tie.spec Inv-loop μ-loop (λ c κs. search needs) (λ c κs. search needs) loop-holds (λ c κs. search needs) (λ c. search needs) (λ c. search needs) (λ c. search needs) (λ c. search needs) (λ c κs. search needs) (λ c. search needs) (λ c. search needs) loop-again (λ c κs. search needs) (λ c. search needs) same-length returns)
+    (tie.spec Inv-loop μ-loop (λ c κs. search needs) (λ c κs. search needs) loop-holds (λ c κs. search needs) (λ c. search needs) (λ c. search needs) (λ c. search needs) (λ c. search needs) (λ c κs. search needs) (λ c. search needs) (λ c. search needs) loop-again (λ c κs. search needs) (λ c. search needs) (λ c. simp length-set (c .before .before .loop .inv .1 .same)) returns)
