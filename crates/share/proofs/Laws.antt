@@ -1,8 +1,8 @@
 -- What the code of this crate computes, over plain variables.
 use mathlib.Core.Path.{_≡_, refl, sym, ap, ap₂, _∙_}
 use mathlib.Core.Bool.{Bool, true, false, not, _&&_, Bool·beq}
-use mathlib.Core.List.{List, [], _∷_, _++_}
-use Prim.Native.Nat.{ℕ, zero, suc, _+_, _-_, _*_, _<_, _≤_}
+use mathlib.Core.List.{List, _∷_, _++_}
+use Prim.Native.Nat.{ℕ, suc, _+_, _-_, _*_, _<_, _≤_}
 use native.Mathlib.Numerals.{add-one}
 use native.Mathlib.Omega.{arith}
 use lib.ListN.{length, getD, take, drop, set, replicate}
@@ -26,7 +26,6 @@ unfolding entryBytes bytesOf le8 blocks zeroOf
 own-entry i k m y = go (neq i k)
   where
     go : (b : Bool) → bytesOf (sel blocks b m) ++ bytesOf (sel blocks b y) ≡ pick b (bytesOf m ++ bytesOf y) (replicate 32 0)
-
     go true = refl
     go false = refl
 

@@ -1,7 +1,7 @@
 -- A share record (document 01, "The call"): 1 + 32n bytes, the bit, then for each party k 16 bytes MAC and 16 bytes key. This file alone says
 -- where things lie in a record; `at` is where the record starts in a list of bytes.
 use Prim.Native.Nat.{ℕ, zero, suc, _+_, _*_}
-use mathlib.Core.Bool.{Bool, true, false, _&&_}
+use mathlib.Core.Bool.{Bool, _&&_}
 use mathlib.Core.List.{List}
 use lib.ListN.{getD}
 use lib.Dec.{leb, eqb}

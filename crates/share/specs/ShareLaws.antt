@@ -1,23 +1,23 @@
 -- Laws about shares and the records that hold them.
-use mathlib.Core.Path.{_≡_, refl, sym, ap, ap₂, _∙_, subst}
+use mathlib.Core.Path.{_≡_, refl, sym, ap, ap₂, _∙_}
 use mathlib.Core.Bool.{Bool, true, false}
 use mathlib.Core.Logic.{_≢_}
 use mathlib.Core.List.{List, [], _∷_, _++_, append-nil}
 use Prim.Native.Nat.{ℕ, zero, suc, _+_, _*_, _<_, _≤_}
-use native.Mathlib.Nat.{le-refl, add-assoc}
+use native.Mathlib.Nat.{le-refl}
 use native.Mathlib.Omega.{arith}
-use lib.ListN.{length, getD, take, drop, replicate, length-append, length-drop}
-use lib.Seq.{take-at, drop-at, drop-drop, drop-cons, take-add, take-append-le}
+use lib.ListN.{length, getD, take, drop, replicate, length-append}
+use lib.Seq.{take-at, drop-at, drop-drop, drop-cons, take-add}
 use Rattle.lists.specs.Pick.{pick}
 use Rattle.lists.specs.Over.{cat, length-cat}
 use Rattle.lists.specs.Rows.{chunk, chunk-cat, cat-chunk, cat-ext}
 use Rattle.lists.specs.Bytes.{Bytes, bytes-cons, bytes-append, bytes-cat, bytes-replicate}
-use Rattle.algebra.specs.Group.{XorGroup, bits, addb, sel, num, odd, odd-num, num-odd}
+use Rattle.algebra.specs.Group.{XorGroup, bits, addb, sel, num, odd-num, num-odd}
 use Rattle.algebra.specs.Sum.{sum, neq, neq-self, neq-true, Same, same, apart, same?}
 use Rattle.block.specs.declared.Block.{Block}
 use Rattle.block.specs.Block.{blockAt, wordAt, bytesOf, le8, zeroOf}
 use Rattle.block.specs.Group.{blocks}
-use Rattle.block.specs.Trip.{Small, small-xor, small-sel, small-nil, length-bytesOf, bytes-bytesOf, block-bytesOf, block-at, block-drop, block-take, bytesOf-at}
+use Rattle.block.specs.Trip.{Small, small-xor, small-nil, length-bytesOf, bytes-bytesOf, block-bytesOf, block-at, block-drop, block-take, bytesOf-at}
 use Rattle.share.specs.Record.{recordLen, macOff, keyOff, bitAt, macAt, keyAt}
 use Rattle.share.specs.RecordLaws.{Valid, byte-part, bit-part, mac-part, key-part, small-mac, small-key}
 use Rattle.share.specs.Share.{Share, shareAt, shares, entryBytes, entryOf, recordOf}

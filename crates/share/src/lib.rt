@@ -2,13 +2,13 @@
 // From src/mpc/data_types.rs of polytune.
 ghost use mathlib.Core.Path.{_≡_};
 ghost use mathlib.Core.List.{_++_};
-ghost use Prim.Native.Nat.{ℕ, _+_, _*_, _<_, _≤_};
+ghost use Prim.Native.Nat.{_+_, _*_, _<_, _≤_};
 ghost use lib.ListN.{length};
 ghost use Rattle.algebra.specs.Group.{XorGroup, sel};
 ghost use Rattle.block.specs.Block.{blockAt, bytesOf};
 ghost use Rattle.block.specs.Group.{blocks};
 ghost use Rattle.share.specs.Record.{recordLen, macOff, keyOff, bitAt, macAt, keyAt, ownZero, recordFault, recordsFault};
-ghost use Rattle.share.specs.Share.{Share, shareAt, shares, entryBytes, recordOf};
+ghost use Rattle.share.specs.Share.{shareAt, shares, entryBytes, recordOf};
 use block::Block;
 
 // The global key of one party, which authenticates the others' bits to it.
@@ -184,11 +184,9 @@ pub fn copy_record(out: &mut [u8], s: &[u8], at: usize, n: usize, i: usize)
 fn add_entry(out: &mut [u8], s: &[u8], at: usize, i: usize, of: usize, d: bool)
     requires { ⌜ (length (now out) ≡ 32) × (of < 8) ⌝ }
     requires { ⌜ at + recordLen (of + 1) ≤ length (now s) ⌝ }
-    ensures {
-        λ _. ⌜ now (out .exit) ≡ entryBytes i of
-            (blocks .op (blockAt (now (out .entry)) 0) (sel blocks d (macAt (now (s .entry)) at of)))
-            (blocks .op (blockAt (now (out .entry)) 16) (sel blocks d (keyAt (now (s .entry)) at of))) ⌝
-    }
+    ensures { λ _. ⌜ now (out .exit) ≡ entryBytes i of
+        (blocks .op (blockAt (now (out .entry)) 0) (sel blocks d (macAt (now (s .entry)) at of)))
+        (blocks .op (blockAt (now (out .entry)) 16) (sel blocks d (keyAt (now (s .entry)) at of))) ⌝ }
 {
     let m = Mac(mac_at(s, at, of).0.const_mul(d));
     let k = Key(key_at(s, at, of).0.const_mul(d));
@@ -201,10 +199,8 @@ fn add_entry(out: &mut [u8], s: &[u8], at: usize, i: usize, of: usize, d: bool)
 pub fn add_record(out: &mut [u8], s: &[u8], at: usize, n: usize, i: usize, d: bool)
     requires { ⌜ (n ≤ 8) × (length (now out) ≡ recordLen n) ⌝ }
     requires { ⌜ at + recordLen n ≤ length (now s) ⌝ }
-    ensures {
-        λ _. ⌜ now (out .exit) ≡ recordOf n i
-            (shares .op (shareAt (now (out .entry)) 0) (sel shares d (shareAt (now (s .entry)) at))) ⌝
-    }
+    ensures { λ _. ⌜ now (out .exit) ≡ recordOf n i
+        (shares .op (shareAt (now (out .entry)) 0) (sel shares d (shareAt (now (s .entry)) at))) ⌝ }
 {
     let bit = bit_at(out, 0) ^ (bit_at(s, at) & d);
     let mut k = 0;

@@ -1,14 +1,12 @@
-use mathlib.Core.Path.{_≡_, refl, sym, ap, ap₂, _∙_}
+use mathlib.Core.Path.{refl, ap, ap₂, _∙_}
 use mathlib.Core.Bool.{Bool, not, _&&_, Bool·beq}
-use mathlib.Core.List.{_∷_}
 use Prim.Native.Nat.{_+_, _-_, _≤_}
 use native.Mathlib.Omega.{arith}
 use lib.ListN.{length-set}
 use denote.Ref.{now}
 use borrow.Author.Needs.{needs}
-use Rattle.lists.specs.Over.{cat}
 use Rattle.algebra.specs.Group.{XorGroup, sel, num}
-use Rattle.share.specs.Share.{Share, shareAt, shares, entryOf, recordOf}
+use Rattle.share.specs.Share.{shareAt, shares, entryOf, recordOf}
 use Rattle.share.specs.ShareLaws.{length-entryOf}
 use Rattle.share.proofs.Laws.{Filled, filled-none, filled-part, filled-turn, filled-bit, added, added-bit}
 use Rattle.share.proofs.add_record.Statement.{statement}
@@ -37,7 +35,7 @@ loop-again c =
     let x = shareAt (now (s .args .s)) (s .args .at) in (
       omega (arith, o),
       filled-turn (l .loop .inv .1) a (a + 32) (o .mac-off .ensures) refl (p .add-entry .last .0) (o .before .loop-test .taken)
-      (p .add-entry .ensures ∙ added (l .loop .k) (now (s .args .out)) _ part (s .args .i) (s .args .d) x),
+          (p .add-entry .ensures ∙ added (l .loop .k) (now (s .args .out)) _ part (s .args .i) (s .args .d) x),
     )
 
 returns : tie.Need-returns Inv-loop μ-loop

@@ -1,5 +1,3 @@
-use mathlib.Core.Path.{ap, ap₂, _∙_}
-use mathlib.Core.Bool.{_&&_}
 use borrow.Author.Needs.{needs}
 use Rattle.share.specs.Record.{ownZero}
 use Rattle.share.proofs.own_zero.Statement.{statement}
