@@ -1,5 +1,5 @@
 -- Laws about shares and the records that hold them.
-use mathlib.Core.Path.{_≡_, refl, sym, ap, ap₂, _∙_}
+use mathlib.Core.Path.{_≡_, refl, sym, ap, ap₂, _∙_, subst}
 use mathlib.Core.Bool.{Bool, true, false}
 use mathlib.Core.Logic.{_≢_}
 use mathlib.Core.List.{List, [], _∷_, _++_, append-nil}
@@ -18,8 +18,8 @@ use Rattle.block.specs.declared.Block.{Block}
 use Rattle.block.specs.Block.{blockAt, wordAt, bytesOf, le8, zeroOf}
 use Rattle.block.specs.Group.{blocks}
 use Rattle.block.specs.Trip.{Small, small-xor, small-nil, length-bytesOf, bytes-bytesOf, block-bytesOf, block-at, block-drop, block-take, bytesOf-at}
-use Rattle.share.specs.Record.{recordLen, macOff, keyOff, bitAt, macAt, keyAt}
-use Rattle.share.specs.RecordLaws.{Valid, byte-part, bit-part, mac-part, key-part, small-mac, small-key}
+use Rattle.share.specs.Record.{recordLen, macOff, keyOff, bitAt, macAt, keyAt, recordsFault}
+use Rattle.share.specs.RecordLaws.{Valid, valid-faults, byte-part, bit-part, mac-part, key-part, small-mac, small-key}
 use Rattle.share.specs.Share.{Share, shareAt, shares, entryBytes, entryOf, recordOf}
 
 -- ---- sums of shares, part by part
@@ -287,6 +287,19 @@ read-front n i x rest = read-here n i x (recordOf n i x ++ rest) 0 (record-behin
 pub read-row : (n i count : ℕ) (f : ℕ → Share) (t : ℕ) → t < count → SmallShare n (f t)
     → Agree n i (shareAt (cat count (λ j. recordOf n i (f j))) (t * recordLen n)) (f t)
 read-row n i count f t h = read-here n i (f t) (cat count (λ j. recordOf n i (f j))) (t * recordLen n) (record-row n i count f t h)
+
+-- a record that is all there is: what is added to it is added to x
+pub record-add : (n i : ℕ) (x y : Share) → SmallShare n x → recordOf n i (shares .op (shareAt (recordOf n i x) 0) y) ≡ recordOf n i (shares .op x y)
+record-add n i x y sm =
+    agree-record n i (shares .op (shareAt (recordOf n i x) 0) y) (shares .op x y)
+    (agree-op n i (shareAt (recordOf n i x) 0) y x y
+    (subst (λ (l : List ℕ). Agree n i (shareAt l 0) x) (append-nil (recordOf n i x)) (read-front n i x [] sm)) (agree-refl n i y))
+
+-- a list of records that was written passes the check
+pub rows-valid : (n i count : ℕ) (f : ℕ → Share) → i < n → recordsFault n i (cat count (λ j. recordOf n i (f j))) count ≡ 0
+rows-valid n i count f h =
+    valid-faults n i (cat count (λ j. recordOf n i (f j))) count
+    (λ t l. valid-here n i (f t) (cat count (λ j. recordOf n i (f j))) (t * recordLen n) (record-row n i count f t l) h)
 
 -- ---- read, then written: a record that passes the check is copied byte for byte
 module _ (n i : ℕ) (s : List ℕ) (at : ℕ) (h : Bytes s) (v : Valid i s at) (fits : at + recordLen n ≤ length s) where
