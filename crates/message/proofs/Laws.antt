@@ -2,11 +2,11 @@
 use mathlib.Core.Path.{_≡_, refl, sym, ap, ap₂, _∙_}
 use mathlib.Core.Bool.{Bool, true, false, _&&_}
 use mathlib.Core.List.{List}
-use Prim.Native.Nat.{ℕ, _+_, _-_, _*_, _/_, _<_, _≤_}
+use Prim.Native.Nat.{ℕ, _+_, _-_, _*_, _/_, _<_, _≤_, min}
 use native.Mathlib.Nat.{add-zero, le-div-iff-mul-le, div-lt-iff-lt-mul}
 use native.Mathlib.Omega.{arith}
 use lib.ListN.{length, getD, drop, length-drop}
-use lib.Seq.{getD-drop}
+use lib.Seq.{getD-drop, drop-drop}
 use lib.Dec.{ltb, leb, eqb}
 use borrow.Author.Tests.{lt-ltb, le-ltb, le-leb, lt-leb, leb-true, leb-false, eq-eqb, ne-eqb}
 use Rattle.lists.specs.Pick.{pick}
@@ -15,7 +15,7 @@ use Rattle.block.specs.Block.{wordAt}
 use Rattle.block.specs.Trip.{word-drop}
 use Rattle.message.specs.declared.Kind.the-variants.{Items, Dvalues, Options}
 use Rattle.message.specs.Format.{bools, vecLen, itemLen, innerDue}
-use Rattle.message.specs.FormatLaws.{and-true, first-false, bools-false, vec-some, vec-none, bucket-held}
+use Rattle.message.specs.FormatLaws.{and-true, first-false, bools-false, bools-past, Held, vec-some, vec-none, vec-held, vec-le, items-some, items-short, items-not, bucket-some, bucket-short, bucket-not, bucket-bare, bucket-held}
 
 -- ---- bools
 pub bools-none : (s : List ℕ) → bools 0 s ≡ true
@@ -111,3 +111,62 @@ module _ (s : List ℕ) (at due : ℕ) where
   bucket-head h =
       let w = bucket-held due (drop at s) h in
       omega (arith, w .ds .fits, w .macs .fits, length-drop at s, length-drop (8 + wordAt (drop at s) 0) (drop at s), word-here s at)
+
+-- ---- an item of a fixed size: bools are looked for as far as the message goes
+module _ (s : List ℕ) (at size count : ℕ) where
+  pub items-end : length s - at < size → 0 ≡ itemLen (Items size count) (drop at s)
+  items-end h = sym (items-short size count (drop at s) (omega (arith, length-drop at s)))
+
+  module _ (n : ℕ) (e : n ≡ min (length s - at) count) (b : Bool) (f : b ≡ bools n (drop at s)) where
+    bits-are : b ≡ bools count (drop at s)
+    bits-are = go (leb count (length s - at)) refl
+      where
+        go : (t : Bool) → leb count (length s - at) ≡ t → b ≡ bools count (drop at s)
+        go true q = f ∙ ap (λ k. bools k (drop at s)) (let p : n ≡ count = omega (arith, leb-true count (length s - at) q) in p)
+        go false q =
+            let l : length s - at < count = leb-false count (length s - at) q in
+            f ∙ ap (λ k. bools k (drop at s)) (let p : n ≡ length (drop at s) = omega (arith, length-drop at s) in p)
+            ∙ bools-past (drop at s) count (omega (arith, length-drop at s))
+
+    pub items-yes : size ≤ length s - at → b ≡ true → size ≡ itemLen (Items size count) (drop at s)
+    items-yes h q = sym (items-some size count (drop at s) (omega (arith, length-drop at s)) (sym bits-are ∙ q))
+
+    pub items-no : b ≡ false → 0 ≡ itemLen (Items size count) (drop at s)
+    items-no q = sym (items-not size count (drop at s) (sym bits-are ∙ q))
+
+-- ---- a bucket: a list of bools of a bytes, and a list of Blocks of v bytes
+module _ (s : List ℕ) (at due a : ℕ) (e : a ≡ vecLen 1 (drop at s)) where
+  pub bucket-end : a ≡ 0 → 0 ≡ itemLen (Dvalues due) (drop at s)
+  bucket-end z = sym (bucket-short due (drop at s) (sym e ∙ z))
+
+  module _ (n : a ≡ 0 → ⊥) where
+    held : Held 1 (drop at s)
+    held = vec-held 1 (drop at s) (omega arith)
+
+    count-is : a ≡ 8 + wordAt (drop at s) 0
+    count-is = omega (arith, held .is)
+
+    pub first-list : (8 ≤ a) × (at + a ≤ length s)
+    first-list = (omega (arith, count-is), omega (arith, held .is, held .fits, length-drop at s))
+
+    bits-of : bools (a - 8) (drop (at + 8) s) ≡ bools (wordAt (drop at s) 0) (drop 8 (drop at s))
+    bits-of = ap₂ bools (let p : a - 8 ≡ wordAt (drop at s) 0 = omega (arith, count-is) in p) (sym (drop-drop 8 at s))
+
+    macs-of : vecLen 16 (drop (at + a) s) ≡ vecLen 16 (drop (8 + wordAt (drop at s) 0) (drop at s))
+    macs-of = ap (vecLen 16) (sym (drop-drop a at s) ∙ ap (λ k. drop k (drop at s)) count-is)
+
+    module _ (b : Bool) (f : b ≡ bools (a - 8) (drop (at + 8) s)) where
+      pub bucket-no : b ≡ false → 0 ≡ itemLen (Dvalues due) (drop at s)
+      bucket-no q = sym (bucket-not due (drop at s) (sym bits-of ∙ sym f ∙ q))
+
+      module _ (v : ℕ) (g : v ≡ vecLen 16 (drop (at + a) s)) where
+        pub bucket-cut : v ≡ 0 → 0 ≡ itemLen (Dvalues due) (drop at s)
+        bucket-cut z = sym (bucket-bare due (drop at s) (sym macs-of ∙ sym g ∙ z))
+
+        pub bucket-yes : b ≡ true → (v ≡ 0 → ⊥) → a + v ≡ itemLen (Dvalues due) (drop at s)
+        bucket-yes q k =
+            ap₂ _+_ e (g ∙ macs-of)
+            ∙ sym (bucket-some due (drop at s) (omega (arith, e)) (sym bits-of ∙ sym f ∙ q) (omega (arith, g, macs-of)))
+
+        pub bucket-fits : a + v ≤ length s
+        bucket-fits = omega (arith, vec-le 16 (drop (at + a) s), length-drop (at + a) s, first-list)

@@ -1,62 +1,74 @@
+use Prim.Native.Nat.{_+_, _≤_}
+use native.Mathlib.Omega.{arith}
 use borrow.Author.Needs.{needs}
+use lib.ListN.{length}
+use denote.Ref.{now}
+use Rattle.message.proofs.Laws.{bucket-end, first-list, bucket-no, bucket-cut, bucket-yes, bucket-fits}
 use Rattle.message.proofs.dvalue_len.Statement.{statement}
 use Rattle.message.proofs.dvalue_len.Tie as tie
-use Rattle.message.proofs.dvalue_len.Reads as reads
-use Rattle.message.proofs.dvalue_len.Lts as lts
-use Rattle.message.proofs.bools.Reads as bools-reads
-use Rattle.message.proofs.vec_len.Reads as vec-len-reads
 
--- src/lib.rt:81:9
-vec-len-requires : tie.Need-vec-len-requires
-vec-len-requires c κs = search needs
-
--- src/lib.rt:83:9
 returns : tie.Need-returns
-returns c = ?
+returns c =
+    let a = c .before .before .before .args in
+    bucket-end (now (a .s)) (a .at) (a .due) (c .before .vec-len .result) (c .before .vec-len .ensures) (c .if1 .taken)
 
--- src/lib.rt:85:17
-add-bools : tie.Need-add-bools
-add-bools c = search needs
+-- the first list lies within
+within : (c : tie.Else1) → let a = c .before .before .before .args in
+    (8 ≤ c .before .vec-len .result) × (a .at + c .before .vec-len .result ≤ length (now (a .s)))
+within c =
+    let a = c .before .before .before .args in
+    first-list (now (a .s)) (a .at) (a .due) (c .before .vec-len .result) (c .before .vec-len .ensures) (c .if1 .left)
 
--- src/lib.rt:85:25
 sub-bools : tie.Need-sub-bools
-sub-bools c = ?
+sub-bools c = within c .0
 
--- src/lib.rt:85:8
 bools-requires : tie.Need-bools-requires
-bools-requires c κs = ?
+bools-requires c κs = omega (arith, within c)
 
--- src/lib.rt:86:31
 add-vec-len : tie.Need-add-vec-len
-add-vec-len c = ?
+add-vec-len c = omega (arith, within (c .before .before))
 
--- src/lib.rt:86:13
 vec-len-requires-2 : tie.Need-vec-len-requires-2
-vec-len-requires-2 c κs = ?
+vec-len-requires-2 c κs = omega (arith, within (c .before .before))
 
--- src/lib.rt:87:35
 add-result : tie.Need-add-result
-add-result c = ?
+add-result c =
+    let t = c .before .before .before .before in
+    let a = t .before .before .before .args in
+    omega (arith, bucket-fits (now (a .s)) (a .at) (a .due) (t .before .vec-len .result) (t .before .vec-len .ensures) (t .if1 .left)
+    (c .before .before .before .bools .result) (c .before .before .before .bools .ensures)
+    (c .before .vec-len2 .result) (c .before .vec-len2 .ensures))
 
--- src/lib.rt:77:1
 returns-2 : tie.Need-returns-2
-returns-2 c = ?
+returns-2 c =
+    let t = c .before .before .before .before in
+    let a = t .before .before .before .args in
+    bucket-cut (now (a .s)) (a .at) (a .due) (t .before .vec-len .result) (t .before .vec-len .ensures) (t .if1 .left)
+    (c .before .before .before .bools .result) (c .before .before .before .bools .ensures)
+    (c .before .vec-len2 .result) (c .before .vec-len2 .ensures) (c .if3 .taken)
 
--- src/lib.rt:77:1
 returns-3 : tie.Need-returns-3
-returns-3 c = ?
+returns-3 c =
+    let t = c .before .before .before .before in
+    let a = t .before .before .before .args in
+    bucket-yes (now (a .s)) (a .at) (a .due) (t .before .vec-len .result) (t .before .vec-len .ensures) (t .if1 .left)
+    (c .before .before .before .bools .result) (c .before .before .before .bools .ensures)
+    (c .before .vec-len2 .result) (c .before .vec-len2 .ensures) (c .before .before .if2 .taken) (c .if3 .left)
 
--- src/lib.rt:77:1
 returns-4 : tie.Need-returns-4
-returns-4 c = ?
+returns-4 c =
+    let t = c .before .before in
+    let a = t .before .before .before .args in
+    bucket-no (now (a .s)) (a .at) (a .due) (t .before .vec-len .result) (t .before .vec-len .ensures) (t .if1 .left)
+    (c .before .bools .result) (c .before .bools .ensures) (c .if2 .left)
 
 pub dvalue-len-spec : {M : Type 1} → statement M
 dvalue-len-spec =
     tie.close
     (tie.spec
-    vec-len-requires
+    (λ c κs. search needs)
     returns
-    add-bools
+    (λ c. search needs)
     sub-bools
     bools-requires
     add-vec-len

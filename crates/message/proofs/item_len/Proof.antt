@@ -1,73 +1,45 @@
+use mathlib.Core.Path.{_≡_, sym, ap, _∙_}
+use lib.ListN.{drop}
 use borrow.Author.Needs.{needs}
+use denote.Ref.{now}
+use Rattle.message.specs.declared.Kind.{Kind}
+use Rattle.message.specs.Format.{itemLen}
 use Rattle.message.proofs.item_len.Statement.{statement}
 use Rattle.message.proofs.item_len.Tie as tie
-use Rattle.message.proofs.item_len.Reads as reads
-use Rattle.message.proofs.item_len.Lts as lts
-use Rattle.message.proofs.dvalue_len.Reads as dvalue-len-reads
-use Rattle.message.proofs.items_len.Reads as items-len-reads
-use Rattle.message.proofs.option_len.Reads as option-len-reads
-use Rattle.message.proofs.vec_len.Reads as vec-len-reads
 
--- src/lib.rt:118:21
-enum-known-kind : tie.Need-enum-known-kind
-enum-known-kind c = search needs
-
--- src/lib.rt:118:37
-items-len-requires : tie.Need-items-len-requires
-items-len-requires c κs = search needs
-
--- src/lib.rt:119:22
-enum-told : tie.Need-enum-told
-enum-told c = search needs
-
--- src/lib.rt:119:22
-vec-len-requires : tie.Need-vec-len-requires
-vec-len-requires c κs = search needs
-
--- src/lib.rt:120:23
-enum-known-kind-2 : tie.Need-enum-known-kind-2
-enum-known-kind-2 c = search needs
-
--- src/lib.rt:120:31
-dvalue-len-requires : tie.Need-dvalue-len-requires
-dvalue-len-requires c κs = search needs
-
--- src/lib.rt:121:26
-enum-told-2 : tie.Need-enum-told-2
-enum-told-2 c = search needs
-
--- src/lib.rt:121:26
-option-len-requires : tie.Need-option-len-requires
-option-len-requires c κs = search needs
-
--- src/lib.rt:113:1
 returns : tie.Need-returns
-returns c = ?
+returns c =
+    let a = c .before .before .before .before .before .args in
+    c .items-len .ensures ∙ ap (λ (K : Kind). itemLen K (drop (a .at) (now (a .s)))) (sym (c .before .before .kind .given .1))
 
--- src/lib.rt:113:1
 returns-2 : tie.Need-returns-2
-returns-2 c = ?
+unfolding itemLen
+returns-2 c =
+    let a = c .before .before .before .before .args in
+    c .vec-len .ensures ∙ ap (λ (K : Kind). itemLen K (drop (a .at) (now (a .s)))) (sym (c .before .enum-told .given .1))
 
--- src/lib.rt:113:1
 returns-3 : tie.Need-returns-3
-returns-3 c = ?
+returns-3 c =
+    let a = c .before .before .before .before .before .args in
+    c .dvalue-len .ensures ∙ ap (λ (K : Kind). itemLen K (drop (a .at) (now (a .s)))) (sym (c .before .before .kind2 .given .1))
 
--- src/lib.rt:113:1
 returns-4 : tie.Need-returns-4
-returns-4 c = ?
+returns-4 c =
+    let a = c .before .before .before .before .args in
+    c .option-len .ensures ∙ ap (λ (K : Kind). itemLen K (drop (a .at) (now (a .s)))) (sym (c .before .enum-told2 .given .1))
 
 pub item-len-spec : {M : Type 1} → statement M
 item-len-spec =
     tie.close
     (tie.spec
-    enum-known-kind
-    items-len-requires
-    enum-told
-    vec-len-requires
-    enum-known-kind-2
-    dvalue-len-requires
-    enum-told-2
-    option-len-requires
+    (λ c. search needs)
+    (λ c κs. search needs)
+    (λ c. search needs)
+    (λ c κs. search needs)
+    (λ c. search needs)
+    (λ c κs. search needs)
+    (λ c. search needs)
+    (λ c κs. search needs)
     returns
     returns-2
     returns-3
