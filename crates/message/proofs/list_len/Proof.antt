@@ -1,55 +1,72 @@
+use mathlib.Core.Path.{_≡_, sym, _∙_}
+use Prim.Native.Nat.{_+_, _-_, _≤_}
+use native.Mathlib.Omega.{arith}
+use borrow.Author.Needs.{needs}
+use lib.ListN.{length}
+use denote.Ref.{now}
+use Rattle.message.specs.Format.{countOf}
+use Rattle.message.proofs.Walk.{Walked, walked-start, walked-short, walked-room, walked-turn, walked-stop, walked-end}
 use Rattle.message.proofs.list_len.Statement.{statement}
 use Rattle.message.proofs.list_len.Tie as tie
-use Rattle.message.proofs.list_len.Reads as reads
-use Rattle.message.proofs.list_len.Lts as lts
-use Rattle.block.proofs.load64.Reads as load64-reads
-use Rattle.message.proofs.item_len.Reads as item-len-reads
 
 abbrev Inv-loop : tie.InvT-loop
-Inv-loop kind m count t₀ pos₀ t pos = ?
+Inv-loop kind m count t₀ pos₀ t pos = (t ≤ count) × Walked kind m t pos
 
 abbrev μ-loop : tie.MeasureT-loop
-μ-loop kind m count t₀ pos₀ t pos = ?
+μ-loop kind m count t₀ pos₀ t pos = length m - pos
 
--- src/lib.rt:131:9
 returns : tie.Need-returns Inv-loop μ-loop
-returns c = ?
+returns c = let a = c .before .before .args in walked-short (a .kind) (now (a .m)) (c .if1 .taken)
 
--- src/lib.rt:133:9
 load64-requires : tie.Need-load64-requires Inv-loop μ-loop
-load64-requires c κs = ?
+load64-requires c κs = search needs
 
--- src/lib.rt:136:5
 loop-holds : tie.Need-loop-holds Inv-loop μ-loop
-loop-holds c = ?
+loop-holds c = let a = c .before .before .before .args in (search needs, walked-start (a .kind) (now (a .m)) (c .before .if1 .left))
 
--- src/lib.rt:137:13
 item-len-requires : tie.Need-item-len-requires Inv-loop μ-loop
-item-len-requires c κs = ?
+item-len-requires c κs = search needs
 
--- src/lib.rt:139:13
 returns-2 : tie.Need-returns-2 Inv-loop μ-loop
-returns-2 c = ?
+returns-2 c =
+    let l = c .before .before .before in
+    let s = l .before in
+    let a = s .before .before .before .args in
+    walked-stop (a .kind) (now (a .m)) (l .loop .t) (l .loop .pos) (c .before .item-len .result) (l .loop .inv .1) (c .before .item-len .ensures)
+    (omega (arith, s .load64 .ensures, c .before .before .loop-test .taken)) (c .if2 .taken)
 
--- src/lib.rt:141:9
+-- the item lies within
+room : (c : tie.Else2 Inv-loop μ-loop) → let l = c .before .before .before in
+    l .loop .pos + c .before .item-len .result ≤ length (now (l .before .before .before .before .args .m))
+room c =
+    let l = c .before .before .before in
+    let a = l .before .before .before .before .args in
+    walked-room (a .kind) (now (a .m)) (l .loop .t) (l .loop .pos) (c .before .item-len .result) (l .loop .inv .1) (c .before .item-len .ensures)
+
 add-pos : tie.Need-add-pos Inv-loop μ-loop
-add-pos c = ?
+add-pos c = omega (arith, room c)
 
--- src/lib.rt:142:9
 add-t : tie.Need-add-t Inv-loop μ-loop
-add-t c = ?
+add-t c = search needs
 
--- src/lib.rt:136:5
 loop-less : tie.Need-loop-less Inv-loop μ-loop
-loop-less c = ?
+loop-less c = omega (arith, room c)
 
--- src/lib.rt:136:5
 loop-again : tie.Need-loop-again Inv-loop μ-loop
-loop-again c = ?
+loop-again c =
+    let l = c .before .before .before in
+    let a = l .before .before .before .before .args in
+    (search needs,
+    walked-turn (a .kind) (now (a .m)) (l .loop .t) (l .loop .pos) (c .before .item-len .result) (l .loop .inv .1) (c .before .item-len .ensures)
+    (c .if2 .left))
 
--- src/lib.rt:127:1
 returns-3 : tie.Need-returns-3 Inv-loop μ-loop
-returns-3 c = ?
+returns-3 c =
+    let l = c .before in
+    let s = l .before in
+    let a = s .before .before .before .args in
+    let e : l .loop .t ≡ s .load64 .result = omega arith in
+    walked-end (a .kind) (now (a .m)) (l .loop .t) (l .loop .pos) (l .loop .inv .1) (s .before .if1 .left) (e ∙ s .load64 .ensures)
 
 pub list-len-spec : {M : Type 1} → statement M
 list-len-spec =
