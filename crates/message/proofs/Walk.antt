@@ -87,8 +87,10 @@ module _ (m : List ℕ) (due : ℕ) where
     bucket-is h q =
         let s = drop pos m in
         let p : (eqb (wordAt s 0) due && eqb (wordAt s (8 + wordAt s 0)) due) ≡ true = sym e ∙ q in
-        let d : wordAt s 0 ≡ due = eqb-true (wordAt s 0) due (and-first _ _ p) in
-        let v : wordAt s (8 + wordAt s 0) ≡ due = eqb-true (wordAt s (8 + wordAt s 0)) due (and-second _ _ p) in
+        let x = eqb (wordAt s 0) due in
+        let y = eqb (wordAt s (8 + wordAt s 0)) due in
+        let d : wordAt s 0 ≡ due = eqb-true (wordAt s 0) due (and-first x y p) in
+        let v : wordAt s (8 + wordAt s 0) ≡ due = eqb-true (wordAt s (8 + wordAt s 0)) due (and-second x y p) in
         let u : wordAt (drop (8 + wordAt s 0) s) 0 ≡ due =
             word-drop s (8 + wordAt s 0) 0 ∙ ap (wordAt s) (let r : 8 + wordAt s 0 + 0 ≡ 8 + wordAt s 0 = omega arith in r) ∙ v in
         omega (arith, bucket-bytes due s (bucket-held due s h), d, u)
