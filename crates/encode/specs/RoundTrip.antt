@@ -1,0 +1,111 @@
+-- Reading what was written gives back the value: one law over items of any kind and length.
+use mathlib.Core.Path.{_≡_, refl, sym, ap, ap₂, _∙_, subst}
+use mathlib.Core.Bool.{Bool, true, false}
+use mathlib.Core.List.{List, [], _∷_, _++_, append-assoc, append-nil}
+use Prim.Native.Nat.{ℕ, zero, suc, _+_, _-_, _*_, _^_, _<_, _≤_}
+use native.Mathlib.Omega.{arith}
+use lib.ListN.{length, getD, take, drop, length-append, length-drop, take-append-drop}
+use lib.Seq.{take-at, drop-at, drop-drop, take-append-le, drop-append-le, drop-append-add}
+use Rattle.lists.specs.All.{all-of}
+use Rattle.lists.specs.Over.{cat, length-cat}
+use Rattle.lists.specs.Rows.{cat-part, cat-inside}
+use Rattle.block.specs.Block.{wordAt, le8}
+use Rattle.block.specs.Trip.{length-le8}
+use Rattle.message.specs.declared.Kind.{Kind}
+use Rattle.message.specs.Format.{itemLen, itemAt, countOf, decodes, listLen, listOf, innerDue, innersDue, formOf}
+use Rattle.message.specs.FormatLaws.{Decoded, decodes-of, list-some, form-of}
+use Rattle.encode.specs.Encode.{encode}
+use Rattle.encode.specs.Coded.{Coded, count-encode}
+
+-- m begins with the list of the c items g, and is read so
+pub record Trip (K : Kind) (c : ℕ) (g : ℕ → List ℕ) (m : List ℕ) : Type 0 where
+  pub decodes-is : decodes K m ≡ true
+  pub count-is : countOf m ≡ c
+  pub at : (t : ℕ) → t ≤ c → itemAt K m t ≡ 8 + length (cat t g)
+  pub form-is : formOf K c m ≡ 0
+  pub list-is : listOf K m ≡ encode c g
+  pub item : (t : ℕ) → t < c → take (length (g t)) (drop (itemAt K m t) m) ≡ g t
+
+-- ---- item t stands behind those before it
+module _ (c : ℕ) (g : ℕ → List ℕ) (rest : List ℕ) where
+  abbrev pub behind : ℕ → List ℕ
+  behind t = drop (length (g t)) (drop (8 + length (cat t g)) (encode c g ++ rest))
+
+  pub item-front : (t : ℕ) → t < c → drop (8 + length (cat t g)) (encode c g ++ rest) ≡ g t ++ behind t
+  unfolding encode
+  item-front t l =
+      sym (take-append-drop (length (g t)) (drop (8 + length (cat t g)) (encode c g ++ rest))) ∙ ap (λ (x : List ℕ). x ++ behind t) front
+    where
+      past : drop (8 + length (cat t g)) ((le8 c ++ cat c g) ++ rest) ≡ drop (length (cat t g)) (cat c g ++ rest)
+      past =
+          ap₂ (λ n (x : List ℕ). drop (n + length (cat t g)) x) (sym (length-le8 c)) (append-assoc (le8 c) (cat c g) rest)
+          ∙ drop-append-add (le8 c) (cat c g ++ rest) (length (cat t g))
+
+      front : take (length (g t)) (drop (8 + length (cat t g)) ((le8 c ++ cat c g) ++ rest)) ≡ g t
+      front =
+          let w = cat-inside c g t l in
+          ap (take (length (g t))) (past ∙ drop-append-le (length (cat t g)) (cat c g) rest (omega arith))
+          ∙ take-append-le (length (g t)) (drop (length (cat t g)) (cat c g)) rest (rw length-drop (omega arith))
+          ∙ cat-part c g t l
+
+  pub whole-length : length (encode c g) ≡ 8 + length (cat c g)
+  unfolding encode
+  whole-length = length-append (le8 c) (cat c g) ∙ ap (λ n. n + length (cat c g)) (length-le8 c)
+
+module _ (K : Kind) (c : ℕ) (g : ℕ → List ℕ) (small : c < 2 ^ 64) (coded : (t : ℕ) → t < c → Coded K (g t)) (rest : List ℕ) where
+  abbrev m : List ℕ
+  m = encode c g ++ rest
+
+  starts : (t : ℕ) → t ≤ c → itemAt K m t ≡ 8 + length (cat t g)
+  unfolding itemAt cat
+  starts zero h = refl
+  starts (suc t) h =
+      let e = starts t (omega arith) in
+      let n : itemLen K (drop (itemAt K m t) m) ≡ length (g t) =
+          ap (λ a. itemLen K (drop a m)) e ∙ ap (itemLen K) (item-front c g rest t h) ∙ coded t h .len (behind c g rest t) in
+      omega (arith, e, n, length-append (cat t g) (g t))
+
+  here : (t : ℕ) → t < c → drop (itemAt K m t) m ≡ g t ++ behind c g rest t
+  here t l = ap (λ a. drop a m) (starts t (omega arith)) ∙ item-front c g rest t l
+
+  counted : countOf m ≡ c
+  counted = count-encode c g rest small
+
+  read : decodes K m ≡ true
+  read =
+      decodes-of K m (record {
+        head = omega (arith, length-append (encode c g) rest, whole-length c g rest);
+        item = λ t l. let l′ : t < c = omega (arith, counted) in rw (here t l′, coded t l′ .len) (coded t l′ .some);
+      })
+
+  inner : innersDue K c m ≡ true
+  unfolding innersDue
+  inner = all-of c (λ t. innerDue K (drop (itemAt K m t) m)) (λ t l. ap (innerDue K) (here t l) ∙ coded t l .due (behind c g rest t))
+
+  listed : listOf K m ≡ encode c g
+  unfolding listOf
+  listed =
+      take-at (encode c g) rest (listLen K m)
+      (whole-length c g rest ∙ sym (starts c (omega arith)) ∙ sym (list-some K m read ∙ ap (itemAt K m) counted))
+
+  pub trip : Trip K c g m
+  trip = record {
+    decodes-is = read;
+    count-is = counted;
+    at = starts;
+    form-is = form-of K c m (record { decodes-is = read; count-is = counted; inner-is = inner });
+    list-is = listed;
+    item = λ t l. ap (take (length (g t))) (here t l) ∙ take-at (g t) (behind c g rest t) (length (g t)) refl;
+  }
+
+-- nothing follows
+pub trip-whole : (K : Kind) (c : ℕ) (g : ℕ → List ℕ) → c < 2 ^ 64 → ((t : ℕ) → t < c → Coded K (g t)) → Trip K c g (encode c g)
+trip-whole K c g small coded = subst (Trip K c g) (append-nil (encode c g)) (trip K c g small coded [])
+
+-- ---- items of one length
+module _ (K : Kind) (size c : ℕ) (g : ℕ → List ℕ) (long : (t : ℕ) → t < c → length (g t) ≡ size) (m : List ℕ) (w : Trip K c g m) where
+  pub even-at : (t : ℕ) → t ≤ c → itemAt K m t ≡ 8 + t * size
+  even-at t l = w .at t l ∙ ap (λ n. 8 + n) (length-cat t size g (λ j k. long j (omega arith)))
+
+  pub even-item : (t : ℕ) → t < c → take size (drop (8 + t * size) m) ≡ g t
+  even-item t l = ap₂ (λ n a. take n (drop a m)) (sym (long t l)) (sym (even-at t (omega arith))) ∙ w .item t l

@@ -1,0 +1,403 @@
+-- Laws about the format: what a length that isn't 0 says of the bytes, where items begin, what a list of the right form holds.
+use mathlib.Core.Path.{_≡_, refl, sym, ap, ap₂, _∙_, subst}
+use mathlib.Core.Bool.{Bool, true, false, _&&_}
+use mathlib.Core.List.{List}
+use Prim.Native.Nat.{ℕ, zero, suc, _+_, _-_, _*_, _<_, _≤_}
+use native.Mathlib.Nat.{zero-mul, suc-mul, add-zero}
+use native.Mathlib.Numerals.{add-one}
+use native.Mathlib.Omega.{arith}
+use lib.ListN.{length, getD, take, drop, length-drop, List·getD-eq-default}
+use lib.Seq.{getD-drop}
+use lib.Dec.{ltb, leb, eqb}
+use borrow.Author.Tests.{lt-ltb, le-ltb, le-leb, lt-leb, eq-eqb, ne-eqb, ltb-true, ltb-false, leb-true, leb-false, eqb-true, eqb-false}
+use Rattle.lists.specs.Pick.{pick, pick-else, pick-then}
+use Rattle.lists.specs.All.{allOf, all-of, of-all, all-false, true-false}
+use Rattle.block.specs.Block.{wordAt}
+use Rattle.message.specs.declared.Kind.{Kind}
+use Rattle.message.specs.declared.Kind.the-variants.{Items, Dms, Dvalues, Options}
+use Rattle.message.specs.Format.{bools, vecLen, bothLen, itemLen, itemAt, countOf, decodes, listLen, listOf, innerDue, innersDue, formOf}
+
+-- ---- two tests at once
+pub and-true : (a b : Bool) → a ≡ true → b ≡ true → (a && b) ≡ true
+and-true a b p q = ap₂ _&&_ p q
+
+pub and-first : (a b : Bool) → (a && b) ≡ true → a ≡ true
+and-first true b h = refl
+and-first false b h = h
+
+pub and-second : (a b : Bool) → (a && b) ≡ true → b ≡ true
+and-second true b h = h
+and-second false b h = absurd (true-false (sym h))
+
+pub first-false : (a b : Bool) → a ≡ false → (a && b) ≡ false
+first-false a b p = ap (λ (x : Bool). x && b) p
+
+pub second-false : (a b : Bool) → b ≡ false → (a && b) ≡ false
+second-false true b q = q
+second-false false b q = refl
+
+-- a number that isn't 0 was picked by a test that held
+not-zero : (n : ℕ) → 0 < n → 0 ≡ n → ⊥
+not-zero n h e = omega arith
+
+picked : (b : Bool) (n : ℕ) → 0 < pick b n 0 → (b ≡ true) × (pick b n 0 ≡ n)
+picked true n h = (refl, refl)
+picked false n h = absurd (omega arith)
+
+-- ---- bools
+module _ (s : List ℕ) where
+  pub bools-of : (c : ℕ) → ((k : ℕ) → k < c → getD s k 0 ≤ 1) → bools c s ≡ true
+  unfolding bools
+  bools-of c h = all-of c (λ k. leb (getD s k 0) 1) (λ k l. le-leb (getD s k 0) 1 (h k l))
+
+  pub of-bools : (c : ℕ) → bools c s ≡ true → (k : ℕ) → k < c → getD s k 0 ≤ 1
+  unfolding bools
+  of-bools c h k l = leb-true (getD s k 0) 1 (of-all c (λ k. leb (getD s k 0) 1) h k l)
+
+  pub bools-false : (c k : ℕ) → k < c → 1 < getD s k 0 → bools c s ≡ false
+  unfolding bools
+  bools-false c k l h = all-false c (λ k. leb (getD s k 0) 1) k l (lt-leb (getD s k 0) 1 h)
+
+  -- past the end there is nothing to look at
+  pub bools-past : (c : ℕ) → length s ≤ c → bools (length s) s ≡ bools c s
+  bools-past c h = go (bools (length s) s) refl (bools c s) refl
+    where
+      all : bools (length s) s ≡ true → (k : ℕ) → (b : Bool) → ltb k (length s) ≡ b → getD s k 0 ≤ 1
+      all e k true q = of-bools (length s) e k (ltb-true k (length s) q)
+      all e k false q = let z : getD s k 0 ≡ 0 = List·getD-eq-default s 0 (ltb-false k (length s) q) in omega arith
+
+      go : (a : Bool) → bools (length s) s ≡ a → (b : Bool) → bools c s ≡ b → a ≡ b
+      go true e true f = refl
+      go true e false f = sym (bools-of c (λ k l. all e k (ltb k (length s)) refl)) ∙ f
+      go false e true f = sym e ∙ bools-of (length s) (λ k l. of-bools c f k (omega arith))
+      go false e false f = refl
+
+-- ---- a list of items of a fixed size
+pub record Held (size : ℕ) (s : List ℕ) : Type 0 where
+  pub is : vecLen size s ≡ 8 + wordAt s 0 * size
+  pub fits : 8 + wordAt s 0 * size ≤ length s
+
+module _ (size : ℕ) (s : List ℕ) where
+  pub vec-some : 8 + wordAt s 0 * size ≤ length s → vecLen size s ≡ 8 + wordAt s 0 * size
+  unfolding vecLen
+  vec-some h =
+      ap (λ (b : Bool). pick b (8 + wordAt s 0 * size) 0)
+      (and-true _ _ (le-leb 8 (length s) (omega arith)) (le-leb (wordAt s 0 * size) (length s - 8) (omega arith)))
+
+  pub vec-none : length s < 8 + wordAt s 0 * size → vecLen size s ≡ 0
+  unfolding vecLen
+  vec-none h = ap (λ (b : Bool). pick b (8 + wordAt s 0 * size) 0) (go (leb 8 (length s)) refl)
+    where
+      go : (b : Bool) → leb 8 (length s) ≡ b → (b && leb (wordAt s 0 * size) (length s - 8)) ≡ false
+      go true e = lt-leb (wordAt s 0 * size) (length s - 8) (omega (arith, leb-true 8 (length s) e))
+      go false e = refl
+
+  pub vec-held : 0 < vecLen size s → Held size s
+  vec-held h = go (leb (8 + wordAt s 0 * size) (length s)) refl
+    where
+      go : (b : Bool) → leb (8 + wordAt s 0 * size) (length s) ≡ b → Held size s
+      go true e = let l = leb-true (8 + wordAt s 0 * size) (length s) e in record { is = vec-some l; fits = l }
+      go false e = absurd (omega (arith, vec-none (leb-false (8 + wordAt s 0 * size) (length s) e)))
+
+  pub vec-le : vecLen size s ≤ length s
+  vec-le = go (ltb 0 (vecLen size s)) refl
+    where
+      go : (b : Bool) → ltb 0 (vecLen size s) ≡ b → vecLen size s ≤ length s
+      go true e = let w = vec-held (ltb-true 0 (vecLen size s) e) in omega (arith, w .is, w .fits)
+      go false e = omega (arith, ltb-false 0 (vecLen size s) e)
+
+-- ---- one item, kind by kind
+-- a fixed number of bytes
+pub record Plain (size c : ℕ) (s : List ℕ) : Type 0 where
+  pub is : itemLen (Items size c) s ≡ size
+  pub fits : size ≤ length s
+  pub bits : bools c s ≡ true
+
+module _ (size c : ℕ) (s : List ℕ) where
+  pub items-some : size ≤ length s → bools c s ≡ true → itemLen (Items size c) s ≡ size
+  unfolding itemLen
+  items-some h e = ap (λ (b : Bool). pick b size 0) (and-true (leb size (length s)) (bools c s) (le-leb size (length s) h) e)
+
+  pub items-short : length s < size → itemLen (Items size c) s ≡ 0
+  unfolding itemLen
+  items-short h = ap (λ (b : Bool). pick b size 0) (first-false (leb size (length s)) (bools c s) (lt-leb size (length s) h))
+
+  pub items-not : bools c s ≡ false → itemLen (Items size c) s ≡ 0
+  unfolding itemLen
+  items-not e = ap (λ (b : Bool). pick b size 0) (second-false (leb size (length s)) (bools c s) e)
+
+  pub items-held : 0 < itemLen (Items size c) s → Plain size c s
+  unfolding itemLen
+  items-held h =
+      let p = picked (leb size (length s) && bools c s) size h in
+      record {
+        is = p .1;
+        fits = leb-true size (length s) (and-first (leb size (length s)) (bools c s) (p .0));
+        bits = and-second (leb size (length s)) (bools c s) (p .0);
+      }
+
+-- a bucket's d values and their MACs
+pub record Bucket (due : ℕ) (s : List ℕ) : Type 0 where
+  pub ds : Held 1 s
+  pub bits : bools (wordAt s 0) (drop 8 s) ≡ true
+  pub macs : Held 16 (drop (8 + wordAt s 0) s)
+  pub is : itemLen (Dvalues due) s ≡ vecLen 1 s + vecLen 16 (drop (8 + wordAt s 0) s)
+
+both-some : (a b : ℕ) → 0 < a → 0 < b → bothLen a b ≡ a + b
+both-some a b h k = rw (ne-eqb a 0 (λ e. omega arith), ne-eqb b 0 (λ e. omega arith))
+
+both-none : (a b : ℕ) → b ≡ 0 → bothLen a b ≡ 0
+both-none a b e = go (eqb a 0)
+  where
+    go : (t : Bool) → pick t 0 (pick (eqb b 0) 0 (a + b)) ≡ 0
+    go true = refl
+    go false = rw (eq-eqb b 0 e)
+
+both-held : (a b : ℕ) → 0 < bothLen a b → (0 < a) × (0 < b)
+both-held a b h = go (eqb a 0) refl (eqb b 0) refl h
+  where
+    go : (t : Bool) → eqb a 0 ≡ t → (u : Bool) → eqb b 0 ≡ u → 0 < pick t 0 (pick u 0 (a + b)) → (0 < a) × (0 < b)
+    go true e u f h = absurd (omega arith)
+    go false e true f h = absurd (omega arith)
+    go false e false f h = let n = eqb-false a 0 e in let k = eqb-false b 0 f in (omega arith, omega arith)
+
+module _ (due : ℕ) (s : List ℕ) where
+  pub bucket-some : 0 < vecLen 1 s → bools (wordAt s 0) (drop 8 s) ≡ true → 0 < vecLen 16 (drop (8 + wordAt s 0) s)
+      → itemLen (Dvalues due) s ≡ vecLen 1 s + vecLen 16 (drop (8 + wordAt s 0) s)
+  unfolding itemLen
+  bucket-some h e k =
+      ap (λ (b : Bool). bothLen (pick b (vecLen 1 s) 0) (vecLen 16 (drop (8 + wordAt s 0) s))) e
+      ∙ both-some (vecLen 1 s) (vecLen 16 (drop (8 + wordAt s 0) s)) h k
+
+  pub bucket-short : vecLen 1 s ≡ 0 → itemLen (Dvalues due) s ≡ 0
+  unfolding itemLen
+  bucket-short e = go (bools (wordAt s 0) (drop 8 s))
+    where
+      go : (b : Bool) → bothLen (pick b (vecLen 1 s) 0) (vecLen 16 (drop (8 + wordAt s 0) s)) ≡ 0
+      go true = rw (eq-eqb (vecLen 1 s) 0 e)
+      go false = refl
+
+  pub bucket-not : bools (wordAt s 0) (drop 8 s) ≡ false → itemLen (Dvalues due) s ≡ 0
+  unfolding itemLen
+  bucket-not e = ap (λ (b : Bool). bothLen (pick b (vecLen 1 s) 0) (vecLen 16 (drop (8 + wordAt s 0) s))) e
+
+  pub bucket-bare : vecLen 16 (drop (8 + wordAt s 0) s) ≡ 0 → itemLen (Dvalues due) s ≡ 0
+  unfolding itemLen
+  bucket-bare e = both-none (pick (bools (wordAt s 0) (drop 8 s)) (vecLen 1 s) 0) (vecLen 16 (drop (8 + wordAt s 0) s)) e
+
+  pub bucket-held : 0 < itemLen (Dvalues due) s → Bucket due s
+  unfolding itemLen
+  bucket-held h =
+      let b = both-held (pick (bools (wordAt s 0) (drop 8 s)) (vecLen 1 s) 0) (vecLen 16 (drop (8 + wordAt s 0) s)) h in
+      let p = picked (bools (wordAt s 0) (drop 8 s)) (vecLen 1 s) (b .0) in
+      let l : 0 < vecLen 1 s = omega (arith, b .0, p .1) in
+      record { ds = vec-held 1 s l; bits = p .0; macs = vec-held 16 (drop (8 + wordAt s 0) s) (b .1); is = bucket-some l (p .0) (b .1) }
+
+  -- the bytes of a bucket
+  pub bucket-bytes : (w : Bucket due s) → itemLen (Dvalues due) s ≡ 16 + wordAt s 0 + wordAt (drop (8 + wordAt s 0) s) 0 * 16
+  bucket-bytes w = w .is ∙ omega (arith, w .ds .is, w .macs .is)
+
+  pub bucket-le : (w : Bucket due s) → itemLen (Dvalues due) s ≤ length s
+  bucket-le w = omega (arith, bucket-bytes w, w .ds .fits, w .macs .fits, length-drop (8 + wordAt s 0) s)
+
+option-le : (s : List ℕ) → itemLen Options s ≤ length s
+unfolding itemLen
+option-le s = go (ltb 0 (length s)) refl (eqb (getD s 0 0) 0) (eqb (getD s 0 0) 1) (leb 17 (length s)) refl
+  where
+    go : (b : Bool) → ltb 0 (length s) ≡ b → (z u r : Bool) → leb 17 (length s) ≡ r → pick b (pick z 1 (pick (u && r) 17 0)) 0 ≤ length s
+    go true e true u r f = ltb-true 0 (length s) e
+    go true e false true true f = leb-true 17 (length s) f
+    go true e false true false f = omega arith
+    go true e false false r f = omega arith
+    go false e z u r f = omega arith
+
+-- an item lies within what is left
+pub item-le : (K : Kind) (s : List ℕ) → itemLen K s ≤ length s
+unfolding itemLen
+item-le (Items size c) s = go (ltb 0 (itemLen (Items size c) s)) refl
+  where
+    go : (b : Bool) → ltb 0 (itemLen (Items size c) s) ≡ b → itemLen (Items size c) s ≤ length s
+    go true e = let w = items-held size c s (ltb-true 0 (itemLen (Items size c) s) e) in omega (arith, w .is, w .fits)
+    go false e = omega (arith, ltb-false 0 (itemLen (Items size c) s) e)
+item-le Dms s = vec-le 1 s
+item-le (Dvalues due) s = go (ltb 0 (itemLen (Dvalues due) s)) refl
+  where
+    go : (b : Bool) → ltb 0 (itemLen (Dvalues due) s) ≡ b → itemLen (Dvalues due) s ≤ length s
+    go true e = bucket-le due s (bucket-held due s (ltb-true 0 (itemLen (Dvalues due) s) e))
+    go false e = omega (arith, ltb-false 0 (itemLen (Dvalues due) s) e)
+item-le Options s = option-le s
+
+-- ---- where items begin, and what a message that decodes holds
+pub record Decoded (K : Kind) (m : List ℕ) : Type 0 where
+  pub head : 8 ≤ length m
+  pub item : (t : ℕ) → t < countOf m → 0 < itemLen K (drop (itemAt K m t) m)
+
+module _ (K : Kind) (m : List ℕ) where
+  pub at-zero : itemAt K m 0 ≡ 8
+  unfolding itemAt
+  at-zero = refl
+
+  pub at-next : (t : ℕ) → itemAt K m (t + 1) ≡ itemAt K m t + itemLen K (drop (itemAt K m t) m)
+  unfolding itemAt
+  at-next t = rw (add-one t)
+
+  pub at-le : 8 ≤ length m → (t : ℕ) → itemAt K m t ≤ length m
+  unfolding itemAt
+  at-le h zero = h
+  at-le h (suc t) =
+      let l = at-le h t in
+      omega (arith, l, item-le K (drop (itemAt K m t) m), length-drop (itemAt K m t) m)
+
+  -- every item takes at least a byte
+  pub at-ge : (t : ℕ) → ((j : ℕ) → j < t → 0 < itemLen K (drop (itemAt K m j) m)) → 8 + t ≤ itemAt K m t
+  unfolding itemAt
+  at-ge zero h = omega arith
+  at-ge (suc t) h = let l = at-ge t (λ j k. h j (omega arith)) in omega (arith, l, h t (omega arith))
+
+  pub decoded : decodes K m ≡ true → Decoded K m
+  unfolding decodes
+  decoded h = record {
+    head = leb-true 8 (length m) (and-first (leb 8 (length m)) _ h);
+    item = λ t l. ltb-true 0 _ (of-all (countOf m) _ (and-second (leb 8 (length m)) _ h) t l);
+  }
+
+  pub decodes-of : Decoded K m → decodes K m ≡ true
+  unfolding decodes
+  decodes-of w =
+      and-true (leb 8 (length m)) _ (le-leb 8 (length m) (w .head)) (all-of (countOf m) _ (λ t l. lt-ltb 0 _ (w .item t l)))
+
+  pub decodes-short : length m < 8 → decodes K m ≡ false
+  unfolding decodes
+  decodes-short h = first-false (leb 8 (length m)) _ (lt-leb 8 (length m) h)
+
+  pub decodes-bad : (t : ℕ) → t < countOf m → itemLen K (drop (itemAt K m t) m) ≡ 0 → decodes K m ≡ false
+  unfolding decodes
+  decodes-bad t l e =
+      second-false (leb 8 (length m)) _
+      (all-false (countOf m) (λ t. ltb 0 (itemLen K (drop (itemAt K m t) m))) t l
+      (le-ltb 0 (itemLen K (drop (itemAt K m t) m)) (omega (arith, e))))
+
+  pub list-some : decodes K m ≡ true → listLen K m ≡ itemAt K m (countOf m)
+  unfolding listLen
+  list-some e = ap (λ (b : Bool). pick b (itemAt K m (countOf m)) 0) e
+
+  pub list-none : decodes K m ≡ false → listLen K m ≡ 0
+  unfolding listLen
+  list-none e = ap (λ (b : Bool). pick b (itemAt K m (countOf m)) 0) e
+
+  pub list-pos : decodes K m ≡ true → 8 ≤ listLen K m
+  list-pos e = omega (arith, list-some e, at-ge (countOf m) (decoded e .item))
+
+  pub list-zero : listLen K m ≡ 0 → decodes K m ≡ false
+  list-zero z = go (decodes K m) refl
+    where
+      go : (b : Bool) → decodes K m ≡ b → b ≡ false
+      go true e = absurd (omega (arith, list-pos e))
+      go false e = refl
+
+  pub list-found : (listLen K m ≡ 0 → ⊥) → decodes K m ≡ true
+  list-found n = go (decodes K m) refl
+    where
+      go : (b : Bool) → decodes K m ≡ b → b ≡ true
+      go true e = refl
+      go false e = absurd (n (list-none e))
+
+  pub list-le : listLen K m ≤ length m
+  list-le = go (decodes K m) refl
+    where
+      go : (b : Bool) → decodes K m ≡ b → listLen K m ≤ length m
+      go true e = omega (arith, list-some e, at-le (decoded e .head) (countOf m))
+      go false e = omega (arith, list-none e)
+
+-- ---- a message of the right form
+pub record Formed (K : Kind) (count : ℕ) (m : List ℕ) : Type 0 where
+  pub decodes-is : decodes K m ≡ true
+  pub count-is : countOf m ≡ count
+  pub inner-is : innersDue K count m ≡ true
+
+module _ (K : Kind) (count : ℕ) (m : List ℕ) where
+  pub form-bad : decodes K m ≡ false → formOf K count m ≡ 13
+  unfolding formOf
+  form-bad e = ap (λ (b : Bool). pick b (pick (eqb (countOf m) count && innersDue K count m) 0 6) 13) e
+
+  pub form-count : decodes K m ≡ true → (countOf m ≡ count → ⊥) → formOf K count m ≡ 6
+  unfolding formOf
+  form-count e n =
+      ap₂ (λ (a b : Bool). pick a (pick (b && innersDue K count m) 0 6) 13) e (ne-eqb (countOf m) count n)
+
+  pub form-inner : decodes K m ≡ true → innersDue K count m ≡ false → formOf K count m ≡ 6
+  unfolding formOf
+  form-inner e f =
+      ap₂ (λ (a b : Bool). pick a (pick b 0 6) 13) e (second-false (eqb (countOf m) count) (innersDue K count m) f)
+
+  pub form-of : Formed K count m → formOf K count m ≡ 0
+  unfolding formOf
+  form-of w =
+      ap₂ (λ (a b : Bool). pick a (pick b 0 6) 13) (w .decodes-is)
+      (and-true (eqb (countOf m) count) (innersDue K count m) (eq-eqb (countOf m) count (w .count-is)) (w .inner-is))
+
+  pub formed : formOf K count m ≡ 0 → Formed K count m
+  unfolding formOf
+  formed h =
+      let p = pick-then (decodes K m) _ 13 0 (λ e. omega arith) h in
+      let q = pick-then (eqb (countOf m) count && innersDue K count m) 0 6 0 (λ e. omega arith) (p .1) in
+      record {
+        decodes-is = p .0;
+        count-is = eqb-true (countOf m) count (and-first (eqb (countOf m) count) (innersDue K count m) (q .0));
+        inner-is = and-second (eqb (countOf m) count) (innersDue K count m) (q .0);
+      }
+
+-- only a bucket has inner lists whose counts are due
+pub inners-items : (size c count : ℕ) (m : List ℕ) → innersDue (Items size c) count m ≡ true
+unfolding innersDue innerDue
+inners-items size c count m = all-of count (λ t. innerDue (Items size c) (drop (itemAt (Items size c) m t) m)) (λ t l. refl)
+
+pub inners-dms : (count : ℕ) (m : List ℕ) → innersDue Dms count m ≡ true
+unfolding innersDue innerDue
+inners-dms count m = all-of count (λ t. innerDue Dms (drop (itemAt Dms m t) m)) (λ t l. refl)
+
+pub inners-options : (count : ℕ) (m : List ℕ) → innersDue Options count m ≡ true
+unfolding innersDue innerDue
+inners-options count m = all-of count (λ t. innerDue Options (drop (itemAt Options m t) m)) (λ t l. refl)
+
+-- ---- items of a fixed size
+module _ (size c : ℕ) (m : List ℕ) where
+  pub fixed-at : (t : ℕ) → ((j : ℕ) → j < t → 0 < itemLen (Items size c) (drop (itemAt (Items size c) m j) m)) → itemAt (Items size c) m t ≡ 8 + t * size
+  unfolding itemAt
+  fixed-at zero h = rw (zero-mul size)
+  fixed-at (suc t) h =
+      let e = fixed-at t (λ j k. h j (omega arith)) in
+      let w = items-held size c (drop (itemAt (Items size c) m t) m) (h t (omega arith)) in
+      omega (arith, e, w .is, suc-mul t size)
+
+-- a list of `count` items of `size` bytes, the first c of each bools
+pub record Fixed (size c count : ℕ) (m : List ℕ) : Type 0 where
+  pub count-is : countOf m ≡ count
+  pub fits : 8 + count * size ≤ length m
+  pub at : (t : ℕ) → t ≤ count → itemAt (Items size c) m t ≡ 8 + t * size
+  pub bits : (t k : ℕ) → t < count → k < c → getD m (8 + t * size + k) 0 ≤ 1
+  pub list-is : listOf (Items size c) m ≡ take (8 + count * size) m
+
+pub fixed : (size c count : ℕ) (m : List ℕ) → formOf (Items size c) count m ≡ 0 → Fixed size c count m
+unfolding listOf
+fixed size c count m h = record {
+  count-is = w .count-is;
+  fits = omega (arith, starts count (omega arith), at-le (Items size c) m (d .head) count);
+  at = starts;
+  bits = λ t k l j. let p = items-held size c (drop (itemAt (Items size c) m t) m) (held t l) in
+  subst (λ a. a ≤ 1) (getD-drop (itemAt (Items size c) m t) m k 0 ∙ ap (λ a. getD m (a + k) 0) (starts t (omega arith)))
+  (of-bools (drop (itemAt (Items size c) m t) m) c (p .bits) k j);
+  list-is = ap (λ n. take n m) (list-some (Items size c) m (w .decodes-is) ∙ ap (itemAt (Items size c) m) (w .count-is) ∙ starts count (omega arith));
+}
+  where
+    w : Formed (Items size c) count m
+    w = formed (Items size c) count m h
+
+    d : Decoded (Items size c) m
+    d = decoded (Items size c) m (w .decodes-is)
+
+    held : (t : ℕ) → t < count → 0 < itemLen (Items size c) (drop (itemAt (Items size c) m t) m)
+    held t l = d .item t (omega (arith, w .count-is))
+
+    starts : (t : ℕ) → t ≤ count → itemAt (Items size c) m t ≡ 8 + t * size
+    starts t l = fixed-at size c m t (λ j k. held j (omega arith))

@@ -1,0 +1,272 @@
+// Messages: bincode legacy lists (document 01, "Messages"), read where they lie in the incoming buffer, and their items written into
+// stretches of the outgoing one. From src/channel.rs (list checks) and src/utils/serde.rs of polytune.
+ghost use mathlib.Core.Path.{_≡_};
+ghost use mathlib.Core.Bool.{true};
+ghost use Prim.Native.Nat.{ℕ, _+_, _<_, _≤_, min};
+ghost use lib.ListN.{length, drop};
+ghost use Rattle.message.specs.Format as F;
+ghost use Rattle.message.specs.Read as R;
+
+// What the items of a list are.
+pub enum Kind {
+    // A fixed number of bytes, the first few of them bools: size, bools.
+    Items(usize, usize),
+    // A list of bytes of any length: a dm.
+    Dms,
+    // A list of bools and a list of Blocks, both of the count that is due: a bucket's d values and their MACs.
+    Dvalues(usize),
+    // An option of a Block: an entry of an echo.
+    Options,
+}
+
+// The `count` bytes from `at` are bools.
+fn bools(s: &[u8], at: usize, count: usize) -> bool
+    requires { ⌜ at + count ≤ length (now s) ⌝ }
+    ensures { λ r. ⌜ r ≡ F.bools count (drop at (now (s .entry))) ⌝ }
+{
+    let mut k = 0;
+    while k < count {
+        if 1 < s[at + k] {
+            return false;
+        }
+        k += 1;
+    }
+    true
+}
+
+// The bytes of the list of items of `size` bytes at `at`, 0 if there is none. No count makes the product wrap.
+fn vec_len(s: &[u8], at: usize, size: usize) -> usize
+    requires { ⌜ (at ≤ length (now s)) × (0 < size) ⌝ }
+    ensures { λ r. ⌜ r ≡ F.vecLen size (drop at (now (s .entry))) ⌝ }
+{
+    let left = s.len() - at;
+    if left < 8 {
+        return 0;
+    }
+    let count = block::load64(s, at);
+    let room = (left - 8) / size;
+    if (room as u64) < count {
+        return 0;
+    }
+    8 + count as usize * size
+}
+
+fn least(a: usize, b: usize) -> usize
+    ensures { λ r. ⌜ r ≡ min a b ⌝ }
+{
+    if a < b { a } else { b }
+}
+
+// The bytes of the item of `size` bytes at `at`, the first `count` of them bools; 0 if there is none.
+fn items_len(s: &[u8], at: usize, size: usize, count: usize) -> usize
+    requires { ⌜ at ≤ length (now s) ⌝ }
+    ensures { λ r. ⌜ r ≡ F.itemLen (Kind.Items size count) (drop at (now (s .entry))) ⌝ }
+{
+    let left = s.len() - at;
+    if left < size {
+        return 0;
+    }
+    if bools(s, at, least(left, count)) {
+        size
+    } else {
+        0
+    }
+}
+
+// The bytes of the bucket at `at`: a list of bools and a list of Blocks; 0 if there is none.
+fn dvalue_len(s: &[u8], at: usize, due: usize) -> usize
+    requires { ⌜ at ≤ length (now s) ⌝ }
+    ensures { λ r. ⌜ r ≡ F.itemLen (Kind.Dvalues due) (drop at (now (s .entry))) ⌝ }
+{
+    let ds = vec_len(s, at, 1);
+    if ds == 0 {
+        return 0;
+    }
+    if bools(s, at + 8, ds - 8) {
+        let macs = vec_len(s, at + ds, 16);
+        if macs == 0 { 0 } else { ds + macs }
+    } else {
+        0
+    }
+}
+
+// The bytes of the option at `at`: 0 alone, or 1 and a Block; 0 if there is none.
+fn option_len(s: &[u8], at: usize) -> usize
+    requires { ⌜ at ≤ length (now s) ⌝ }
+    ensures { λ r. ⌜ r ≡ F.itemLen Kind.Options (drop at (now (s .entry))) ⌝ }
+{
+    let left = s.len() - at;
+    if left == 0 {
+        return 0;
+    }
+    let tag = s[at];
+    if tag == 0 {
+        return 1;
+    }
+    if tag != 1 {
+        return 0;
+    }
+    if left < 17 { 0 } else { 17 }
+}
+
+// The bytes of the item at `at`, 0 if there is none.
+fn item_len(kind: Kind, s: &[u8], at: usize) -> usize
+    requires { ⌜ at ≤ length (now s) ⌝ }
+    ensures { λ r. ⌜ r ≡ F.itemLen kind (drop at (now (s .entry))) ⌝ }
+{
+    match kind {
+        Kind::Items(size, count) => items_len(s, at, size, count),
+        Kind::Dms => vec_len(s, at, 1),
+        Kind::Dvalues(due) => dvalue_len(s, at, due),
+        Kind::Options => option_len(s, at),
+    }
+}
+
+// The bytes of the list that m begins with, its count included; 0 if m doesn't decode. Every item takes at least a byte, so the work is
+// bounded by m's length, whatever the count says.
+pub fn list_len(kind: Kind, m: &[u8]) -> usize
+    ensures { λ r. ⌜ r ≡ F.listLen kind (now (m .entry)) ⌝ }
+{
+    if m.len() < 8 {
+        return 0;
+    }
+    let count = block::load64(m, 0);
+    let mut t: u64 = 0;
+    let mut pos = 8;
+    while t < count {
+        let len = item_len(kind, m, pos);
+        if len == 0 {
+            return 0;
+        }
+        pos += len;
+        t += 1;
+    }
+    pos
+}
+
+// Where item t begins.
+pub fn item_at(kind: Kind, m: &[u8], t: usize) -> usize
+    requires { ⌜ (F.decodes kind (now m) ≡ true) × (t ≤ F.countOf (now m)) ⌝ }
+    ensures { λ r. ⌜ r ≡ F.itemAt kind (now (m .entry)) t ⌝ }
+{
+    let mut k = 0;
+    let mut pos = 8;
+    while k < t {
+        pos += item_len(kind, m, pos);
+        k += 1;
+    }
+    pos
+}
+
+// Both lists of the bucket at `at` have `due` elements.
+fn bucket_due(s: &[u8], at: usize, due: usize) -> bool
+    requires { ⌜ (at ≤ length (now s)) × (0 < F.itemLen (Kind.Dvalues due) (drop at (now s))) ⌝ }
+    ensures { λ r. ⌜ r ≡ F.innerDue (Kind.Dvalues due) (drop at (now (s .entry))) ⌝ }
+{
+    let ds = block::load64(s, at);
+    if ds != due as u64 {
+        return false;
+    }
+    block::load64(s, at + 8 + due) == due as u64
+}
+
+// Both lists of each of the `count` buckets have `due` elements.
+fn buckets_due(m: &[u8], count: usize, due: usize) -> bool
+    requires { ⌜ (F.decodes (Kind.Dvalues due) (now m) ≡ true) × (count ≡ F.countOf (now m)) ⌝ }
+    ensures { λ r. ⌜ r ≡ F.innersDue (Kind.Dvalues due) count (now (m .entry)) ⌝ }
+{
+    let mut k = 0;
+    let mut pos = 8;
+    while k < count {
+        if !bucket_due(m, pos, due) {
+            return false;
+        }
+        pos += 16 + due + due * 16;
+        k += 1;
+    }
+    true
+}
+
+// 13 if m doesn't decode, 6 if a count isn't the one due, else 0.
+pub fn check(kind: Kind, count: usize, m: &[u8]) -> u8
+    ensures { λ r. ⌜ r ≡ F.formOf kind count (now (m .entry)) ⌝ }
+{
+    if list_len(kind, m) == 0 {
+        return 13;
+    }
+    let found = block::load64(m, 0);
+    if found != count as u64 {
+        return 6;
+    }
+    match kind {
+        Kind::Items(_, _) => 0,
+        Kind::Dms => 0,
+        Kind::Dvalues(due) => {
+            if buckets_due(m, count, due) {
+                0
+            } else {
+                6
+            }
+        }
+        Kind::Options => 0,
+    }
+}
+
+// The part of m that holds the list; nothing if m doesn't decode.
+pub fn list(kind: Kind, m: &[u8]) -> &[u8]
+    ensures { λ r. ⌜ now r ≡ F.listOf kind (now (m .entry)) ⌝ }
+{
+    let end = list_len(kind, m);
+    &m[..end]
+}
+
+// A part of `len` bytes from `start` lies within a buffer of `total` bytes.
+pub fn inside(total: usize, start: usize, len: usize) -> bool
+    ensures { λ r. ⌜ r ≡ R.inside total start len ⌝ }
+{
+    if total < start {
+        return false;
+    }
+    len <= total - start
+}
+
+// The part of the incoming buffer that holds a message.
+pub fn part(incoming: &[u8], start: usize, len: usize) -> &[u8]
+    requires { ⌜ R.inside (length (now incoming)) start len ≡ true ⌝ }
+    ensures { λ r. ⌜ now r ≡ R.partOf start len (now (incoming .entry)) ⌝ }
+{
+    let end = start + len;
+    &incoming[start..end]
+}
+
+// Document 01's reader: the part of the incoming buffer that holds the list, after its start, length and counts are checked; nothing where
+// it is refused.
+pub fn read_list(kind: Kind, count: usize, incoming: &[u8], start: usize, len: usize) -> &[u8]
+    ensures { λ r. ⌜ now r ≡ R.readList kind count (now (incoming .entry)) start len ⌝ }
+{
+    if inside(incoming.len(), start, len) {
+        let m = part(incoming, start, len);
+        if check(kind, count, m) == 0 {
+            list(kind, m)
+        } else {
+            &incoming[..0]
+        }
+    } else {
+        &incoming[..0]
+    }
+}
+
+// What is wrong with a message: 14 if it is marked missing, else 17 if it lies outside of the buffer, 13 if it doesn't decode, 6 if a count
+// isn't the one due, else 0. Any mark but 0 says missing.
+pub fn verdict(kind: Kind, count: usize, incoming: &[u8], start: usize, len: usize, missing: u8) -> u8
+    ensures { λ r. ⌜ r ≡ R.verdictOf kind count (now (incoming .entry)) start len missing ⌝ }
+{
+    if missing != 0 {
+        return 14;
+    }
+    if inside(incoming.len(), start, len) {
+        check(kind, count, part(incoming, start, len))
+    } else {
+        17
+    }
+}
