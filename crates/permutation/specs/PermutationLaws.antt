@@ -98,7 +98,7 @@ module _ (m : ℕ) (f : ℕ → ℕ) (low : (t : ℕ) → t < suc m → f t < su
       (λ et qt. absurd (apart u lu (sym qu ∙ h ∙ qt)))
       (λ nt qt. one u t (omega arith) (omega arith) (sym qu ∙ h ∙ qt)))
 
-  -- y is f m, or is m, or is among what g gives
+  -- y is f m, or is m, or is among what hide gives
   found : ((y : ℕ) → y < m → (t : ℕ) × (t < m) × (hide m f t ≡ y)) → (y : ℕ) → y < suc m → (t : ℕ) × (t < suc m) × (f t ≡ y)
   found ih y h = first (eqb (f m) y) refl
     where
