@@ -1,0 +1,5 @@
+pub mod Block
+pub mod Group
+pub mod Xor
+pub mod Trip
+pub mod XorWord

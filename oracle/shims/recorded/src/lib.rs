@@ -1,0 +1,68 @@
+//! The recorded values that stand for `random`, the r strings and the shuffle.
+//!
+//! One party's values are put in place while that party runs, and taken out after.
+use std::{cell::RefCell, mem, sync::Arc};
+
+#[derive(Default)]
+pub struct Values {
+    /// Bytes for `rand::random`, in the order of the draws.
+    pub draws: Vec<u8>,
+    pub drawn: usize,
+    /// The Blocks for `AesRng`, the same for every party.
+    pub r: Arc<Vec<u8>>,
+    pub r_used: usize,
+    pub permutation: Arc<Vec<u32>>,
+    pub shuffled: bool,
+}
+
+impl Values {
+    /// Whether every value was taken: it shows that the draws came in the expected order.
+    pub fn used_up(&self) -> bool {
+        self.drawn == self.draws.len() && self.r_used == self.r.len() && self.shuffled
+    }
+}
+
+thread_local! {
+    static VALUES: RefCell<Option<Values>> = const { RefCell::new(None) };
+}
+
+/// Puts values in place and gives back those that were there.
+pub fn swap(values: Option<Values>) -> Option<Values> {
+    VALUES.with(|v| mem::replace(&mut *v.borrow_mut(), values))
+}
+
+/// Fills dest with the next drawn bytes.
+pub fn draw(dest: &mut [u8]) {
+    VALUES.with(|v| {
+        let mut v = v.borrow_mut();
+        let v = v.as_mut().expect("oracle: no recorded values in place");
+        let end = v.drawn + dest.len();
+        assert!(end <= v.draws.len(), "oracle: recorded draws are used up");
+        dest.copy_from_slice(&v.draws[v.drawn..end]);
+        v.drawn = end;
+    })
+}
+
+/// The next Block of r, or none where nothing is recorded and AES itself is wanted.
+pub fn r_block() -> Option<[u8; 16]> {
+    VALUES.with(|v| {
+        let mut v = v.borrow_mut();
+        let v = v.as_mut()?;
+        let end = v.r_used + 16;
+        assert!(end <= v.r.len(), "oracle: recorded r Blocks are used up");
+        let block = v.r[v.r_used..end].try_into().unwrap();
+        v.r_used = end;
+        Some(block)
+    })
+}
+
+/// The recorded permutation, to be taken once.
+pub fn permutation() -> Arc<Vec<u32>> {
+    VALUES.with(|v| {
+        let mut v = v.borrow_mut();
+        let v = v.as_mut().expect("oracle: no recorded values in place");
+        assert!(!v.shuffled, "oracle: more than one shuffle");
+        v.shuffled = true;
+        v.permutation.clone()
+    })
+}

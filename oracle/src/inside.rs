@@ -1,0 +1,38 @@
+//! Private functions of faand.rs, called alone. This file is a module of faand.rs.
+
+use super::*;
+use crate::run::{End, caught, put, refusal, shares};
+
+/// `combine_bucket`: x1 y1 z1 x2 y2 z2 .. as share records of party i, and a byte d for each
+/// triple after the first. Gives the records x, y, z.
+pub fn combine(n: usize, i: usize, triples: &[u8], d: &[u8]) -> Result<Vec<u8>, End> {
+    let list = shares(triples, n);
+    let bucket: Vec<_> = list
+        .as_chunks::<3>()
+        .0
+        .iter()
+        .map(|[x, y, z]| (x, y, z))
+        .collect();
+    let d = d.iter().map(|d| *d != 0).collect();
+    match caught(|| combine_bucket(i, n, bucket, d)) {
+        Ok(Ok((x, y, z))) => {
+            let mut out = vec![];
+            [x, y, z].iter().for_each(|share| put(&mut out, share));
+            Ok(out)
+        }
+        Ok(Err(error)) => Err(refusal(error, 0)),
+        Err(error) => Err(End::Panic { round: 0, error }),
+    }
+}
+
+/// `chunked_update_with_rbits` over Blocks, as `fabitn` sums MACs and keys.
+pub fn r_sum(blocks: &[[u8; 16]], r: &[[u8; 16]]) -> [u8; 16] {
+    let mut sum = Block::ZERO;
+    let blocks: &[Block] = &blocks.iter().map(|b| Block::new(*b)).collect::<Vec<_>>();
+    let r: Vec<_> = r.iter().map(|b| Block::new(*b)).collect();
+    chunked_update_with_rbits(blocks, &r, |block, rbit| {
+        let mask = Block::from((-(rbit as i128)) as u128);
+        sum ^= *block & mask;
+    });
+    sum.into()
+}

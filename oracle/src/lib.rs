@@ -1,0 +1,34 @@
+//! Runs the Rust of sine-fdn/polytune, compiled unchanged, on recorded values: whole sessions of
+//! document 01 with every message written down, and single functions beside them.
+
+mod ot_core;
+mod run;
+mod session;
+
+// The sources as oracle/build stages them.
+#[allow(warnings)]
+#[path = "../staged"]
+mod staged {
+    pub(crate) mod block;
+    pub(crate) mod channel;
+    pub(crate) mod crypto {
+        mod aes_rng;
+        pub(crate) use aes_rng::AesRng;
+    }
+    pub(crate) mod mpc {
+        pub(crate) mod data_types;
+        pub(crate) mod faand;
+    }
+    pub(crate) mod ot;
+    pub(crate) mod utils;
+}
+
+// They name each other from the crate's root.
+use staged::{block, channel, crypto, mpc, ot, utils};
+
+pub mod damage;
+pub mod rules;
+
+pub use mpc::faand::inside::{combine, r_sum};
+pub use run::{End, Message, Outcome, aes_blocks, honest, round_name, run};
+pub use session::{Party, Session, SplitMix, bucket_size, record_len};
