@@ -1,6 +1,6 @@
 -- The numbers of a session (document 01, "The call", "What each round means"): the order of the rounds, what each round's messages are, and
 -- the length of each lent buffer. n is the number of parties, l the number of results, k a round.
-use Prim.Native.Nat.{ℕ, zero, suc, _+_, _-_, _*_, _/_}
+use Prim.Native.Nat.{ℕ, zero, suc, _+_, _-_, _*_, _/_, _≤_}
 use mathlib.Core.Bool.{Bool, true, false, not, _&&_, _||_}
 use mathlib.Core.List.{List, [], _∷_}
 use lib.Dec.{ltb, leb, eqb}
@@ -18,21 +18,15 @@ echo? k = eqb k 2 || eqb k 7 || eqb k 9 || eqb k 11 || eqb k 13 || eqb k 16 || e
 unfoldable pub echoOf : ℕ → ℕ
 echoOf k = pick (echo? (k + 1)) (k + 1) 0
 
--- round k takes place; two: there are two parties. "For n = 2 the echoes are skipped."
-unfoldable pub inOrder : Bool → ℕ → Bool
-inOrder two k = leb 1 k && leb k 22 && not (two && echo? k)
-
--- the round after k, the first after opening (k = 0), and 0 after the last. No two echoes stand side by side.
-unfoldable pub after : Bool → ℕ → ℕ
-after two k = pick (leb 22 k) 0 (pick (inOrder two (k + 1)) (k + 1) (k + 2))
-
+-- round k takes place: "For n = 2 the echoes are skipped."
 unfoldable pub isRound : ℕ → ℕ → Bool
-isRound n k = inOrder (eqb n 2) k
+isRound n k = leb 1 k && leb k 22 && not (eqb n 2 && echo? k)
 
+-- the round after k, the first after opening (k = 0), and 0 after the last
 unfoldable pub nextRound : ℕ → ℕ → ℕ
-nextRound n k = after (eqb n 2) k
+nextRound n k = pick (leb 22 k) 0 (pick (eqb n 2 && echo? (k + 1)) (k + 2) (k + 1))
 
--- the rounds in order, for two parties and for more: after walks through them (PlanLaws)
+-- the rounds in order, for two parties and for more: nextRound walks through them (PlanLaws, `order-next`)
 unfoldable pub order : Bool → List ℕ
 order true = 1 ∷ 3 ∷ 4 ∷ 5 ∷ 6 ∷ 8 ∷ 10 ∷ 12 ∷ 14 ∷ 15 ∷ 17 ∷ 19 ∷ 21 ∷ 22 ∷ []
 order false = 1 ∷ 2 ∷ 3 ∷ 4 ∷ 5 ∷ 6 ∷ 7 ∷ 8 ∷ 9 ∷ 10 ∷ 11 ∷ 12 ∷ 13 ∷ 14 ∷ 15 ∷ 16 ∷ 17 ∷ 18 ∷ 19 ∷ 20 ∷ 21 ∷ 22 ∷ []
@@ -68,7 +62,8 @@ rLen l = 120 * (16 * rBlocks l)
 
 -- ---- the message of a round
 
--- the items of its list: a bit and a Block, two bits, 32 bytes ..; an echo's are options
+-- the items of its list: commitments (1, 4, 17), the bytes of a seed (3, 5), a bit and a Block (6, 15), three commitments (8), dms (10),
+-- Blocks (12, 19), two bits (14), a bucket's d values and MACs (21), two bits and two Blocks (22); an echo's are options of a Block
 unfoldable pub kindOf : ℕ → ℕ → Kind
 kindOf l k =
     pick (eqb k 1 || eqb k 4 || eqb k 17) (Items 32 0)
@@ -104,6 +99,13 @@ listLen n count Dms = 8 + count * (8 + dmLen n)
 listLen n count (Dvalues due) = 8 + count * (8 + due + (8 + 16 * due))
 listLen n count Options = 8 + count + 16 * (count - 2)
 
+-- a message of `count` items whose length can be computed
+abbrev pub Listed : ℕ → ℕ → Kind → Type 0
+Listed n count (Items size bools) = (count ≤ 1500000) × (size ≤ 128)
+Listed n count Dms = (count ≤ 1500000) × (1 ≤ n) × (n ≤ 8)
+Listed n count (Dvalues due) = (count ≤ 1500000) × (due ≤ 4)
+Listed n count Options = (2 ≤ count) × (count ≤ 8)
+
 unfoldable pub msgLen : ℕ → ℕ → ℕ → ℕ
 msgLen n l k = listLen n (countDue n l k) (kindOf l k)
 
@@ -114,6 +116,13 @@ parties? n = leb 2 n && leb n 8
 
 unfoldable pub inRange : ℕ → ℕ → Bool
 inRange n l = parties? n && leb 1 l && leb l 300000
+
+-- what inRange says, for those that ask for it
+pub record InRange (n l : ℕ) : Type 0 where
+  pub two : 2 ≤ n
+  pub eight : n ≤ 8
+  pub one : 1 ≤ l
+  pub most : l ≤ 300000
 
 abbrev pub within : ℕ → ℕ → ℕ → ℕ
 within n l x = pick (inRange n l) x 0

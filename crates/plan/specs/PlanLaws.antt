@@ -1,30 +1,40 @@
 -- What the numbers of a session are good for: the order of the rounds, and bounds, so that no product wraps.
 use mathlib.Core.Path.{_≡_, refl, sym, ap, _∙_, subst}
 use mathlib.Core.Logic.{_≢_}
-use mathlib.Core.Bool.{Bool, true, false, not, _&&_, _||_}
+use mathlib.Core.Bool.{Bool, Bool·beq, true, false, not, _&&_, _||_}
 use mathlib.Core.List.{List}
 use Prim.Native.Nat.{ℕ, zero, suc, _+_, _-_, _*_, _≤_, _<_}
 use native.Mathlib.Nat.{add-zero, mul-le-mul}
 use native.Mathlib.Numerals.{add-one}
 use native.Mathlib.Omega.{arith}
 use lib.ListN.{length, getD}
-use lib.Dec.{leb, eqb}
-use borrow.Author.Tests.{leb-true, leb-false, le-leb, eqb-true, eqb-false, ne-eqb}
+use lib.Dec.{ltb, leb, eqb}
+use borrow.Author.Tests.{ltb-true, ltb-false, leb-true, le-ltb, le-leb, lt-leb, eqb-true, eqb-false, ne-eqb}
 use Rattle.lists.specs.Pick.{pick, tests}
 use Rattle.lists.specs.All.{allOf, of-all, true-false}
 use Rattle.message.specs.declared.Kind.{Kind}
 use Rattle.message.specs.declared.Kind.the-variants.{Items, Dms, Dvalues, Options}
 use Rattle.share.specs.Record.{recordLen}
-use Rattle.plan.specs.Plan.{echo?, inOrder, after, isRound, nextRound, order, writes, bucketSize, leaky, bitsCount, rBlocks, rLen, kindOf, countDue, dmLen, listLen, msgLen, parties?, inRange, within, sentUpTo}
+use Rattle.plan.specs.Plan.{echo?, isRound, nextRound, order, writes, other, bucketSize, leaky, bitsCount, rBlocks, rLen, kindOf, countDue, dmLen, listLen, Listed, msgLen, parties?, inRange, InRange, bitsLen, sharesLen, masksLen, pairsLen, outLen, rDue, permDue, sentUpTo}
 
 -- ---- the order of the rounds
 
+-- as isRound and nextRound, by whether there are two parties
+roundIf : Bool → ℕ → Bool
+roundIf two k = leb 1 k && leb k 22 && not (two && echo? k)
+
+nextIf : Bool → ℕ → ℕ
+nextIf two k = pick (leb 22 k) 0 (pick (two && echo? (k + 1)) (k + 2) (k + 1))
+
+writesIf : Bool → ℕ → ℕ
+writesIf two k = pick (eqb k 0 || roundIf two k) (nextIf two k) 0
+
 -- each round in order is a round, and the one after it is the next in order; past the last stands 0
 step? : Bool → ℕ → Bool
-step? two d = inOrder two (getD (order two) d 0) && eqb (after two (getD (order two) d 0)) (getD (order two) (suc d) 0)
+step? two d = roundIf two (getD (order two) d 0) && eqb (nextIf two (getD (order two) d 0)) (getD (order two) (suc d) 0)
 
 steps : (two : Bool) → allOf (length (order two)) (step? two) ≡ true
-unfolding allOf step? order inOrder after echo?
+unfolding allOf step? order roundIf nextIf echo?
 steps true = refl
 steps false = refl
 
@@ -38,20 +48,72 @@ and-right false b h = absurd (true-false (sym h))
 
 module _ (n d : ℕ) (h : d < length (order (eqb n 2))) where
   pub order-round : isRound n (getD (order (eqb n 2)) d 0) ≡ true
-  unfolding isRound step?
+  unfolding isRound step? roundIf
   order-round = and-left _ _ (of-all _ (step? (eqb n 2)) (steps (eqb n 2)) d h)
 
   pub order-next : nextRound n (getD (order (eqb n 2)) d 0) ≡ getD (order (eqb n 2)) (suc d) 0
-  unfolding nextRound step?
-  order-next = eqb-true _ _ (and-right (inOrder (eqb n 2) (getD (order (eqb n 2)) d 0)) _ (of-all _ (step? (eqb n 2)) (steps (eqb n 2)) d h))
+  unfolding nextRound step? nextIf
+  order-next = eqb-true _ _ (and-right (roundIf (eqb n 2) (getD (order (eqb n 2)) d 0)) _ (of-all _ (step? (eqb n 2)) (steps (eqb n 2)) d h))
 
 pub order-first : (n : ℕ) → nextRound n 0 ≡ 1
-unfolding nextRound after inOrder echo?
+unfolding nextRound nextIf echo?
 order-first n = go (eqb n 2)
   where
-    go : (two : Bool) → after two 0 ≡ 1
+    go : (two : Bool) → nextIf two 0 ≡ 1
     go true = refl
     go false = refl
+
+-- which call writes fabitn, and which dvalue
+lent? : Bool → ℕ → Bool
+lent? two k = Bool·beq (eqb (writesIf two k) 6) (eqb k 5) && Bool·beq (eqb (writesIf two k) 21) (eqb k (pick two 19 20))
+
+lents : (two : Bool) → allOf 23 (lent? two) ≡ true
+unfolding allOf lent? writesIf roundIf nextIf echo?
+lents true = refl
+lents false = refl
+
+pub writes-past : (n k : ℕ) → 22 < k → writes n k ≡ 0
+unfolding writes isRound
+writes-past n k h = rw (ne-eqb k 0 (omega arith), le-leb 1 k (omega arith), lt-leb k 22 h) refl
+
+beq-true : (a b : Bool) → Bool·beq a b ≡ true → a ≡ b
+beq-true true true h = refl
+beq-true true false h = absurd (true-false (sym h))
+beq-true false true h = absurd (true-false (sym h))
+beq-true false false h = refl
+
+-- "the call that writes fabitn" is the one for round 5, "the one that writes dvalue" that for round 20, or 19 for two parties
+pub writes-fabitn : (n k : ℕ) → eqb (writes n k) 6 ≡ eqb k 5
+unfolding writes isRound nextRound lent? writesIf roundIf nextIf
+writes-fabitn n k = go (ltb k 23) refl
+  where
+    go : (b : Bool) → ltb k 23 ≡ b → eqb (writes n k) 6 ≡ eqb k 5
+    go true e = beq-true _ _ (and-left _ _ (of-all 23 (lent? (eqb n 2)) (lents (eqb n 2)) k (ltb-true k 23 e)))
+    go false e =
+        let h : 22 < k = omega (arith, ltb-false k 23 e) in
+        ap (λ w. eqb w 6) (writes-past n k h) ∙ sym (ne-eqb k 5 (omega arith))
+
+pub writes-dvalue : (n k : ℕ) → eqb (writes n k) 21 ≡ eqb k (pick (eqb n 2) 19 20)
+unfolding writes isRound nextRound lent? writesIf roundIf nextIf
+writes-dvalue n k = go (ltb k 23) refl
+  where
+    far : (two : Bool) → 22 < k → eqb k (pick two 19 20) ≡ false
+    far true h = ne-eqb k 19 (omega arith)
+    far false h = ne-eqb k 20 (omega arith)
+
+    go : (b : Bool) → ltb k 23 ≡ b → eqb (writes n k) 21 ≡ eqb k (pick (eqb n 2) 19 20)
+    go true e = beq-true _ _ (and-right (Bool·beq (eqb (writesIf (eqb n 2) k) 6) (eqb k 5)) _ (of-all 23 (lent? (eqb n 2)) (lents (eqb n 2)) k (ltb-true k 23 e)))
+    go false e =
+        let h : 22 < k = omega (arith, ltb-false k 23 e) in
+        ap (λ w. eqb w 21) (writes-past n k h) ∙ sym (far (eqb n 2) h)
+
+pub next-some : (n k : ℕ) → k < 22 → nextRound n k ≢ 0
+unfolding nextRound
+next-some n k h = rw (lt-leb 22 k h) (go (eqb n 2 && echo? (k + 1)))
+  where
+    go : (b : Bool) → pick b (k + 2) (k + 1) ≢ 0
+    go true = omega arith
+    go false = omega arith
 
 pub no-echo : (k : ℕ) → 20 < k → echo? k ≡ false
 unfolding echo?
@@ -106,13 +168,6 @@ pick-most : (b : Bool) (x : ℕ) {m : ℕ} → x ≤ m → pick b x 0 ≤ m
 pick-most true x h = h
 pick-most false x h = omega arith
 
--- what opening lets through
-pub record InRange (n l : ℕ) : Type 0 where
-  pub two : 2 ≤ n
-  pub eight : n ≤ 8
-  pub one : 1 ≤ l
-  pub most : l ≤ 300000
-
 pub parties-true : (n : ℕ) → parties? n ≡ true → (2 ≤ n) × (n ≤ 8)
 unfolding parties?
 parties-true n h = (leb-true 2 n (and-left _ _ h), leb-true n 8 (and-right (leb 2 n) _ h))
@@ -127,6 +182,40 @@ in-range-true n l h =
 pub in-range : (n l : ℕ) → InRange n l → inRange n l ≡ true
 unfolding inRange parties?
 in-range n l r = rw (le-leb 2 n (r .two), le-leb n 8 (r .eight), le-leb 1 l (r .one), le-leb l 300000 (r .most)) refl
+
+-- the lengths, where opening takes n and l
+module _ (n l : ℕ) (r : InRange n l) where
+  pub bits-len : bitsLen n l ≡ bitsCount l * recordLen n
+  unfolding bitsLen
+  bits-len = rw (in-range n l r) refl
+
+  pub shares-len : sharesLen n l ≡ l * recordLen n
+  unfolding sharesLen
+  shares-len = rw (in-range n l r) refl
+
+  pub masks-len : masksLen n l ≡ n * leaky l
+  unfolding masksLen
+  masks-len = rw (in-range n l r) refl
+
+  pub pairs-len : pairsLen n ≡ 32 * n
+  unfolding pairsLen parties?
+  pairs-len = rw (le-leb 2 n (r .two), le-leb n 8 (r .eight)) refl
+
+  pub out-len-last : outLen n l 22 ≡ l * recordLen n
+  unfolding outLen
+  out-len-last = shares-len
+
+  pub out-len : (k : ℕ) → k < 22 → (eqb k 0 || isRound n k) ≡ true → outLen n l k ≡ (n - 1) * msgLen n l (nextRound n k)
+  unfolding outLen writes
+  out-len k h e = rw (ne-eqb k 22 (omega arith), e, ne-eqb _ _ (next-some n k h), in-range n l r) refl
+
+  pub r-due : (k : ℕ) → rDue n l k ≡ pick (eqb k 5) (rLen l) 0
+  unfolding rDue
+  r-due k = rw (writes-fabitn n k, in-range n l r) refl
+
+  pub perm-due : (k : ℕ) → permDue n l k ≡ pick (eqb k (pick (eqb n 2) 19 20)) (leaky l) 0
+  unfolding permDue
+  perm-due k = rw (writes-dvalue n k, in-range n l r) refl
 
 -- ---- the table of rounds, case by case: a round that is no echo, or none of them
 pub record Rest (k : ℕ) : Type 0 where
@@ -217,13 +306,6 @@ round-cases P p1 p3 p4 p5 p6 p8 p10 p12 p14 p15 p17 p19 p21 p22 rest k =
       not22 = e22;
     })))))))))))))))
 
--- a message of `count` items whose length can be computed
-abbrev pub Listed : ℕ → ℕ → Kind → Type 0
-Listed n count (Items size bools) = (count ≤ 1500000) × (size ≤ 128)
-Listed n count Dms = (count ≤ 1500000) × (1 ≤ n) × (n ≤ 8)
-Listed n count (Dvalues due) = (count ≤ 1500000) × (due ≤ 4)
-Listed n count Options = (2 ≤ count) × (count ≤ 8)
-
 pub listed : (n l : ℕ) → InRange n l → (k : ℕ) → Listed n (countDue n l k) (kindOf l k)
 unfolding kindOf countDue
 listed n l r =
@@ -261,3 +343,34 @@ module _ (n l k s : ℕ) (h : s ≡ sentUpTo n l k) where
   pub sent-without : isRound n (k + 1) ≡ false → s ≡ sentUpTo n l (k + 1)
   unfolding sentUpTo
   sent-without r = rw (h, add-one k, subst (λ j. isRound n j ≡ false) (add-one k) r) (sym (add-zero (sentUpTo n l k)))
+
+-- ---- the other parties: other i goes through all of n but i, each once
+other-by : {C : Type 0} (i q : ℕ) → (q < i → other i q ≡ q → C) → (i ≤ q → other i q ≡ q + 1 → C) → C
+unfolding other
+other-by {C} i q low high = go (ltb q i) refl
+  where
+    go : (b : Bool) → ltb q i ≡ b → C
+    go true e = low (ltb-true q i e) (ap (λ b. pick b q (q + 1)) e)
+    go false e = high (ltb-false q i e) (ap (λ b. pick b q (q + 1)) e)
+
+pub other-skips : (i q : ℕ) → other i q ≢ i
+other-skips i q = other-by i q (λ h e. omega arith) (λ h e. omega arith)
+
+pub other-below : (n i q : ℕ) → q < n - 1 → other i q < n
+other-below n i q l = other-by i q (λ h e. omega arith) (λ h e. omega arith)
+
+pub other-once : (i p q : ℕ) → other i p ≡ other i q → p ≡ q
+other-once i p q x =
+    other-by i p
+    (λ h e. other-by i q (λ h2 e2. omega arith) (λ h2 e2. omega arith))
+    (λ h e. other-by i q (λ h2 e2. omega arith) (λ h2 e2. omega arith))
+
+pub other-onto : (n i j : ℕ) → i < n → j < n → j ≢ i → (q : ℕ) × (q < n - 1) × (other i q ≡ j)
+unfolding other
+other-onto n i j li lj ne = go (ltb j i) refl
+  where
+    go : (b : Bool) → ltb j i ≡ b → (q : ℕ) × (q < n - 1) × (other i q ≡ j)
+    go true e = (j, omega (arith, ltb-true j i e), ap (λ b. pick b j (j + 1)) e)
+    go false e =
+        let h : i ≤ j - 1 = omega (arith, ltb-false j i e) in
+        (j - 1, omega arith, rw (le-ltb (j - 1) i h) (omega (arith, ltb-false j i e)))

@@ -5,9 +5,8 @@
 ghost use mathlib.Core.Path.{_≡_};
 ghost use Prim.Native.Nat.{ℕ, _+_, _*_, _<_, _≤_};
 ghost use Rattle.plan.specs.Plan as S;
-ghost use Rattle.plan.specs.Plan.{echo?, echoOf, isRound, nextRound, bucketSize, bitsCount, rBlocks, rLen, kindOf, countDue, dmLen, listLen, msgLen, parties?, inRange, bitsLen, sharesLen, masksLen, pairsLen, outLen, rDue, permDue, sentUpTo};
+ghost use Rattle.plan.specs.Plan.{echo?, echoOf, isRound, nextRound, bucketSize, bitsCount, rBlocks, rLen, kindOf, countDue, dmLen, listLen, msgLen, parties?, inRange, InRange, Listed, bitsLen, sharesLen, masksLen, pairsLen, outLen, rDue, permDue, sentUpTo};
 ghost use Rattle.plan.specs.Names.{roundName};
-ghost use Rattle.plan.specs.PlanLaws.{InRange, Listed};
 use message::Kind;
 
 // Whether round k is an echo, of the round before it.
@@ -41,7 +40,11 @@ pub fn next_round(n: usize, k: usize) -> usize
     if 22 <= k {
         return 0;
     }
-    if is_round(n, k + 1) { k + 1 } else { k + 2 }
+    if (n == 2) & is_echo(k + 1) {
+        k + 2
+    } else {
+        k + 1
+    }
 }
 
 // The round whose messages the call for round k writes (k = 0: opening); 0 for the last and for what is no round.

@@ -4,8 +4,7 @@ use Prim.Native.Nat.{_+_, _-_, _*_, _≤_}
 use native.Mathlib.Omega.{arith}
 use native.Mathlib.Nat.{mul-le-mul}
 use borrow.Author.Needs.{needs}
-use Rattle.plan.specs.Plan.{listLen, dmLen}
-use Rattle.plan.specs.PlanLaws.{Listed}
+use Rattle.plan.specs.Plan.{listLen, dmLen, Listed}
 use Rattle.plan.proofs.list_len.Statement.{statement}
 use Rattle.plan.proofs.list_len.Tie as tie
 

@@ -3,8 +3,8 @@ use mathlib.Core.Path.{refl, sym, _∙_}
 use native.Mathlib.Omega.{arith}
 use native.Mathlib.Nat.{mul-le-mul}
 use borrow.Author.Needs.{needs}
-use Rattle.plan.specs.Plan.{masksLen}
-use Rattle.plan.specs.PlanLaws.{InRange, in-range-true, leaky-most}
+use Rattle.plan.specs.Plan.{masksLen, InRange}
+use Rattle.plan.specs.PlanLaws.{in-range-true, leaky-most}
 use Rattle.plan.proofs.masks_len.Statement.{statement}
 use Rattle.plan.proofs.masks_len.Tie as tie
 

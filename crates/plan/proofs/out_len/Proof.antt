@@ -5,8 +5,8 @@ use native.Mathlib.Omega.{arith}
 use native.Mathlib.Nat.{mul-le-mul}
 use borrow.Author.Needs.{needs}
 use borrow.Author.Tests.{ne-eqb}
-use Rattle.plan.specs.Plan.{outLen}
-use Rattle.plan.specs.PlanLaws.{InRange, in-range-true, msg-most}
+use Rattle.plan.specs.Plan.{outLen, InRange}
+use Rattle.plan.specs.PlanLaws.{in-range-true, msg-most}
 use Rattle.plan.proofs.out_len.Statement.{statement}
 use Rattle.plan.proofs.out_len.Tie as tie
 

@@ -2,8 +2,8 @@
 use mathlib.Core.Path.{refl, sym, _∙_}
 use borrow.Author.Needs.{needs}
 use borrow.Author.Tests.{ne-eqb}
-use Rattle.plan.specs.Plan.{permDue}
-use Rattle.plan.specs.PlanLaws.{InRange, in-range-true}
+use Rattle.plan.specs.Plan.{permDue, InRange}
+use Rattle.plan.specs.PlanLaws.{in-range-true}
 use Rattle.plan.proofs.perm_due.Statement.{statement}
 use Rattle.plan.proofs.perm_due.Tie as tie
 

@@ -2,8 +2,8 @@
 use mathlib.Core.Path.{refl, sym, _∙_}
 use borrow.Author.Needs.{needs}
 use borrow.Author.Tests.{ne-eqb}
-use Rattle.plan.specs.Plan.{rDue}
-use Rattle.plan.specs.PlanLaws.{InRange, in-range-true}
+use Rattle.plan.specs.Plan.{rDue, InRange}
+use Rattle.plan.specs.PlanLaws.{in-range-true}
 use Rattle.plan.proofs.r_due.Statement.{statement}
 use Rattle.plan.proofs.r_due.Tie as tie
 

@@ -4,8 +4,8 @@ use Prim.Native.Nat.{_-_, _≤_}
 use native.Mathlib.Omega.{arith}
 use native.Mathlib.Nat.{mul-le-mul}
 use borrow.Author.Needs.{needs}
-use Rattle.plan.specs.Plan.{sent}
-use Rattle.plan.specs.PlanLaws.{InRange, in-range-true, sent-most}
+use Rattle.plan.specs.Plan.{sent, InRange}
+use Rattle.plan.specs.PlanLaws.{in-range-true, sent-most}
 use Rattle.plan.proofs.sent.Statement.{statement}
 use Rattle.plan.proofs.sent.Tie as tie
 
