@@ -1,0 +1,31 @@
+-- `plan::bits_len` meets its contract.
+use mathlib.Core.Path.{refl, sym, _∙_}
+use native.Mathlib.Omega.{arith}
+use native.Mathlib.Nat.{mul-le-mul}
+use borrow.Author.Needs.{needs}
+use Rattle.plan.specs.Plan.{bitsLen, InRange}
+use Rattle.plan.specs.PlanLaws.{in-range-true, bits-most, record-most}
+use Rattle.plan.proofs.bits_len.Statement.{statement}
+use Rattle.plan.proofs.bits_len.Tie as tie
+
+bits-count-requires : tie.Need-bits-count-requires
+bits-count-requires c κs = in-range-true _ _ (sym (c .before .in-range .ensures) ∙ c .if1 .taken) .most
+
+record-len-requires : tie.Need-record-len-requires
+record-len-requires c κs = in-range-true _ _ (sym (c .before .before .in-range .ensures) ∙ c .before .if1 .taken) .eight
+
+mul-result : tie.Need-mul-result
+mul-result c =
+    let r = in-range-true _ _ (sym (c .before .before .before .in-range .ensures) ∙ c .before .before .if1 .taken) in
+    rw (c .before .bits-count .ensures, c .record-len .ensures) (omega (arith, mul-le-mul (bits-most _ (r .most)) (record-most _ (r .eight))))
+
+returns : tie.Need-returns
+unfolding bitsLen
+returns c = rw (c .before .bits-count .ensures, c .record-len .ensures, sym (c .before .before .before .in-range .ensures) ∙ c .before .before .if1 .taken) refl
+
+returns-2 : tie.Need-returns-2
+unfolding bitsLen
+returns-2 c = rw (sym (c .before .in-range .ensures) ∙ c .if1 .left) refl
+
+pub bits-len-spec : {M : Type 1} → statement M
+bits-len-spec = tie.close (tie.spec (λ c κs. search needs) bits-count-requires record-len-requires mul-result returns returns-2)

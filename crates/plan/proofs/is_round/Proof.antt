@@ -1,0 +1,13 @@
+-- `plan::is_round` meets its contract.
+use mathlib.Core.Path.{refl}
+use borrow.Author.Needs.{needs}
+use Rattle.plan.specs.Plan.{isRound}
+use Rattle.plan.proofs.is_round.Statement.{statement}
+use Rattle.plan.proofs.is_round.Tie as tie
+
+returns : tie.Need-returns
+unfolding isRound
+returns c = rw (c .is-echo .ensures) refl
+
+pub is-round-spec : {M : Type 1} → statement M
+is-round-spec = tie.close (tie.spec (λ c κs. search needs) returns)

@@ -1,0 +1,18 @@
+-- `plan::other` meets its contract.
+use native.Mathlib.Omega.{arith}
+use Rattle.lists.specs.Pick.{tests}
+use borrow.Author.Needs.{needs}
+use Rattle.plan.specs.Plan.{other}
+use Rattle.plan.proofs.other.Statement.{statement}
+use Rattle.plan.proofs.other.Tie as tie
+
+returns : tie.Need-returns
+unfolding other
+returns c = search (arith, tests)
+
+returns-2 : tie.Need-returns-2
+unfolding other
+returns-2 c = search (arith, tests)
+
+pub other-spec : {M : Type 1} → statement M
+other-spec = tie.close (tie.spec (λ c. search needs) returns returns-2)
