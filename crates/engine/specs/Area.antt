@@ -1,20 +1,82 @@
--- A buffer in numbered sections, each as long as a table says; rows of equal length; and the stretches of an outgoing buffer.
+-- A buffer in numbered sections, each as long as a table says, and the stretches of an outgoing buffer.
 use mathlib.Core.Path.{_≡_, refl, sym, ap, ap₂, _∙_, subst}
 use mathlib.Core.Bool.{Bool, true, false}
 use mathlib.Core.Logic.{_≢_}
-use mathlib.Core.List.{List, [], _∷_, _++_}
+use mathlib.Core.List.{List, [], _∷_, _++_, append-assoc}
 use Prim.Native.Nat.{ℕ, zero, suc, _+_, _-_, _*_, _<_, _≤_, min}
-use native.Mathlib.Nat.{le-refl, mul-comm, mul-le-mul-right, suc-mul}
+use native.Mathlib.Nat.{le-refl, mul-comm}
+use native.Mathlib.Numerals.{add-one}
 use native.Mathlib.Omega.{arith}
-use lib.ListN.{length, getD, take, drop, length-append, length-take, length-drop}
+use lib.ListN.{length, getD, take, drop, set, length-append, length-take, length-drop, take-append-drop}
+use lib.Seq.{take-at, drop-at, take-nil, take-take, drop-drop, take-add, take-append-le, drop-append-le, length-take-le, getD-take, getD-drop, set-split}
 use lib.Dec.{ltb}
-use borrow.Author.Tests.{ltb-true, ltb-false, lt-ltb, le-ltb}
+use borrow.Author.Tests.{ltb-true, ltb-false, le-ltb}
 use Rattle.lists.specs.Pick.{pick}
 use Rattle.lists.specs.Over.{cat, length-cat}
 use Rattle.lists.specs.Rows.{cat-part, chunk, chunk-cat}
 use Rattle.lists.specs.Sect.{get, put, length-put, get-put-same, get-put-before, get-put-after}
 use Rattle.engine.specs.Step.{stretch}
 
+-- ---- parts of parts
+module _ {A : Type 0} where
+  drop-take : (a m : ℕ) (x : List A) → drop a (take (a + m) x) ≡ take m (drop a x)
+  drop-take zero m x = ap (λ j. take j x) (let e : 0 + m ≡ m = omega arith in e)
+  drop-take (suc a) m [] = ap (drop (suc a)) (take-nil (suc a + m)) ∙ sym (take-nil m)
+  drop-take (suc a) m (y ∷ x) = ap (λ j. drop (suc a) (take j (y ∷ x))) (let e : suc a + m ≡ suc (a + m) = omega arith in e) ∙ drop-take a m x
+
+  -- k elements from a on, of the m elements from o on
+  pub get-get : (o m a k : ℕ) (w : List A) → a + k ≤ m → get a k (get o m w) ≡ get (o + a) k w
+  get-get o m a k w h =
+      ap (λ j. take k (drop a (take j (drop o w)))) (let e : m ≡ a + (m - a) = omega arith in e)
+      ∙ ap (take k) (drop-take a (m - a) (drop o w))
+      ∙ take-take k (m - a) (drop a (drop o w)) (omega arith)
+      ∙ ap (take k) (drop-drop a o w)
+
+  pub put-put-in : (o m a k : ℕ) (xs w : List A) → a + k ≤ m → o + m ≤ length w → put (o + a) k xs w ≡ put o m (put a k xs (get o m w)) w
+  put-put-in o m a k xs w h l =
+      let y : List A = get o m w in
+      let z : List A = drop m (drop o w) in
+      let ly : length y ≡ m = length-take m (drop o w) ∙ ap (min m) (length-drop o w) ∙ (omega arith) in
+      let t : take (o + a) w ≡ take o w ++ take a y = take-add o a w ∙ ap (λ (r : List A). take o w ++ r) (sym (take-take a m (drop o w) (omega arith))) in
+      let d : drop k (drop (o + a) w) ≡ drop k (drop a y) ++ z =
+      ap (drop k) (sym (drop-drop a o w)) ∙ ap (λ (r : List A). drop k (drop a r)) (sym (take-append-drop m (drop o w)))
+      ∙ ap (drop k) (drop-append-le a y z (omega arith)) ∙ drop-append-le k (drop a y) z (rw (length-drop a y) (omega arith)) in
+      ap₂ (λ (p r : List A). p ++ (xs ++ r)) t d ∙ append-assoc (take o w) (take a y) _
+      ∙ ap (λ (r : List A). take o w ++ r)
+      (ap (λ (r : List A). take a y ++ r) (sym (append-assoc xs (drop k (drop a y)) z)) ∙ sym (append-assoc (take a y) (xs ++ drop k (drop a y)) z))
+
+  -- what is put first is lost
+  pub put-twice : (o m : ℕ) (xs ys w : List A) → length ys ≡ m → o ≤ length w → put o m xs (put o m ys w) ≡ put o m xs w
+  put-twice o m xs ys w h l =
+      let z : List A = drop m (drop o w) in
+      let lo : length (take o w) ≡ o = length-take-le o w l in
+      ap₂ (λ (p r : List A). p ++ (xs ++ r)) (take-at (take o w) (ys ++ z) o lo)
+      (ap (drop m) (drop-at (take o w) (ys ++ z) o lo) ∙ drop-at ys z m h)
+
+  put-append : (o m : ℕ) (xs u z : List A) → o + m ≤ length u → put o m xs (u ++ z) ≡ put o m xs u ++ z
+  put-append o m xs u z h =
+      ap₂ (λ (p r : List A). p ++ (xs ++ r)) (take-append-le o u z (omega arith))
+      (ap (drop m) (drop-append-le o u z (omega arith)) ∙ drop-append-le m (drop o u) z (rw (length-drop o u) (omega arith)))
+      ∙ ap (λ (r : List A). take o u ++ r) (sym (append-assoc xs (drop m (drop o u)) z))
+      ∙ sym (append-assoc (take o u) (xs ++ drop m (drop o u)) z)
+
+  -- parts that do not meet
+  pub put-comm : (o m o′ m′ : ℕ) (xs ys w : List A) → length xs ≡ m → o + m ≤ o′ → o′ ≤ length w
+      → put o m xs (put o′ m′ ys w) ≡ put o′ m′ ys (put o m xs w)
+  put-comm o m o′ m′ xs ys w hx h l =
+      let u : List A = take o′ w in
+      let lu : length u ≡ o′ = length-take-le o′ w l in
+      let p : List A = put o m xs u in
+      let lp : length p ≡ o′ = length-put o m xs u hx (omega arith) ∙ lu in
+      let e : put o m xs w ≡ p ++ drop o′ w = ap (put o m xs) (sym (take-append-drop o′ w)) ∙ put-append o m xs u (drop o′ w) (omega arith) in
+      put-append o m xs u (ys ++ drop m′ (drop o′ w)) (omega arith)
+      ∙ sym (ap (put o′ m′ ys) e ∙ ap₂ (λ (q r : List A). q ++ (ys ++ r)) (take-at p (drop o′ w) o′ lp) (ap (drop m′) (drop-at p (drop o′ w) o′ lp)))
+
+  -- a store is a part of one element
+  pub set-put : (i : ℕ) (v : A) (w : List A) → i < length w → set w i v ≡ put i 1 (v ∷ []) w
+  set-put i v w h = set-split w i v h ∙ ap (λ (r : List A). take i w ++ (v ∷ r)) (ap (λ j. drop j w) (sym (add-one i)) ∙ sym (drop-drop 1 i w))
+
+-- ---- sections
 module _ (size : ℕ → ℕ) where
   -- where section s starts
   unfoldable pub off : ℕ → ℕ
@@ -36,7 +98,7 @@ module _ (size : ℕ → ℕ) where
       go true e ih = subst (λ i. off i ≤ off t + size t) (let p : suc t ≡ s = omega (arith, ltb-true t s e) in p) (le-refl (off t + size t))
       go false e ih = omega (arith, ih (ltb-false t s e))
 
-  -- section s ends where the next one starts, and not after a later one
+  -- section s ends before a later one starts
   within : (s t : ℕ) → s < t → off s + size s ≤ off t
   unfolding off
   within s t h = off-le (suc s) t h
@@ -61,6 +123,42 @@ module _ (size : ℕ → ℕ) where
         go : (b : Bool) → ltb s t ≡ b → get (off s) (size s) (put (off t) (size t) xs w) ≡ get (off s) (size s) w
         go true e = get-put-before (off s) (size s) (off t) (size t) xs w (within s t (ltb-true s t e)) (omega (arith, within t S l))
         go false e = get-put-after (off s) (size s) (off t) (size t) xs w hx (within t s (omega (arith, ltb-false s t e, ne))) (omega (arith, within t S l))
+
+    -- putting a section twice, and two sections in either order
+    pub putSec-twice : (s : ℕ) (xs ys : List ℕ) → s < S → length ys ≡ size s → putSec s xs (putSec s ys w) ≡ putSec s xs w
+    unfolding putSec
+    putSec-twice s xs ys l hy = put-twice (off s) (size s) xs ys w hy (omega (arith, within s S l))
+
+    pub putSec-comm : (s t : ℕ) (xs ys : List ℕ) → s < S → t < S → s ≢ t → length xs ≡ size s → length ys ≡ size t
+        → putSec s xs (putSec t ys w) ≡ putSec t ys (putSec s xs w)
+    unfolding putSec
+    putSec-comm s t xs ys ls lt ne hx hy = go (ltb s t) refl
+      where
+        go : (b : Bool) → ltb s t ≡ b
+            → put (off s) (size s) xs (put (off t) (size t) ys w) ≡ put (off t) (size t) ys (put (off s) (size s) xs w)
+        go true e = put-comm (off s) (size s) (off t) (size t) xs ys w hx (within s t (ltb-true s t e)) (omega (arith, within t S lt))
+        go false e =
+            sym (put-comm (off t) (size t) (off s) (size s) ys xs w hy (within t s (omega (arith, ltb-false s t e, ne))) (omega (arith, within s S ls)))
+
+    -- writing a part of a section, and one element of it
+    pub put-sec : (s a k : ℕ) (xs : List ℕ) → s < S → a + k ≤ size s → put (off s + a) k xs w ≡ putSec s (put a k xs (sec s w)) w
+    unfolding sec putSec
+    put-sec s a k xs l h′ = put-put-in (off s) (size s) a k xs w h′ (omega (arith, within s S l))
+
+    pub set-sec : (s a v : ℕ) → s < S → a < size s → set w (off s + a) v ≡ putSec s (set (sec s w) a v) w
+    set-sec s a v l h′ =
+        let e : length (sec s w) ≡ size s = length-sec s l in
+        set-put (off s + a) v w (omega (arith, within s S l)) ∙ put-sec s a 1 (v ∷ []) l (omega arith)
+        ∙ ap (λ (x : List ℕ). putSec s x w) (sym (set-put a v (sec s w) (omega arith)))
+
+  -- reading a part of a section, and one element of it
+  pub get-sec : (s a k : ℕ) (w : List ℕ) → a + k ≤ size s → get (off s + a) k w ≡ get a k (sec s w)
+  unfolding sec
+  get-sec s a k w h = sym (get-get (off s) (size s) a k w h)
+
+  pub getD-sec : (s a : ℕ) (w : List ℕ) → a < size s → getD w (off s + a) 0 ≡ getD (sec s w) a 0
+  unfolding sec
+  getD-sec s a w h = sym (getD-take (size s) (drop (off s) w) a 0 h ∙ getD-drop (off s) w a 0)
 
   -- a buffer laid out section by section
   pub length-lay : (S : ℕ) (c : ℕ → List ℕ) → ((s : ℕ) → s < S → length (c s) ≡ size s) → length (cat S c) ≡ off S
