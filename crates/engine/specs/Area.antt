@@ -9,11 +9,12 @@ use native.Mathlib.Numerals.{add-one}
 use native.Mathlib.Omega.{arith}
 use lib.ListN.{length, getD, take, drop, set, length-append, length-take, length-drop, take-append-drop}
 use lib.Seq.{take-at, drop-at, take-nil, take-take, drop-drop, take-add, take-append-le, drop-append-le, length-take-le, getD-take, getD-drop, set-split}
-use lib.Dec.{ltb}
-use borrow.Author.Tests.{ltb-true, ltb-false, le-ltb}
+use lib.Dec.{ltb, eqb}
+use borrow.Author.Tests.{ltb-true, ltb-false, le-ltb, eqb-true}
 use Rattle.lists.specs.Pick.{pick}
 use Rattle.lists.specs.Over.{cat, length-cat}
-use Rattle.lists.specs.Rows.{cat-part, chunk, chunk-cat}
+use Rattle.lists.specs.All.{true-false}
+use Rattle.lists.specs.Rows.{cat-part, chunk, chunk-cat, cat-ext}
 use Rattle.lists.specs.Sect.{get, put, length-put, get-put-same, get-put-before, get-put-after}
 use Rattle.engine.specs.Step.{stretch}
 
@@ -209,6 +210,10 @@ nth-ne j q = go (ltb q j) refl
     go true e p = omega (arith, ltb-true q j e)
     go false e p = omega (arith, ltb-false q j e)
 
+pub toOthers-ext : (n j : ℕ) (g h : ℕ → List ℕ) → ((k : ℕ) → k < n → j ≢ k → g k ≡ h k) → toOthers n j g ≡ toOthers n j h
+unfolding toOthers
+toOthers-ext n j g h e = cat-ext (n - 1) _ _ (λ q l. e (nth j q) (nth-lt n j q l) (nth-ne j q))
+
 module _ (m n j : ℕ) (g : ℕ → List ℕ) (h : (k : ℕ) → k < n → j ≢ k → length (g k) ≡ m) where
   pub length-toOthers : length (toOthers n j g) ≡ (n - 1) * m
   unfolding toOthers
@@ -222,7 +227,13 @@ module _ (m n j : ℕ) (g : ℕ → List ℕ) (h : (k : ℕ) → k < n → j ≢
       ∙ unfold chunk in (chunk-cat m (n - 1) (λ q. g (nth j q)) (λ q l. h (nth j q) (nth-lt n j q l) (nth-ne j q)) (pick (ltb i j) i (i - 1)) (slot-lt n j i lj li ne))
       ∙ ap g (slot-nth j i ne)
 
--- ---- tables: a property of every entry of a list, at an index
+-- ---- lists of sections or rounds
+-- s is in the list
+unfoldable pub mem : ℕ → List ℕ → Bool
+mem s [] = false
+mem s (t ∷ ts) = pick (eqb s t) true (mem s ts)
+
+-- a property of every entry of a list
 abbrev pub Every : (ℕ → Type 0) → List ℕ → Type 0
 Every Q [] = Unit {0}
 Every Q (a ∷ l) = Q a × Every Q l
@@ -231,3 +242,12 @@ pub every-at : (Q : ℕ → Type 0) (l : List ℕ) (z : ℕ) → Every Q l → (
 every-at Q [] z h d i = absurd (omega arith)
 every-at Q (a ∷ l) z h zero i = h .0
 every-at Q (a ∷ l) z h (suc d) i = every-at Q l z (h .1) d (omega arith)
+
+pub every-mem : (Q : ℕ → Type 0) (ts : List ℕ) → Every Q ts → (s : ℕ) → mem s ts ≡ true → Q s
+unfolding mem
+every-mem Q [] h s e = absurd (true-false (sym e))
+every-mem Q (t ∷ ts) h s e = go (eqb s t) refl e (every-mem Q ts (h .1) s)
+  where
+    go : (b : Bool) → eqb s t ≡ b → pick b true (mem s ts) ≡ true → (mem s ts ≡ true → Q s) → Q s
+    go true q e ih = subst Q (sym (eqb-true s t q)) (h .0)
+    go false q e ih = ih e

@@ -11,18 +11,13 @@ use lib.Dec.{eqb}
 use borrow.Author.Tests.{eqb-true, eqb-false, eq-eqb}
 use Rattle.lists.specs.Pick.{pick}
 use Rattle.lists.specs.Over.{cat}
-use Rattle.lists.specs.All.{allOf, of-all, true-false}
+use Rattle.lists.specs.All.{allOf, of-all}
 use Rattle.engine.specs.Step.{Frame, frame, Loan, Fault, Rule, Protocol, mask, stretch}
 use Rattle.engine.specs.StepLaws.{mask-at}
 use Rattle.engine.specs.Engine.{Joint, mailOf, together, Valid, HonestRound}
-use Rattle.engine.specs.Area.{off, sec, putSec, length-putSec, sec-same, sec-other, length-lay, sec-lay, toOthers, stretch-toOthers, Every}
+use Rattle.engine.specs.Area.{off, sec, putSec, length-putSec, sec-same, sec-other, length-lay, sec-lay, toOthers, stretch-toOthers, mem, Every, every-mem}
 
 -- ---- sections written one after another
--- s is in the list
-unfoldable pub mem : ℕ → List ℕ → Bool
-mem s [] = false
-mem s (t ∷ ts) = pick (eqb s t) true (mem s ts)
-
 -- the sections of a list filled, each with v of it; the first of the list last
 unfoldable pub putAll : (ℕ → ℕ) → List ℕ → (ℕ → List ℕ) → List ℕ → List ℕ
 putAll size [] v w = w
@@ -129,16 +124,6 @@ stays-by C t u fills h s l e r = go (of-all (C .count) _ h s l)
   where
     go : pick (mem s fills) true (pick (C .ready u s) (C .ready t s) true) ≡ true → C .ready t s ≡ true
     go = rw (e, r) (λ z. z)
-
--- a fact for each section of a list
-pub every-mem : (Q : ℕ → Type 0) (fills : List ℕ) → Every Q fills → (s : ℕ) → mem s fills ≡ true → Q s
-unfolding mem
-every-mem Q [] h s e = absurd (true-false (sym e))
-every-mem Q (t ∷ ts) h s e = go (eqb s t) refl e (every-mem Q ts (h .1) s)
-  where
-    go : (b : Bool) → eqb s t ≡ b → pick b true (mem s ts) ≡ true → (mem s ts ≡ true → Q s) → Q s
-    go true q e ih = subst Q (sym (eqb-true s t q)) (h .0)
-    go false q e ih = ih e
 
 -- where a section's value is the same at all moments: the lengths of those that are filled, and the test
 pub fills-by : (n l : ℕ) (C : Store) (t u : ℕ) (fills : List ℕ) → ((i s : ℕ) → C .val t i s ≡ C .val u i s)

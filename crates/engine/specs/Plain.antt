@@ -1,0 +1,157 @@
+-- The rounds of document 01 have one shape, and a table of them gives the Protocol: the call for a round judges and keeps what was received, and then
+-- makes the messages of the next. Where n > 2 and the next round is an echo, the call keeps what it has against the messages, and echoes; the call for the
+-- echo checks it, then reports what was kept, and then makes the next messages. That is what the Rust does between two receives.
+use mathlib.Core.Bool.{Bool, not, _&&_}
+use mathlib.Core.List.{List, [], _∷_}
+use Prim.Native.Nat.{ℕ, suc, _-_, _*_}
+use lib.ListN.{length, getD, replicate}
+use lib.Dec.{ltb, leb, eqb}
+use Rattle.lists.specs.Pick.{pick}
+use Rattle.lists.specs.Over.{cat}
+use Rattle.engine.specs.Step.{Frame, Session, Loan, Fault, none?, Rule, Protocol, other, orElse, byParty}
+use Rattle.engine.specs.Area.{off, sec, putSec, toOthers, mem}
+
+-- ---- what a round gives
+-- What is done with its messages. form: 13 or 6 of one message, or 0; judge: the content; keep: the work area afterwards; digest: the 16 bytes of
+-- `hash_vec` of the list in a message, asked of rounds that have an echo
+pub record Recv : Type 0 where
+  pub form : Frame → List ℕ → ℕ
+  pub judge : Frame → List ℕ → (ℕ → List ℕ) → Fault
+  pub keep : Frame → List ℕ → (ℕ → List ℕ) → List ℕ
+  pub digest : Frame → List ℕ → List ℕ
+
+-- How its messages are made. len n l: the length of one; lent n l: 17 or 18 of the r Blocks and the permutation, or 0; keep: the work area
+-- afterwards; write f q w r: the message to r, from the work area after keep
+pub record Send : Type 0 where
+  pub len : ℕ → ℕ → ℕ
+  pub lent : ℕ → ℕ → Loan → ℕ
+  pub keep : Frame → Loan → List ℕ → List ℕ
+  pub write : Frame → Loan → List ℕ → ℕ → List ℕ
+
+-- The echo's messages: lists of n options of 16 bytes. rows: n rows of 16 bytes, row k the hash of k's list. form n m: 13 or 6, or 0;
+-- write n i rows r: what i sends to r; fault n i j rows m: 3 or 7 of what j sent to i, or 0
+pub record Echo : Type 0 where
+  pub len : ℕ → ℕ
+  pub form : ℕ → List ℕ → ℕ
+  pub write : ℕ → ℕ → List ℕ → ℕ → List ℕ
+  pub fault : ℕ → ℕ → ℕ → List ℕ → List ℕ → ℕ
+
+-- ---- the table of the rounds
+-- fine: n, i, l in opening's ranges; last: the last round; echoes: the rounds that are echoes; count, size: the sections of the work area. Two more stand
+-- behind the `count` that the rounds use: `pending`, 2 bytes, and `hashes`, n rows of 16. resultLen, result: what the last call writes
+pub record Table : Type 0 where
+  pub fine : Frame → Bool
+  pub last : ℕ
+  pub echoes : List ℕ
+  pub count : ℕ
+  pub size : Frame → ℕ → ℕ
+  pub recv : ℕ → Recv
+  pub send : ℕ → Send
+  pub echo : Echo
+  pub resultLen : Frame → ℕ
+  pub result : Frame → List ℕ → (ℕ → List ℕ) → List ℕ
+
+-- "both are empty otherwise"
+unfoldable pub noLoan : Loan → ℕ
+noLoan q = pick (eqb (length (q .r)) 0 && eqb (length (q .perm)) 0) 0 17
+
+-- a row of 16 bytes for each party, zero for the own
+unfoldable pub rowsOf : Frame → (ℕ → List ℕ) → List ℕ
+rowsOf f h = cat (f .n) (λ k. pick (other f k) (h k) (replicate 16 0))
+
+module _ (T : Table) where
+  -- ---- the order of the rounds
+  unfoldable pub isEcho : ℕ → Bool
+  isEcho k = mem k (T .echoes)
+
+  -- "each accepted call makes the next in order due, echoes passed over for n = 2"
+  unfoldable pub nextOf : ℕ → ℕ → ℕ
+  nextOf n k = pick (eqb k (T .last)) 0 (pick (eqb n 2 && isEcho (suc k)) (suc (suc k)) (suc k))
+
+  -- k is the number of a round of n boxes
+  unfoldable pub isRound : ℕ → ℕ → Bool
+  isRound n k = ltb 0 k && leb k (T .last) && not (eqb n 2 && isEcho k)
+
+  -- the call for round k writes an echo
+  unfoldable pub toEcho : ℕ → ℕ → Bool
+  toEcho n k = not (eqb n 2) && isEcho (suc k)
+
+  -- ---- lengths, and what is lent
+  unfoldable pub lenOf : ℕ → ℕ → ℕ → ℕ
+  lenOf n l k = pick (isEcho k) (T .echo .len n) (T .send k .len n l)
+
+  unfoldable pub outLenOf : ℕ → Frame → ℕ
+  outLenOf k f = pick (eqb k (T .last)) (T .resultLen f) ((f .n - 1) * lenOf (f .n) (f .l) (nextOf (f .n) k))
+
+  unfoldable pub lentOf : ℕ → ℕ → ℕ → Loan → ℕ
+  lentOf k n l q = pick (eqb k (T .last)) (noLoan q) (pick (toEcho n k) (noLoan q) (T .send (nextOf n k) .lent n l q))
+
+  unfoldable pub formOf : ℕ → Frame → List ℕ → ℕ
+  formOf k f m = pick (isEcho k) (T .echo .form (f .n) m) (T .recv k .form f m)
+
+  -- ---- the sections of the echoes
+  -- the fault that waits for the echo, its number and its party
+  unfoldable pub pending : Frame → List ℕ → Fault
+  pending f w = record { code = getD (sec (T .size f) (T .count) w) 0 0; party = getD (sec (T .size f) (T .count) w) 1 0 }
+
+  unfoldable pub hashes : Frame → List ℕ → List ℕ
+  hashes f w = sec (T .size f) (suc (T .count)) w
+
+  -- the hashes of what was received for round k
+  unfoldable pub digests : ℕ → Frame → (ℕ → List ℕ) → List ℕ
+  digests k f m = rowsOf f (λ j. T .recv k .digest f (m j))
+
+  -- ---- the content
+  -- "From each sender the entries .. are checked", then what waited for the echo
+  unfoldable pub echoCheck : Frame → List ℕ → (ℕ → List ℕ) → Fault
+  echoCheck f w m = orElse (byParty f (λ j. T .echo .fault (f .n) (f .i) j (hashes f w) (m j))) (pending f w)
+
+  unfoldable pub checkOf : ℕ → Frame → List ℕ → (ℕ → List ℕ) → Fault
+  checkOf k f w m = pick (isEcho k) (echoCheck f w m) (pick (toEcho (f .n) k) none? (T .recv k .judge f w m))
+
+  -- ---- the work area
+  -- with a fault, what was received isn't kept
+  unfoldable pub kept : Fault → List ℕ → List ℕ → List ℕ
+  kept e w w′ = pick (eqb (e .code) 0) w′ w
+
+  -- after a call that writes an echo
+  unfoldable pub held : ℕ → Frame → List ℕ → (ℕ → List ℕ) → List ℕ
+  held k f w m =
+      let e : Fault = T .recv k .judge f w m in
+      putSec (T .size f) (T .count) (e .code ∷ e .party ∷ [])
+      (putSec (T .size f) (suc (T .count)) (digests k f m)
+      (kept e w (T .recv k .keep f w m)))
+
+  -- after a call that makes the messages of the next plain round
+  unfoldable pub made : ℕ → Frame → Loan → List ℕ → (ℕ → List ℕ) → List ℕ
+  made k f q w m = T .send (nextOf (f .n) k) .keep f q (pick (isEcho k) w (T .recv k .keep f w m))
+
+  -- "The last call writes the l result records to the outgoing buffer and zeroes the work area"
+  unfoldable pub keepOf : ℕ → Frame → Loan → List ℕ → (ℕ → List ℕ) → List ℕ
+  keepOf k f q w m = pick (eqb k (T .last)) (replicate (length w) 0) (pick (toEcho (f .n) k) (held k f w m) (made k f q w m))
+
+  unfoldable pub writeOf : ℕ → Frame → Loan → List ℕ → (ℕ → List ℕ) → List ℕ
+  writeOf k f q w m =
+      pick (eqb k (T .last)) (T .result f w m)
+      (toOthers (f .n) (f .i)
+      (pick (toEcho (f .n) k) (T .echo .write (f .n) (f .i) (digests k f m)) (T .send (nextOf (f .n) k) .write f q (made k f q w m))))
+
+  -- ---- the protocol
+  abbrev pub ruleOf : ℕ → Rule
+  ruleOf k = record {
+    outLen = outLenOf k;
+    lent = lentOf k;
+    form = formOf k;
+    check = λ f q w m. checkOf k f w m;
+    keep = keepOf k;
+    write = writeOf k;
+  }
+
+  abbrev pub protocolOf : Protocol
+  protocolOf = record {
+    alive = λ s. T .fine (s .party) && isRound (s .party .n) (s .due);
+    workLen = λ f. off (T .size f) (suc (suc (T .count)));
+    rule = ruleOf;
+    next = nextOf;
+    msgLen = lenOf;
+  }
