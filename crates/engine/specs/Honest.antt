@@ -10,8 +10,9 @@ use Rattle.lists.specs.Pick.{pick}
 use Rattle.lists.specs.Rows.{chunk}
 use Rattle.lists.specs.All.{allOf}
 use Rattle.engine.specs.Step.{frame, Loan}
+use Rattle.engine.specs.Area.{mem, Every}
 use Rattle.engine.specs.Sheet.{Store, Known, Sheet, Mail}
-use Rattle.engine.specs.Plain.{Echo, Table, rowsOf, isEcho, nextOf, toEcho}
+use Rattle.engine.specs.Plain.{Echo, Table, rowsOf, isEcho, nextOf, isRound, numberOf, stepsOf, toEcho}
 
 -- ---- what is asked of the table, and of the echo's messages
 -- an honest echo is as long as it should, is formed, and has no fault
@@ -21,13 +22,23 @@ pub record EchoLaws (E : Echo) (n : ℕ) : Type 0 where
   pub passes : (i j : ℕ) → i < n → j < n → i ≢ j → (own sent : List ℕ) → length own ≡ n * 16 → length sent ≡ n * 16
       → ((k : ℕ) → k < n → i ≢ k → j ≢ k → chunk 16 k own ≡ chunk 16 k sent) → E .fault n i j own (E .write n j sent i) ≡ 0
 
+-- the plain round that comes after round k
+unfoldable pub plainAfter : Table → ℕ → ℕ
+plainAfter T k = suc (pick (isEcho T (suc k)) (suc k) k)
+
 -- no echo follows another, and neither the first round nor the last is one: one computed test
 unfoldable pub orderTest : Table → Bool
 orderTest T =
     ltb 0 (T .last) && not (isEcho T 1) && not (isEcho T (T .last)) && allOf (suc (T .last)) (λ k. not (isEcho T k && isEcho T (suc k)))
 
+-- every number of the order is a round's, and after the last comes 0
+unfoldable pub courseTest : Table → Bool → Bool
+courseTest T two = allOf (stepsOf T two) (λ d. isRound T two (numberOf T two d)) && eqb (numberOf T two (stepsOf T two)) 0
+
 pub record Lawful (T : Table) (n l : ℕ) : Type 0 where
+  pub fine : (i : ℕ) → i < n → T .fine (frame n l i) ≡ true
   pub order : orderTest T ≡ true
+  pub course : (two : Bool) → courseTest T two ≡ true
   pub size-pending : (i : ℕ) → T .size (frame n l i) (T .count) ≡ 2
   pub size-hashes : (i : ℕ) → T .size (frame n l i) (suc (T .count)) ≡ n * 16
   pub echo : EchoLaws (T .echo) n
@@ -60,10 +71,6 @@ module _ (T : Table) (U : Script) (n l : ℕ) where
   abbrev pub storeOf : Store
   storeOf = record { total = suc (suc (T .count)); count = T .count; size = T .size; ready = U .ready; val = U .val }
 
-  -- the plain round that comes after round k
-  unfoldable pub plainAfter : ℕ → ℕ
-  plainAfter k = suc (pick (isEcho T (suc k)) (suc k) k)
-
   -- a claim on every box that receives round k with a work area and messages as the script says
   abbrev pub Gets : ℕ → (ℕ → List ℕ → (ℕ → List ℕ) → Type 0) → Type 0
   Gets k Q = (i : ℕ) → i < n → (w : List ℕ) → Known n l storeOf (due k) i w → (m : ℕ → List ℕ) → Mail n (U .sent) k i m → Q i w m
@@ -78,7 +85,7 @@ module _ (T : Table) (U : Script) (n l : ℕ) where
   -- of every round but the last: besides, what it keeps, and that all receivers hash one list
   pub record HonestRecv (k : ℕ) : Type 0 where
     pub heard : Heard k
-    pub keeps : Gets k (λ i w m. Known n l storeOf (before (plainAfter k)) i (T .recv k .keep (frame n l i) w m))
+    pub keeps : Gets k (λ i w m. Known n l storeOf (before (plainAfter T k)) i (T .recv k .keep (frame n l i) w m))
     pub size : isEcho T (suc k) ≡ true → (j : ℕ) → j < n → length (U .hashed k j) ≡ 16
     pub hashes : isEcho T (suc k) ≡ true → (i j : ℕ) → i < n → j < n → i ≢ j → T .recv k .digest (frame n l i) (U .sent k j i) ≡ U .hashed k j
 
@@ -93,6 +100,14 @@ module _ (T : Table) (U : Script) (n l : ℕ) where
   pub record HonestLast (k : ℕ) : Type 0 where
     pub heard : Heard k
     pub results : Gets k (λ i w m. T .result (frame n l i) w m ≡ U .result i)
+
+  -- all rounds. plain: those that have no echo's number, but for the last; each is received, and then the next plain one is sent
+  pub record Honest : Type 0 where
+    pub plain : List ℕ
+    pub whole : allOf (T .last) (λ k. pick (eqb k 0) true (pick (isEcho T k) true (mem k plain))) ≡ true
+    pub recv : Every HonestRecv plain
+    pub send : Every (λ k. HonestSend (plainAfter T k)) plain
+    pub last : HonestLast (T .last)
 
   -- ---- the sheet of the session
   -- an echo k comes before the messages of round k + 1 are made
@@ -119,4 +134,4 @@ module _ (T : Table) (U : Script) (n l : ℕ) where
 
   -- what the call for round k is lent
   unfoldable pub loansOf : ℕ → Loan
-  loansOf k = pick (eqb k (T .last)) (record { r = []; perm = [] }) (pick (toEcho T n k) (record { r = []; perm = [] }) (U .loan (nextOf T n k)))
+  loansOf k = pick (eqb k (T .last)) (record { r = []; perm = [] }) (pick (toEcho T (eqb n 2) k) (record { r = []; perm = [] }) (U .loan (nextOf T (eqb n 2) k)))

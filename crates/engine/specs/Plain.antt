@@ -3,7 +3,7 @@
 -- echo checks it, then reports what was kept, and then makes the next messages. That is what the Rust does between two receives.
 use mathlib.Core.Bool.{Bool, not, _&&_}
 use mathlib.Core.List.{List, [], _∷_}
-use Prim.Native.Nat.{ℕ, suc, _-_, _*_}
+use Prim.Native.Nat.{ℕ, zero, suc, _-_, _*_}
 use lib.ListN.{length, getD, replicate}
 use lib.Dec.{ltb, leb, eqb}
 use Rattle.lists.specs.Pick.{pick}
@@ -59,32 +59,49 @@ noLoan q = pick (eqb (length (q .r)) 0 && eqb (length (q .perm)) 0) 0 17
 unfoldable pub rowsOf : Frame → (ℕ → List ℕ) → List ℕ
 rowsOf f h = cat (f .n) (λ k. pick (other f k) (h k) (replicate 16 0))
 
+-- what waits for the echo: number and party of a fault, 0 0 for none
+unfoldable pub waits : Fault → List ℕ
+waits e = pick (eqb (e .code) 0) (0 ∷ 0 ∷ []) (e .code ∷ e .party ∷ [])
+
+-- with a fault, what was received isn't kept
+unfoldable pub kept : Fault → List ℕ → List ℕ → List ℕ
+kept e w w′ = pick (eqb (e .code) 0) w′ w
+
 module _ (T : Table) where
-  -- ---- the order of the rounds
+  -- ---- the order of the rounds; two: n = 2
   unfoldable pub isEcho : ℕ → Bool
   isEcho k = mem k (T .echoes)
 
-  -- "each accepted call makes the next in order due, echoes passed over for n = 2"
-  unfoldable pub nextOf : ℕ → ℕ → ℕ
-  nextOf n k = pick (eqb k (T .last)) 0 (pick (eqb n 2 && isEcho (suc k)) (suc (suc k)) (suc k))
+  -- "each accepted call makes the next in order due, echoes passed over for n = 2"; 0 after the last
+  unfoldable pub nextOf : Bool → ℕ → ℕ
+  nextOf two k = pick (eqb k (T .last)) 0 (pick (two && isEcho (suc k)) (suc (suc k)) (suc k))
 
-  -- k is the number of a round of n boxes
-  unfoldable pub isRound : ℕ → ℕ → Bool
-  isRound n k = ltb 0 k && leb k (T .last) && not (eqb n 2 && isEcho k)
+  -- k is the number of a round
+  unfoldable pub isRound : Bool → ℕ → Bool
+  isRound two k = ltb 0 k && leb k (T .last) && not (two && isEcho k)
+
+  -- "Round 1 is due after opening": the round due after d accepted calls
+  unfoldable pub numberOf : Bool → ℕ → ℕ
+  numberOf two zero = 1
+  numberOf two (suc d) = nextOf two (numberOf two d)
+
+  -- how many rounds there are: "For n = 2 the echoes are skipped"
+  unfoldable pub stepsOf : Bool → ℕ
+  stepsOf two = pick two (T .last - length (T .echoes)) (T .last)
 
   -- the call for round k writes an echo
-  unfoldable pub toEcho : ℕ → ℕ → Bool
-  toEcho n k = not (eqb n 2) && isEcho (suc k)
+  unfoldable pub toEcho : Bool → ℕ → Bool
+  toEcho two k = not two && isEcho (suc k)
 
   -- ---- lengths, and what is lent
   unfoldable pub lenOf : ℕ → ℕ → ℕ → ℕ
   lenOf n l k = pick (isEcho k) (T .echo .len n) (T .send k .len n l)
 
   unfoldable pub outLenOf : ℕ → Frame → ℕ
-  outLenOf k f = pick (eqb k (T .last)) (T .resultLen f) ((f .n - 1) * lenOf (f .n) (f .l) (nextOf (f .n) k))
+  outLenOf k f = pick (eqb k (T .last)) (T .resultLen f) ((f .n - 1) * lenOf (f .n) (f .l) (nextOf (eqb (f .n) 2) k))
 
   unfoldable pub lentOf : ℕ → ℕ → ℕ → Loan → ℕ
-  lentOf k n l q = pick (eqb k (T .last)) (noLoan q) (pick (toEcho n k) (noLoan q) (T .send (nextOf n k) .lent n l q))
+  lentOf k n l q = pick (eqb k (T .last)) (noLoan q) (pick (toEcho (eqb n 2) k) (noLoan q) (T .send (nextOf (eqb n 2) k) .lent n l q))
 
   unfoldable pub formOf : ℕ → Frame → List ℕ → ℕ
   formOf k f m = pick (isEcho k) (T .echo .form (f .n) m) (T .recv k .form f m)
@@ -107,34 +124,30 @@ module _ (T : Table) where
   echoCheck f w m = orElse (byParty f (λ j. T .echo .fault (f .n) (f .i) j (hashes f w) (m j))) (pending f w)
 
   unfoldable pub checkOf : ℕ → Frame → List ℕ → (ℕ → List ℕ) → Fault
-  checkOf k f w m = pick (isEcho k) (echoCheck f w m) (pick (toEcho (f .n) k) none? (T .recv k .judge f w m))
+  checkOf k f w m = pick (isEcho k) (echoCheck f w m) (pick (toEcho (eqb (f .n) 2) k) none? (T .recv k .judge f w m))
 
   -- ---- the work area
-  -- with a fault, what was received isn't kept
-  unfoldable pub kept : Fault → List ℕ → List ℕ → List ℕ
-  kept e w w′ = pick (eqb (e .code) 0) w′ w
-
   -- after a call that writes an echo
   unfoldable pub held : ℕ → Frame → List ℕ → (ℕ → List ℕ) → List ℕ
   held k f w m =
       let e : Fault = T .recv k .judge f w m in
-      putSec (T .size f) (T .count) (e .code ∷ e .party ∷ [])
+      putSec (T .size f) (T .count) (waits e)
       (putSec (T .size f) (suc (T .count)) (digests k f m)
       (kept e w (T .recv k .keep f w m)))
 
   -- after a call that makes the messages of the next plain round
   unfoldable pub made : ℕ → Frame → Loan → List ℕ → (ℕ → List ℕ) → List ℕ
-  made k f q w m = T .send (nextOf (f .n) k) .keep f q (pick (isEcho k) w (T .recv k .keep f w m))
+  made k f q w m = T .send (nextOf (eqb (f .n) 2) k) .keep f q (pick (isEcho k) w (T .recv k .keep f w m))
 
   -- "The last call writes the l result records to the outgoing buffer and zeroes the work area"
   unfoldable pub keepOf : ℕ → Frame → Loan → List ℕ → (ℕ → List ℕ) → List ℕ
-  keepOf k f q w m = pick (eqb k (T .last)) (replicate (length w) 0) (pick (toEcho (f .n) k) (held k f w m) (made k f q w m))
+  keepOf k f q w m = pick (eqb k (T .last)) (replicate (length w) 0) (pick (toEcho (eqb (f .n) 2) k) (held k f w m) (made k f q w m))
 
   unfoldable pub writeOf : ℕ → Frame → Loan → List ℕ → (ℕ → List ℕ) → List ℕ
   writeOf k f q w m =
       pick (eqb k (T .last)) (T .result f w m)
       (toOthers (f .n) (f .i)
-      (pick (toEcho (f .n) k) (T .echo .write (f .n) (f .i) (digests k f m)) (T .send (nextOf (f .n) k) .write f q (made k f q w m))))
+      (pick (toEcho (eqb (f .n) 2) k) (T .echo .write (f .n) (f .i) (digests k f m)) (T .send (nextOf (eqb (f .n) 2) k) .write f q (made k f q w m))))
 
   -- ---- the protocol
   abbrev pub ruleOf : ℕ → Rule
@@ -149,9 +162,9 @@ module _ (T : Table) where
 
   abbrev pub protocolOf : Protocol
   protocolOf = record {
-    alive = λ s. T .fine (s .party) && isRound (s .party .n) (s .due);
+    alive = λ s. T .fine (s .party) && isRound (eqb (s .party .n) 2) (s .due);
     workLen = λ f. off (T .size f) (suc (suc (T .count)));
     rule = ruleOf;
-    next = nextOf;
+    next = λ n k. nextOf (eqb n 2) k;
     msgLen = lenOf;
   }
