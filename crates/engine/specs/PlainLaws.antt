@@ -16,7 +16,7 @@ use Rattle.lists.specs.All.{allOf, of-all, true-false}
 use Rattle.engine.specs.Step.{Frame, frame, Loan, Fault, none?, Protocol, other, orElse, byParty}
 use Rattle.engine.specs.StepLaws.{other-is, other-cases, or-none, by-none}
 use Rattle.engine.specs.World.{Course, sessionOf}
-use Rattle.engine.specs.Engine.{Valid, HonestRound}
+use Rattle.engine.specs.Engine.{Joint, Valid, HonestRound}
 use Rattle.engine.specs.Area.{off, sec, putSec, length-putSec, sec-same, sec-other, toOthers, toOthers-ext, mem, Every, every-mem}
 use Rattle.engine.specs.Sheet.{Store, Known, Sheet, Mail, Passes, Middle, Last, Holds, middle, last}
 use Rattle.engine.specs.Honest.{EchoLaws, orderTest, courseTest, Lawful, before, due, prior, Script, storeOf, plainAfter, Gets, Heard, HonestRecv, HonestSend, HonestLast, Honest, momentOf, readyOf, valOf, sentOf, sheetOf, loansOf}
@@ -95,6 +95,14 @@ module _ (T : Table) (n l : ℕ) (W : Lawful T n l) where
   pub next-on : (two : Bool) (k : ℕ) → k ≢ T .last → (two && isEcho T (suc k)) ≡ false → nextOf T two k ≡ suc k
   unfolding nextOf
   next-on two k ne e = rw (ne-eqb k (T .last) ne, e) refl
+
+  pub next-echo : (two : Bool) (k : ℕ) → k ≢ T .last → toEcho T two k ≡ true → (nextOf T two k ≡ suc k) × (isEcho T (suc k) ≡ true)
+  unfolding toEcho
+  next-echo two k ne q = go two refl (isEcho T (suc k)) refl q
+    where
+      go : (c : Bool) → two ≡ c → (b : Bool) → isEcho T (suc k) ≡ b → (not c && b) ≡ true → (nextOf T two k ≡ suc k) × (b ≡ true)
+      go true z b e q = absurd (true-false (sym q))
+      go false z b e q = (next-on two k ne (ap (λ c. c && isEcho T (suc k)) z), q)
 
 module _ (T : Table) (U : Script) (n l : ℕ) (W : Lawful T n l) where
   abbrev P : Protocol
@@ -214,9 +222,12 @@ module _ (T : Table) (U : Script) (n l : ℕ) (W : Lawful T n l) where
   abbrev Mails : ℕ → ℕ → (ℕ → List ℕ) → Type 0
   Mails k i m = Mail n (S .sent) k i m
 
-  mail-plain : (k i : ℕ) (m : ℕ → List ℕ) → isEcho T k ≡ false → Mails k i m → Mail n (U .sent) k i m
+  sent-plain : (k j r : ℕ) → isEcho T k ≡ false → U .sent k j r ≡ sentOf T U n l k j r
   unfolding sentOf
-  mail-plain k i m e M j lj ne = M j lj ne ∙ rw e refl
+  sent-plain k j r e = rw e refl
+
+  mail-plain : (k i : ℕ) (m : ℕ → List ℕ) → isEcho T k ≡ false → Mails k i m → Mail n (U .sent) k i m
+  mail-plain k i m e M j lj ne = M j lj ne ∙ sym (sent-plain k j i e)
 
   mail-echo : (k i : ℕ) (m : ℕ → List ℕ) → isEcho T (suc k) ≡ true → Mails (suc k) i m
       → (j : ℕ) → j < n → i ≢ j → m j ≡ T .echo .write n j (rows k j) i
@@ -308,15 +319,13 @@ module _ (T : Table) (U : Script) (n l : ℕ) (W : Lawful T n l) where
       to-is = x;
       keeps = λ v i li w K m M. rw (keep-made i w m) (to-sheet (suc to) i _ e (next v i li w K m M));
       writes = λ v i li w K m M. write-made i w m ∙ toOthers-ext n i _ _
-          (λ r lr nr. H .writes (sym lent-made ∙ v) i r li lr nr _ (next v i li w K m M) ∙ sent-is i r);
+          (λ r lr nr. H .writes (sym lent-made ∙ v) i r li lr nr _ (next v i li w K m M) ∙ sent-plain (suc to) i r e);
     }
       where
         next : Valid P n l L k → (i : ℕ) → i < n → (w : List ℕ) → Is k i w → (m : ℕ → List ℕ) → Mails k i m
             → Own (due (suc to)) i (area i w m)
         next v i li w K m M = H .keeps (sym lent-made ∙ v) i li (got i w m) (G i li w K m M)
 
-        sent-is : (i r : ℕ) → U .sent (suc to) i r ≡ sentOf T U n l (suc to) i r
-        sent-is i r = unfold sentOf in rw e refl
 
   -- what comes after a plain round whose call writes no echo
   next-plain : (k : ℕ) → k < T .last → toEcho T two k ≡ false → (nextOf T two k ≡ plainAfter T k) × (isEcho T (plainAfter T k) ≡ false)
@@ -348,7 +357,7 @@ module _ (T : Table) (U : Script) (n l : ℕ) (W : Lawful T n l) where
   middle-held k lk e q R = record {
     pass = pass-plain k e (R .heard);
     to = k;
-    to-is = next-on T n l W two k ne (c .0);
+    to-is = c .0;
     keeps = λ v i li w K m M. rw (keep-is i li w K m M) (to-held k i (c .1) (R .size (c .1)) _ (area i li w K m M));
     writes = λ v i li w K m M. write-is i w m ∙ ap (λ (x : List ℕ). toOthers n i (T .echo .write n i x)) (digests-are i li m M) ∙ sent-is i;
   }
@@ -356,12 +365,8 @@ module _ (T : Table) (U : Script) (n l : ℕ) (W : Lawful T n l) where
       ne : k ≢ T .last
       ne p = omega arith
 
-      split : (c b : Bool) → (not c && b) ≡ true → ((c && b) ≡ false) × (b ≡ true)
-      split true b z = absurd (true-false (sym z))
-      split false b z = (refl, z)
-
-      c : ((two && isEcho T (suc k)) ≡ false) × (isEcho T (suc k) ≡ true)
-      c = split two (isEcho T (suc k)) (unfold toEcho in q)
+      c : (nextOf T two k ≡ suc k) × (isEcho T (suc k) ≡ true)
+      c = next-echo T n l W two k ne q
 
       digests-are : (i : ℕ) → i < n → (m : ℕ → List ℕ) → Mails k i m → digests T k (frame n l i) m ≡ rows k i
       digests-are i li m M = unfold digests in rows-ext (frame n l i) _ (U .hashed k)
@@ -438,9 +443,12 @@ module _ (T : Table) (U : Script) (n l : ℕ) (W : Lawful T n l) where
   pub number-live : (d b : ℕ) → d < stepsOf T (eqb n 2) → b < n → protocolOf T .alive (sessionOf n l b (numberOf T (eqb n 2) d)) ≡ true
   number-live d b h lb = ap₂ _&&_ (W .fine b lb) (round-at d h)
 
+  pub number-end : numberOf T (eqb n 2) (stepsOf T (eqb n 2)) ≡ 0
+  number-end = eqb-true _ _ (course-is .1)
+
   pub number-over : (b : ℕ) → protocolOf T .alive (sessionOf n l b (numberOf T (eqb n 2) (stepsOf T (eqb n 2)))) ≡ false
   number-over b =
-      ap (λ c. T .fine (frame n l b) && c) (ap (isRound T two) (eqb-true _ _ (course-is .1)) ∙ never-zero) ∙ and-false (T .fine (frame n l b))
+      ap (λ c. T .fine (frame n l b) && c) (ap (isRound T two) number-end ∙ never-zero) ∙ and-false (T .fine (frame n l b))
 
   -- the order of the rounds
   abbrev pub courseOf : Course (protocolOf T) n l
@@ -451,6 +459,16 @@ module _ (T : Table) (U : Script) (n l : ℕ) (W : Lawful T n l) where
     live = number-live;
     over = number-over;
   }
+
+  -- after opening
+  pub known-first : (G : Joint) → ((i : ℕ) → i < n → Known n l (storeOf T U n l) (due 1) i (G .work i))
+      → ((j : ℕ) → j < n → G .out j ≡ toOthers n j (U .sent 1 j))
+      → Holds (protocolOf T) n l (loansOf T U n l) (sheetOf T U n l) (numberOf T (eqb n 2) 0) G
+  unfolding numberOf
+  known-first G K M = (
+    λ i li. to-sheet 1 i (G .work i) (first-plain T n l W) (K i li),
+    λ j lj. M j lj ∙ toOthers-ext n j _ _ (λ r lr ne. sent-plain 1 j r (first-plain T n l W)),
+  )
 
   module _ (H : Honest T U n l) where
     abbrev Plain : ℕ → Type 0
