@@ -23,7 +23,9 @@ module _ {A : Type 0} where
   drop-take : (a m : ℕ) (x : List A) → drop a (take (a + m) x) ≡ take m (drop a x)
   drop-take zero m x = ap (λ j. take j x) (let e : 0 + m ≡ m = omega arith in e)
   drop-take (suc a) m [] = ap (drop (suc a)) (take-nil (suc a + m)) ∙ sym (take-nil m)
-  drop-take (suc a) m (y ∷ x) = ap (λ j. drop (suc a) (take j (y ∷ x))) (let e : suc a + m ≡ suc (a + m) = omega arith in e) ∙ drop-take a m x
+  drop-take (suc a) m (y ∷ x) =
+      let e : suc a + m ≡ suc (a + m) = omega arith in
+      ap (λ j. drop (suc a) (take j (y ∷ x))) e ∙ drop-take a m x
 
   -- k elements from a on, of the m elements from o on
   pub get-get : (o m a k : ℕ) (w : List A) → a + k ≤ m → get a k (get o m w) ≡ get (o + a) k w
@@ -38,13 +40,15 @@ module _ {A : Type 0} where
       let y : List A = get o m w in
       let z : List A = drop m (drop o w) in
       let ly : length y ≡ m = length-take m (drop o w) ∙ ap (min m) (length-drop o w) ∙ (omega arith) in
-      let t : take (o + a) w ≡ take o w ++ take a y = take-add o a w ∙ ap (λ (r : List A). take o w ++ r) (sym (take-take a m (drop o w) (omega arith))) in
+      let t : take (o + a) w ≡ take o w ++ take a y =
+      take-add o a w ∙ ap (λ (r : List A). take o w ++ r) (sym (take-take a m (drop o w) (omega arith))) in
       let d : drop k (drop (o + a) w) ≡ drop k (drop a y) ++ z =
       ap (drop k) (sym (drop-drop a o w)) ∙ ap (λ (r : List A). drop k (drop a r)) (sym (take-append-drop m (drop o w)))
       ∙ ap (drop k) (drop-append-le a y z (omega arith)) ∙ drop-append-le k (drop a y) z (rw (length-drop a y) (omega arith)) in
       ap₂ (λ (p r : List A). p ++ (xs ++ r)) t d ∙ append-assoc (take o w) (take a y) _
       ∙ ap (λ (r : List A). take o w ++ r)
-      (ap (λ (r : List A). take a y ++ r) (sym (append-assoc xs (drop k (drop a y)) z)) ∙ sym (append-assoc (take a y) (xs ++ drop k (drop a y)) z))
+      (ap (λ (r : List A). take a y ++ r) (sym (append-assoc xs (drop k (drop a y)) z))
+      ∙ sym (append-assoc (take a y) (xs ++ drop k (drop a y)) z))
 
   -- what is put first is lost
   pub put-twice : (o m : ℕ) (xs ys w : List A) → length ys ≡ m → o ≤ length w → put o m xs (put o m ys w) ≡ put o m xs w
@@ -69,13 +73,16 @@ module _ {A : Type 0} where
       let lu : length u ≡ o′ = length-take-le o′ w l in
       let p : List A = put o m xs u in
       let lp : length p ≡ o′ = length-put o m xs u hx (omega arith) ∙ lu in
-      let e : put o m xs w ≡ p ++ drop o′ w = ap (put o m xs) (sym (take-append-drop o′ w)) ∙ put-append o m xs u (drop o′ w) (omega arith) in
+      let e : put o m xs w ≡ p ++ drop o′ w =
+      ap (put o m xs) (sym (take-append-drop o′ w)) ∙ put-append o m xs u (drop o′ w) (omega arith) in
       put-append o m xs u (ys ++ drop m′ (drop o′ w)) (omega arith)
-      ∙ sym (ap (put o′ m′ ys) e ∙ ap₂ (λ (q r : List A). q ++ (ys ++ r)) (take-at p (drop o′ w) o′ lp) (ap (drop m′) (drop-at p (drop o′ w) o′ lp)))
+      ∙ sym (ap (put o′ m′ ys) e
+      ∙ ap₂ (λ (q r : List A). q ++ (ys ++ r)) (take-at p (drop o′ w) o′ lp) (ap (drop m′) (drop-at p (drop o′ w) o′ lp)))
 
   -- a store is a part of one element
   pub set-put : (i : ℕ) (v : A) (w : List A) → i < length w → set w i v ≡ put i 1 (v ∷ []) w
-  set-put i v w h = set-split w i v h ∙ ap (λ (r : List A). take i w ++ (v ∷ r)) (ap (λ j. drop j w) (sym (add-one i)) ∙ sym (drop-drop 1 i w))
+  set-put i v w h =
+      set-split w i v h ∙ ap (λ (r : List A). take i w ++ (v ∷ r)) (ap (λ j. drop j w) (sym (add-one i)) ∙ sym (drop-drop 1 i w))
 
 -- ---- sections
 module _ (size : ℕ → ℕ) where
@@ -107,7 +114,8 @@ module _ (size : ℕ → ℕ) where
   module _ (S : ℕ) (w : List ℕ) (h : length w ≡ off S) where
     pub length-sec : (s : ℕ) → s < S → length (sec s w) ≡ size s
     unfolding sec
-    length-sec s l = length-take (size s) (drop (off s) w) ∙ ap (min (size s)) (length-drop (off s) w) ∙ (let e = within s S l in omega (arith, e))
+    length-sec s l =
+        length-take (size s) (drop (off s) w) ∙ ap (min (size s)) (length-drop (off s) w) ∙ (let e = within s S l in omega (arith, e))
 
     pub length-putSec : (s : ℕ) (xs : List ℕ) → s < S → length xs ≡ size s → length (putSec s xs w) ≡ off S
     unfolding putSec
@@ -123,7 +131,9 @@ module _ (size : ℕ → ℕ) where
       where
         go : (b : Bool) → ltb s t ≡ b → get (off s) (size s) (put (off t) (size t) xs w) ≡ get (off s) (size s) w
         go true e = get-put-before (off s) (size s) (off t) (size t) xs w (within s t (ltb-true s t e)) (omega (arith, within t S l))
-        go false e = get-put-after (off s) (size s) (off t) (size t) xs w hx (within t s (omega (arith, ltb-false s t e, ne))) (omega (arith, within t S l))
+        go false e =
+            let q = within t s (omega (arith, ltb-false s t e, ne)) in
+            get-put-after (off s) (size s) (off t) (size t) xs w hx q (omega (arith, within t S l))
 
     -- putting a section twice, and two sections in either order
     pub putSec-twice : (s : ℕ) (xs ys : List ℕ) → s < S → length ys ≡ size s → putSec s xs (putSec s ys w) ≡ putSec s xs w
@@ -139,7 +149,8 @@ module _ (size : ℕ → ℕ) where
             → put (off s) (size s) xs (put (off t) (size t) ys w) ≡ put (off t) (size t) ys (put (off s) (size s) xs w)
         go true e = put-comm (off s) (size s) (off t) (size t) xs ys w hx (within s t (ltb-true s t e)) (omega (arith, within t S lt))
         go false e =
-            sym (put-comm (off t) (size t) (off s) (size s) ys xs w hy (within t s (omega (arith, ltb-false s t e, ne))) (omega (arith, within s S ls)))
+            let q = within t s (omega (arith, ltb-false s t e, ne)) in
+            sym (put-comm (off t) (size t) (off s) (size s) ys xs w hy q (omega (arith, within s S ls)))
 
     -- writing a part of a section, and one element of it
     pub put-sec : (s a k : ℕ) (xs : List ℕ) → s < S → a + k ≤ size s → put (off s + a) k xs w ≡ putSec s (put a k xs (sec s w)) w
@@ -221,10 +232,12 @@ module _ (m n j : ℕ) (g : ℕ → List ℕ) (h : (k : ℕ) → k < n → j ≢
 
   -- what party i finds in its stretch
   pub stretch-toOthers : (i : ℕ) → j < n → i < n → j ≢ i → stretch m j i (toOthers n j g) ≡ g i
-  unfolding stretch toOthers
+  unfolding stretch toOthers chunk
   stretch-toOthers i lj li ne =
-      ap (λ a. take m (drop a (cat (n - 1) (λ q. g (nth j q))))) (mul-comm m (pick (ltb i j) i (i - 1)))
-      ∙ unfold chunk in (chunk-cat m (n - 1) (λ q. g (nth j q)) (λ q l. h (nth j q) (nth-lt n j q l) (nth-ne j q)) (pick (ltb i j) i (i - 1)) (slot-lt n j i lj li ne))
+      let at : ℕ = pick (ltb i j) i (i - 1) in
+      let each : (q : ℕ) → q < n - 1 → length (g (nth j q)) ≡ m = λ q l. h (nth j q) (nth-lt n j q l) (nth-ne j q) in
+      ap (λ a. take m (drop a (cat (n - 1) (λ q. g (nth j q))))) (mul-comm m at)
+      ∙ chunk-cat m (n - 1) (λ q. g (nth j q)) each at (slot-lt n j i lj li ne)
       ∙ ap g (slot-nth j i ne)
 
 -- ---- lists of sections or rounds

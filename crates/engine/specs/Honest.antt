@@ -29,7 +29,7 @@ plainAfter T k = suc (pick (isEcho T (suc k)) (suc k) k)
 -- no echo follows another, and neither the first round nor the last is one: one computed test
 unfoldable pub orderTest : Table → Bool
 orderTest T =
-    ltb 0 (T .last) && not (isEcho T 1) && not (isEcho T (T .last)) && allOf (suc (T .last)) (λ k. not (isEcho T k && isEcho T (suc k)))
+    not (isEcho T 1) && not (isEcho T (T .last)) && allOf (suc (T .last)) (λ k. not (isEcho T k && isEcho T (suc k)))
 
 -- every number of the order is a round's, and after the last comes 0
 unfoldable pub courseTest : Table → Bool → Bool

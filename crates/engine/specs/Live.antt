@@ -16,7 +16,7 @@ use Rattle.algebra.specs.Sum.{neq, neq-true, neq-self}
 use Rattle.engine.specs.Step.{frame, Lent, Outcome, Protocol, gone, part, stretch, reasonOf}
 use Rattle.engine.specs.StepLaws.{no-reason, sizes-hold}
 use Rattle.engine.specs.World.{In, here, there, All, update, Opening, Box, Note, note, World, Call, opening, turn, start, turned, after, run, runs, sessionAt, Scene, Course, Reads, its-own, Fair, FairList, Done}
-use Rattle.engine.specs.Engine.{Joint, HonestRound, Valid, Duty, ideal, holds, NoteOk, goes-on, every-done}
+use Rattle.engine.specs.Engine.{Joint, HonestRound, Valid, Duty, ideal, holds, NoteOk, Before, boxAt, goes-on, every-done}
 
 update-same : {A : Type 0} (f : ℕ → A) (i : ℕ) (a : A) → update f i a i ≡ a
 update-same f i a = rw (neq-self i) refl
@@ -61,9 +61,15 @@ module _ {Args : Type 0} (S : Scene Args) (D : Duty S) (K : Cast S D) where
     out = replicate (P .rule (C .number d) .outLen (frame n (S .l) b)) 0;
   }
 
+  start-at : (d b j : ℕ) → j < n → getD (lentFor d b .starts) j 0 ≡ length (cat j (pieces d b))
+  start-at d b j h = getD-tab n j (λ j. length (cat j (pieces d b))) 0 h
+
+  len-at : (d b j : ℕ) → j < n → getD (lentFor d b .lens) j 0 ≡ length (pieces d b j)
+  len-at d b j h = getD-tab n j (λ j. length (pieces d b j)) 0 h
+
   part-for : (d b j : ℕ) → j < n → part (lentFor d b) j ≡ pieces d b j
   unfolding part
-  part-for d b j h = rw (getD-tab n j (λ j. length (cat j (pieces d b))) 0 h, getD-tab n j (λ j. length (pieces d b j)) 0 h) (cat-part n (pieces d b) j h)
+  part-for d b j h = rw (start-at d b j h, len-at d b j h) (cat-part n (pieces d b) j h)
 
   -- the round-robin list
   abbrev pub openAll : ℕ → List (Call Args)
@@ -87,26 +93,23 @@ module _ {Args : Type 0} (S : Scene Args) (D : Duty S) (K : Cast S D) where
   fair-append w [] ys f g = g
   fair-append w (x ∷ xs) ys f g = (f .0, fair-append (after P O w x) xs ys (f .1) g)
 
-  abbrev pub boxAt : ℕ → ℕ → Box
-  boxAt d b = record { session = sessionAt S b d; work = on d .work b; rounds = d; wrote = on d .out b }
-
   abbrev noteAt : ℕ → ℕ → Note
   noteAt d b = note b d (on d .out b)
 
   abbrev onward : World → ℕ → ℕ → World
-  onward w d b = record { box = update (w .box) b (some (boxAt d b)); log = noteAt d b ∷ w .log }
+  onward w d b = record { box = update (w .box) b (some (boxAt S D d b)); log = noteAt d b ∷ w .log }
 
   -- the boxes below m stand at e, the others as `rest` says; what all wrote at d, and those below m at e, is in the log
   pub record Stage (e m : ℕ) (rest : ℕ → Option Box) (w : World) : Type 0 where
-    pub ahead : (b : ℕ) → b < m → w .box b ≡ some (boxAt e b)
+    pub ahead : (b : ℕ) → b < m → w .box b ≡ some (boxAt S D e b)
     pub behind : (b : ℕ) → m ≤ b → b < n → w .box b ≡ rest b
     pub wrote : (b : ℕ) → b < m → In (noteAt e b) (w .log)
 
   stage-next : (e m : ℕ) (rest : ℕ → Option Box) (w : World) → Stage e m rest w → Stage e (suc m) rest (onward w e m)
   stage-next e m rest w s = record {
-    ahead = λ b h. split b h (λ i. update (w .box) m (some (boxAt e m)) i ≡ some (boxAt e i)) (update-same (w .box) m (some (boxAt e m)))
-        (λ h′. update-other (w .box) m b (some (boxAt e m)) (λ q. omega arith) ∙ s .ahead b h′);
-    behind = λ b h h′. update-other (w .box) m b (some (boxAt e m)) (λ q. omega arith) ∙ s .behind b (omega arith) h′;
+    ahead = λ b h. split b h (λ i. update (w .box) m (some (boxAt S D e m)) i ≡ some (boxAt S D e i)) (update-same (w .box) m (some (boxAt S D e m)))
+        (λ h′. update-other (w .box) m b (some (boxAt S D e m)) (λ q. omega arith) ∙ s .ahead b h′);
+    behind = λ b h h′. update-other (w .box) m b (some (boxAt S D e m)) (λ q. omega arith) ∙ s .behind b (omega arith) h′;
     wrote = λ b h. split b h (λ i. In (noteAt e i) (noteAt e m ∷ w .log)) here (λ h′. there (s .wrote b h′));
   }
     where
@@ -147,40 +150,52 @@ module _ {Args : Type 0} (S : Scene Args) (D : Duty S) (K : Cast S D) where
     reason-none : reasonOf P (sessionAt S b d) (C .number d) (lentFor d b) (on d .work b) ≡ 0
     reason-none =
         no-reason P (sessionAt S b d) (C .number d) (lentFor d b) (on d .work b) (C .live d b ld lb) refl
-        (sizes-hold _ _ (frame n (S .l) b) (lentFor d b) (on d .work b) (D .rounds d ld .sized (on d) (holds S D d (omega arith) (λ e le. K .valid e (omega arith))) b lb)
+        (sizes-hold _ _ (frame n (S .l) b) (lentFor d b) (on d .work b) long
         (length-replicate (P .rule (C .number d) .outLen (frame n (S .l) b)) 0) (length-tab n _) (length-tab n _) (length-tab n _)
-        (λ j lj. rw (getD-tab n j (λ j. length (cat j (pieces d b))) 0 lj, getD-tab n j (λ j. length (pieces d b j)) 0 lj) (cat-inside n (pieces d b) j lj)))
+        (λ j lj. rw (start-at d b j lj, len-at d b j lj) (cat-inside n (pieces d b) j lj)))
         (K .valid d ld)
+      where
+        long : length (on d .work b) ≡ P .workLen (frame n (S .l) b)
+        long = D .rounds d ld .sized (on d) (holds S D d (omega arith) (λ e le. K .valid e (omega arith))) b lb
 
-    turn-fair : w .box b ≡ some (boxAt d b) → Fair S w (turn b (C .number d) (lentFor d b))
+    turn-fair : w .box b ≡ some (boxAt S D d b) → Fair S w (turn b (C .number d) (lentFor d b))
     turn-fair e = (lb, rw e (λ z. (reads, K .agree d ld)))
 
-    turn-after : w .box b ≡ some (boxAt d b) → Clean w → after P O w (turn b (C .number d) (lentFor d b)) ≡ onward w (suc d) b
+    turn-after : w .box b ≡ some (boxAt S D d b) → Clean w → after P O w (turn b (C .number d) (lentFor d b)) ≡ onward w (suc d) b
     turn-after e c =
         ap (turned P w b (C .number d) (lentFor d b)) e
-        ∙ rw (goes-on S D b (C .number d) d (lentFor d b) (w .log) lb (omega arith) (λ e le. K .valid e (omega arith)) c reads (K .agree d ld) reason-none) refl
+        ∙ rw (goes-on S D b (C .number d) d (lentFor d b) (w .log) B reads (K .agree d ld) reason-none) refl
+      where
+        B : Before S D b d (w .log)
+        B = record { box = lb; step = omega arith; valid = λ e le. K .valid e (omega arith); notes = c }
 
   clean-onward : (w : World) (d b : ℕ) → d ≤ C .steps → Clean w → Clean (onward w d b)
   clean-onward w d b h c = (refl, c)
 
   -- all boxes stand at d
   pub record Level (d : ℕ) (w : World) : Type 0 where
-    pub stand : (b : ℕ) → b < n → w .box b ≡ some (boxAt d b)
+    pub stand : (b : ℕ) → b < n → w .box b ≡ some (boxAt S D d b)
     pub wrote : (b : ℕ) → b < n → In (noteAt d b) (w .log)
     pub clean : Clean w
 
   taken : (w : World) (d : ℕ) → d < C .steps → Level d w → (m : ℕ) → m ≤ n
-      → FairList S w (roundAll d m) × Stage (suc d) m (λ b. some (boxAt d b)) (run P O w (roundAll d m))
+      → FairList S w (roundAll d m) × Stage (suc d) m (λ b. some (boxAt S D d b)) (run P O w (roundAll d m))
       × Clean (run P O w (roundAll d m)) × ((j : ℕ) → j < n → In (noteAt d j) (run P O w (roundAll d m) .log))
-  taken w d ld v zero h = (tt, record { ahead = λ b h. absurd (omega arith); behind = λ b h h′. v .stand b h′; wrote = λ b h. absurd (omega arith) }, v .clean, v .wrote)
+  taken w d ld v zero h = (
+    tt,
+    record { ahead = λ b h. absurd (omega arith); behind = λ b h h′. v .stand b h′; wrote = λ b h. absurd (omega arith) },
+    v .clean,
+    v .wrote,
+  )
   taken w d ld v (suc m) h =
       let ih = taken w d ld v m (omega arith) in
       let u : World = run P O w (roundAll d m) in
-      let e : u .box m ≡ some (boxAt d m) = ih .1 .behind m (le-refl m) h in
+      let e : u .box m ≡ some (boxAt S D d m) = ih .1 .behind m (le-refl m) h in
       let a : after P O u (turn m (C .number d) (lentFor d m)) ≡ onward u (suc d) m = turn-after u d m ld h (ih .3) e (ih .2) in
-      let r : run P O w (roundAll d (suc m)) ≡ onward u (suc d) m = run-append w (roundAll d m) (turn m (C .number d) (lentFor d m) ∷ []) ∙ a in (
+      let r : run P O w (roundAll d (suc m)) ≡ onward u (suc d) m =
+      run-append w (roundAll d m) (turn m (C .number d) (lentFor d m) ∷ []) ∙ a in (
         fair-append w (roundAll d m) _ (ih .0) (turn-fair u d m ld h (ih .3) e, tt),
-        rw r (stage-next (suc d) m (λ b. some (boxAt d b)) u (ih .1)),
+        rw r (stage-next (suc d) m (λ b. some (boxAt S D d b)) u (ih .1)),
         rw r (clean-onward u (suc d) m ld (ih .2)),
         rw r (λ j lj. there (ih .3 j lj)),
       )
@@ -189,7 +204,8 @@ module _ {Args : Type 0} (S : Scene Args) (D : Duty S) (K : Cast S D) where
   clean-open zero h = tt
   clean-open (suc m) h =
       let w : World = run P O start (openAll m) in
-      let r : run P O start (openAll (suc m)) ≡ onward w 0 m = run-append start (openAll m) (opening m (K .args m) ∷ []) ∙ open-after w m h in
+      let r : run P O start (openAll (suc m)) ≡ onward w 0 m =
+      run-append start (openAll m) (opening m (K .args m) ∷ []) ∙ open-after w m h in
       subst Clean (sym r) (clean-onward w 0 m (omega arith) (clean-open m (omega arith)))
 
   level : (d : ℕ) → d ≤ C .steps → FairList S start (robin d) × Level d (run P O start (robin d))
@@ -200,7 +216,11 @@ module _ {Args : Type 0} (S : Scene Args) (D : Duty S) (K : Cast S D) where
       let ih = level d (omega arith) in
       let t = taken (run P O start (robin d)) d h (ih .1) n (le-refl n) in (
         fair-append start (robin d) (roundAll d n) (ih .0) (t .0),
-        rw (run-append start (robin d) (roundAll d n)) (record { stand = λ b lb. t .1 .ahead b lb; wrote = λ b lb. t .1 .wrote b lb; clean = t .2 }),
+        rw (run-append start (robin d) (roundAll d n)) (record {
+          stand = λ b lb. t .1 .ahead b lb;
+          wrote = λ b lb. t .1 .wrote b lb;
+          clean = t .2;
+        }),
       )
 
   -- the list in which all open and then take each round in turn is fair, and after it all boxes are done
@@ -209,5 +229,5 @@ module _ {Args : Type 0} (S : Scene Args) (D : Duty S) (K : Cast S D) where
 
   pub robin-done : (b : ℕ) → b < S .n → (x : Box) × (runs S (robin (S .course .steps)) .box b ≡ some x) × Done (S .protocol) (x .session)
   robin-done b lb =
-      let e : runs S (robin (C .steps)) .box b ≡ some (boxAt (C .steps) b) = level (C .steps) (le-refl (C .steps)) .1 .stand b lb in
-      (boxAt (C .steps) b, e, every-done S D (robin (C .steps)) fair-robin b (boxAt (C .steps) b) e .1 refl)
+      let e : runs S (robin (C .steps)) .box b ≡ some (boxAt S D (C .steps) b) = level (C .steps) (le-refl (C .steps)) .1 .stand b lb in
+      (boxAt S D (C .steps) b, e, every-done S D (robin (C .steps)) fair-robin b (boxAt S D (C .steps) b) e .1 refl)

@@ -14,7 +14,7 @@ use Rattle.lists.specs.Over.{cat, length-cat}
 use Rattle.lists.specs.Rows.{chunk, chunk-cat, cat-ext}
 use Rattle.lists.specs.All.{allOf, of-all, true-false}
 use Rattle.engine.specs.Step.{Frame, frame, Loan, Fault, none?, Protocol, other, orElse, byParty}
-use Rattle.engine.specs.StepLaws.{other-is, other-cases, or-none, by-none}
+use Rattle.engine.specs.StepLaws.{other-is, other-cases, or-none, or-first, by-none}
 use Rattle.engine.specs.World.{Course, sessionOf}
 use Rattle.engine.specs.Engine.{Joint, Valid, HonestRound}
 use Rattle.engine.specs.Area.{off, sec, putSec, length-putSec, sec-same, sec-other, toOthers, toOthers-ext, mem, Every, every-mem}
@@ -41,12 +41,42 @@ module _ (f : Frame) (h : ℕ → List ℕ) where
     unfolding rowsOf
     chunk-rows k l ne = chunk-cat 16 (f .n) _ each k l ∙ ap (λ b. pick b (h k) (replicate 16 0)) (other-is f k l ne)
 
+-- ---- what waits for an echo
+-- the fault that the call for a round found is what the call for its echo reports, unless the echo itself is at fault
+module _ (T : Table) (k : ℕ) (f : Frame) (w : List ℕ) (m : ℕ → List ℕ) where
+  pub held-waits : length w ≡ off (T .size f) (suc (suc (T .count))) → T .size f (T .count) ≡ 2 → T .size f (suc (T .count)) ≡ f .n * 16
+      → ((x : List ℕ) → length (T .recv k .digest f x) ≡ 16) → T .recv k .judge f w m .code ≢ 0
+      → pending T f (held T k f w m) ≡ T .recv k .judge f w m
+  unfolding pending held waits kept digests
+  held-waits h two rows len ne =
+      rw (ne-eqb (T .recv k .judge f w m .code) 0 ne)
+      (ap (λ (x : List ℕ). record { code = getD x 0 0; party = getD x 1 0 })
+      (sec-same (T .size f) (suc (suc (T .count))) v lv (T .count) (e .code ∷ e .party ∷ []) (omega arith) (sym two)))
+    where
+      e : Fault
+      e = T .recv k .judge f w m
+
+      v : List ℕ
+      v = putSec (T .size f) (suc (T .count)) (rowsOf f (λ j. T .recv k .digest f (m j))) w
+
+      lv : length v ≡ off (T .size f) (suc (suc (T .count)))
+      lv = length-putSec (T .size f) (suc (suc (T .count))) w h (suc (T .count)) _ (omega arith)
+          (length-rows f (λ j. T .recv k .digest f (m j)) (λ j lj nj. len (m j)) ∙ sym rows)
+
+  pub echo-then-waits : byParty f (λ j. T .echo .fault (f .n) (f .i) j (hashes T f w) (m j)) .code ≡ 0 → echoCheck T f w m ≡ pending T f w
+  unfolding echoCheck
+  echo-then-waits h = or-none _ _ h
+
+  pub echo-first : byParty f (λ j. T .echo .fault (f .n) (f .i) j (hashes T f w) (m j)) .code ≢ 0
+      → echoCheck T f w m ≡ byParty f (λ j. T .echo .fault (f .n) (f .i) j (hashes T f w) (m j))
+  unfolding echoCheck
+  echo-first h = or-first _ _ h
+
 -- ---- tests
-four : (a b c d : Bool) → (a && b && c && d) ≡ true → (a ≡ true) × (b ≡ true) × (c ≡ true) × (d ≡ true)
-four true true true d e = (refl, refl, refl, e)
-four true true false d e = absurd (true-false (sym e))
-four true false c d e = absurd (true-false (sym e))
-four false b c d e = absurd (true-false (sym e))
+three : (a b c : Bool) → (a && b && c) ≡ true → (a ≡ true) × (b ≡ true) × (c ≡ true)
+three true true c e = (refl, refl, e)
+three true false c e = absurd (true-false (sym e))
+three false b c e = absurd (true-false (sym e))
 
 two-of : (a b : Bool) → (a && b) ≡ true → (a ≡ true) × (b ≡ true)
 two-of true b e = (refl, e)
@@ -66,22 +96,19 @@ module _ (T : Table) (n l : ℕ) (W : Lawful T n l) where
   abbrev Single : ℕ → Bool
   Single k = not (isEcho T k && isEcho T (suc k))
 
-  order-is : (ltb 0 (T .last) ≡ true) × (not (isEcho T 1) ≡ true) × (not (isEcho T (T .last)) ≡ true) × (allOf (suc (T .last)) Single ≡ true)
+  order-is : (not (isEcho T 1) ≡ true) × (not (isEcho T (T .last)) ≡ true) × (allOf (suc (T .last)) Single ≡ true)
   unfolding orderTest
-  order-is = four (ltb 0 (T .last)) (not (isEcho T 1)) (not (isEcho T (T .last))) (allOf (suc (T .last)) Single) (W .order)
-
-  pub some-round : 0 < T .last
-  some-round = ltb-true _ _ (order-is .0)
+  order-is = three (not (isEcho T 1)) (not (isEcho T (T .last))) (allOf (suc (T .last)) Single) (W .order)
 
   pub first-plain : isEcho T 1 ≡ false
-  first-plain = not-true _ (order-is .1)
+  first-plain = not-true _ (order-is .0)
 
   pub last-plain : isEcho T (T .last) ≡ false
-  last-plain = not-true _ (order-is .2)
+  last-plain = not-true _ (order-is .1)
 
   pub no-two : (k : ℕ) → k ≤ T .last → isEcho T k ≡ true → isEcho T (suc k) ≡ false
   no-two k h e =
-      let t : not (isEcho T k && isEcho T (suc k)) ≡ true = of-all (suc (T .last)) Single (order-is .3) k (omega arith) in
+      let t : not (isEcho T k && isEcho T (suc k)) ≡ true = of-all (suc (T .last)) Single (order-is .2) k (omega arith) in
       not-true _ (rw e at t)
 
   -- an echo is not the last round
@@ -412,9 +439,9 @@ module _ (T : Table) (U : Script) (n l : ℕ) (W : Lawful T n l) where
       single = no-two T n l W (suc k) lk e
 
   -- for the last round
-  pub last-plainly : HonestLast T U n l (T .last) → Last (protocolOf T) n l (loansOf T U n l) (sheetOf T U n l) (T .last)
+  pub last-call : HonestLast T U n l (T .last) → Last (protocolOf T) n l (loansOf T U n l) (sheetOf T U n l) (T .last)
   unfolding nextOf writeOf
-  last-plainly H = record {
+  last-call H = record {
     pass = pass-plain (T .last) e (H .heard);
     to-is = rw (eq-eqb (T .last) (T .last) refl) refl;
     writes = λ v i li w K m M. rw (eq-eqb (T .last) (T .last) refl)
@@ -516,7 +543,7 @@ module _ (T : Table) (U : Script) (n l : ℕ) (W : Lawful T n l) where
 
     good-last : (k : ℕ) → suc k ≡ T .last → Good (suc k)
     good-last k e =
-        last P n l L S (λ i. refl) k (subst (Last P n l L S) (sym e) (last-plainly (H .last)))
+        last P n l L S (λ i. refl) k (subst (Last P n l L S) (sym e) (last-call (H .last)))
 
     good : (k : ℕ) → isRound T two k ≡ true → Good k
     unfolding isRound

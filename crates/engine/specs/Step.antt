@@ -128,11 +128,11 @@ unfoldable pub byParty : Frame → (ℕ → ℕ) → Fault
 byParty f c = scan (f .n) (λ k. pick (other f k) (c k) 0)
 
 -- 14, 13 or 6 of party k
-unfoldable pub formOf : Rule → Frame → Lent → ℕ → ℕ
-formOf R f q k = pick (gone q k) 14 (R .form f (part q k))
+unfoldable pub formFault : Rule → Frame → Lent → ℕ → ℕ
+formFault R f q k = pick (gone q k) 14 (R .form f (part q k))
 
 unfoldable pub faultOf : Rule → Frame → Lent → List ℕ → Fault
-faultOf R f q w = orElse (byParty f (formOf R f q)) (R .check f (q .loan) w (mask f (part q)))
+faultOf R f q w = orElse (byParty f (formFault R f q)) (R .check f (q .loan) w (mask f (part q)))
 
 -- ---- the call
 -- a session that is done or ended

@@ -1,18 +1,19 @@
 -- A round call by the case it falls into.
-use mathlib.Core.Path.{_≡_, refl, sym, ap, ap₂, _∙_, fun-ext}
+use mathlib.Core.Path.{_≡_, refl, sym, ap, ap₂, _∙_, subst, fun-ext}
 use mathlib.Core.Bool.{Bool, true, false, not, _&&_}
 use mathlib.Core.Logic.{_≢_}
 use mathlib.Core.List.{List, []}
 use Prim.Native.Nat.{ℕ, zero, suc, _+_, _<_, _≤_}
 use native.Mathlib.Nat.{le-refl}
+use native.Mathlib.Numerals.{add-one}
 use native.Mathlib.Omega.{arith}
 use lib.ListN.{length, getD, replicate}
 use lib.Dec.{ltb, leb, eqb}
-use borrow.Author.Tests.{ltb-true, eqb-true, eqb-false, eq-eqb, ne-eqb, lt-ltb, le-leb}
+use borrow.Author.Tests.{ltb-true, ltb-false, eqb-true, eqb-false, eq-eqb, ne-eqb, lt-ltb, le-leb}
 use Rattle.lists.specs.Pick.{pick, pick-else}
 use Rattle.lists.specs.All.{allOf, all-of}
-use Rattle.algebra.specs.Sum.{neq, neq-true, neq-self, same?, Same, same, apart}
-use Rattle.engine.specs.Step.{Frame, Session, Loan, Lent, Verdict, Accepted, Refused, Outcome, outcome, Fault, none?, Rule, Protocol, other, mask, gone, part, inside, partsIn, sizes, reasonOf, orElse, scan, byParty, formOf, faultOf, ended, refused, faulted, accepted, roundSpec}
+use Rattle.algebra.specs.Sum.{neq, neq-true, same?, Same, same, apart}
+use Rattle.engine.specs.Step.{Frame, Session, Loan, Lent, Verdict, Accepted, Refused, Outcome, outcome, Fault, none?, Rule, Protocol, other, mask, gone, part, inside, partsIn, sizes, reasonOf, orElse, scan, byParty, formFault, faultOf, ended, refused, faulted, accepted, roundSpec}
 
 -- ---- the three cases
 zero? : (n : ℕ) (A : Type 0) → (n ≢ 0 → A) → (n ≡ 0 → A) → A
@@ -100,10 +101,6 @@ pub other-is : (f : Frame) (j : ℕ) → j < f .n → f .i ≢ j → other f j �
 unfolding other
 other-is f j l ne = ap₂ _&&_ (neq-true (f .i) j ne) (lt-ltb j (f .n) l)
 
-pub other-own : (f : Frame) → other f (f .i) ≡ false
-unfolding other
-other-own f = ap (λ (b : Bool). b && ltb (f .i) (f .n)) (neq-self (f .i))
-
 -- a claim on every party is shown for another one, and for the rest
 pub other-cases : (f : Frame) (j : ℕ) (Q : Bool → Type 0) → (j < f .n → f .i ≢ j → Q true) → Q false → Q (other f j)
 unfolding other
@@ -139,6 +136,26 @@ scan-none (suc n) c h =
     ap (λ (e : Fault). e .code) (or-none (scan n c) (record { code = c n; party = n }) (scan-none n c (λ j l. h j (omega arith))))
     ∙ h n (le-refl (suc n))
 
+-- a loop that counts up and stops at the first fault
+pub scan-turn : (j : ℕ) (c : ℕ → ℕ) → scan j c .code ≡ 0 → c j ≡ 0 → scan (j + 1) c .code ≡ 0
+unfolding scan
+scan-turn j c h e = rw (add-one j) (ap (λ (x : Fault). x .code) (or-none (scan j c) (record { code = c j; party = j }) h) ∙ e)
+
+pub scan-first : (n j : ℕ) (c : ℕ → ℕ) → j < n → scan j c .code ≡ 0 → c j ≢ 0 → scan n c ≡ record { code = c j; party = j }
+unfolding scan
+scan-first zero j c l h e = absurd (omega arith)
+scan-first (suc n) j c l h e = go (ltb j n) refl (scan-first n j c)
+  where
+    go : (b : Bool) → ltb j n ≡ b → (j < n → scan j c .code ≡ 0 → c j ≢ 0 → scan n c ≡ record { code = c j; party = j })
+        → orElse (scan n c) (record { code = c n; party = n }) ≡ record { code = c j; party = j }
+    go true q ih =
+        let r : scan n c ≡ record { code = c j; party = j } = ih (ltb-true j n q) h e in
+        rw r (or-first (record { code = c j; party = j }) (record { code = c n; party = n }) e)
+    go false q ih =
+        let p : j ≡ n = omega (arith, ltb-false j n q) in
+        subst (λ i. orElse (scan i c) (record { code = c i; party = i }) ≡ record { code = c j; party = j }) p
+        (or-none (scan j c) (record { code = c j; party = j }) h)
+
 pub by-none : (f : Frame) (c : ℕ → ℕ) → ((k : ℕ) → k < f .n → f .i ≢ k → c k ≡ 0) → byParty f c .code ≡ 0
 unfolding byParty
 by-none f c h = scan-none (f .n) _ (λ k l. other-cases f k (λ b. pick b (c k) 0 ≡ 0) (λ l′ ne. h k l′ ne) refl)
@@ -147,11 +164,11 @@ by-none f c h = scan-none (f .n) _ (λ k l. other-cases f k (λ b. pick b (c k) 
 pub no-fault : (R : Rule) (f : Frame) (q : Lent) (w : List ℕ)
     → ((j : ℕ) → j < f .n → f .i ≢ j → (gone q j ≡ false) × (R .form f (part q j) ≡ 0))
     → R .check f (q .loan) w (mask f (part q)) .code ≡ 0 → faultOf R f q w .code ≡ 0
-unfolding faultOf formOf
+unfolding faultOf formFault
 no-fault R f q w h c =
     ap (λ (e : Fault). e .code)
-    (or-none (byParty f (formOf R f q)) (R .check f (q .loan) w (mask f (part q)))
-    (by-none f (formOf R f q) (λ j l ne. ap (λ b. pick b 14 (R .form f (part q j))) (h j l ne .0) ∙ h j l ne .1)))
+    (or-none (byParty f (formFault R f q)) (R .check f (q .loan) w (mask f (part q)))
+    (by-none f (formFault R f q) (λ j l ne. ap (λ b. pick b 14 (R .form f (part q j))) (h j l ne .0) ∙ h j l ne .1)))
     ∙ c
 
 -- ---- lengths
