@@ -5,17 +5,21 @@ use mathlib.Core.Bool.{Bool, true, false, cond}
 use mathlib.Core.Logic.{_≢_}
 use mathlib.Core.List.{List, [], _∷_}
 use mathlib.Core.Option.{Option, some, none}
-use Prim.Native.Nat.{ℕ, zero, suc, _+_, _<_, _≤_}
+use Prim.Native.Nat.{ℕ, zero, suc, _<_, _≤_}
 use native.Mathlib.Nat.{le-refl}
 use native.Mathlib.Omega.{arith}
-use lib.ListN.{length, getD, replicate}
+use lib.ListN.{length}
 use lib.Dec.{ltb}
 use borrow.Author.Tests.{ltb-true, ltb-false}
 use Rattle.lists.specs.All.{true-false}
-use Rattle.algebra.specs.Sum.{neq, same?, Same, same, apart}
-use Rattle.engine.specs.Step.{Frame, frame, Session, Loan, Lent, Verdict, Accepted, Refused, Outcome, outcome, Fault, Rule, Protocol, mask, gone, part, stretch, reasonOf, faultOf, accepted, roundSpec}
-use Rattle.engine.specs.StepLaws.{round-cases, Due, due-of, over-20, other-19, mask-ext, no-fault, round-accepts}
-use Rattle.engine.specs.World.{In, here, there, All, update, Opening, Box, Note, note, World, Call, opening, turn, start, logged, openedBox, turnedBox, turned, after, run, sessionOf, Course, Scene, sessionAt, reasonAfter, Reads, FairTurn, FairOpening, has-reason, its-own, Unopened, Fair, FairList, Answered, refused-it, accepted-it, RightTurn, Right, AllRight, Done, runs}
+use Rattle.algebra.specs.Sum.{neq, same?, Same, same}
+use Rattle.engine.specs.Step.{Frame, frame, Session, Loan, Lent, Verdict, Accepted, Refused, Outcome, outcome, Protocol, mask, part}
+use Rattle.engine.specs.Step.{stretch, reasonOf, faultOf, accepted, roundSpec}
+use Rattle.engine.specs.StepLaws.{round-cases, due-of, over-20, other-19, mask-ext, no-fault, round-accepts}
+use Rattle.engine.specs.World.{In, here, there, All, update, Box, Note, World, Call, opening, turn, start, logged, openedBox}
+use Rattle.engine.specs.World.{turnedBox, turned, after, run, Course, Scene, sessionAt, reasonAfter, Reads, FairTurn, FairOpening}
+use Rattle.engine.specs.World.{has-reason, its-own, Fair, FairList, Answered, refused-it, accepted-it, RightTurn, Right, AllRight}
+use Rattle.engine.specs.World.{Done, runs}
 
 -- all boxes in step: each one's work area, and the outgoing buffer of its last call
 pub record Joint : Type 0 where
@@ -226,8 +230,9 @@ module _ {Args : Type 0} (S : Scene Args) (D : Duty S) where
     where
       box-is : (x : Box) → Follows b x → x ≡ boxAt (x .rounds) b
       box-is x f =
-          ap₂ (λ s u. record { session = s; work = u; rounds = x .rounds; wrote = x .wrote }) (f .session) (f .work)
-          ∙ ap (λ o. record { session = sessionAt S b (x .rounds); work = ideal (x .rounds) .work b; rounds = x .rounds; wrote = o }) (f .wrote)
+          let d : ℕ = x .rounds in
+          ap₂ (λ s u. record { session = s; work = u; rounds = d; wrote = x .wrote }) (f .session) (f .work)
+          ∙ ap (λ o. record { session = sessionAt S b d; work = ideal d .work b; rounds = d; wrote = o }) (f .wrote)
 
   -- ---- any call
   turn-ok : (w : World) (b k : ℕ) (q : Lent) (o : Option Box) → Inv w → b < S .n → BoxOk b o → FairTurn S (w .log) b k q o
@@ -258,10 +263,13 @@ module _ {Args : Type 0} (S : Scene Args) (D : Duty S) where
       subst (Opened w b a) (sym (D .takes b a lb g .1)) (
         accepted-it (D .takes b a lb g .0) refl,
         record {
-          boxes = update-all BoxOk (w .box) b (some (boxAt 0 b)) (h .boxes) (lb, follows-at 0 b (omega arith) (λ e l. absurd (omega arith)));
+          boxes = update-all BoxOk (w .box) b (some (boxAt 0 b)) (h .boxes) (lb, first);
           notes = (refl, h .notes);
         },
       )
+    where
+      first : Follows b (boxAt 0 b)
+      first = follows-at 0 b (omega arith) (λ e l. absurd (omega arith))
 
   call-ok : (w : World) (c : Call Args) → Inv w → Fair S w c → Right S w c × Inv (after P (S .opens) w c)
   call-ok w (opening b a) h fair = opening-ok w b a h (fair .0) (fair .2)

@@ -9,7 +9,7 @@ use lib.Dec.{ltb, eqb}
 use Rattle.lists.specs.Pick.{pick}
 use Rattle.lists.specs.Rows.{chunk}
 use Rattle.lists.specs.All.{allOf}
-use Rattle.engine.specs.Step.{frame, Loan}
+use Rattle.engine.specs.Step.{frame, Loan, nothing}
 use Rattle.engine.specs.Area.{mem, Every}
 use Rattle.engine.specs.Sheet.{Store, Known, Sheet, Mail}
 use Rattle.engine.specs.Plain.{Echo, Table, rowsOf, isEcho, nextOf, isRound, numberOf, stepsOf, toEcho}
@@ -56,8 +56,9 @@ abbrev pub prior : ℕ → ℕ
 prior zero = zero
 prior (suc k) = k
 
--- loan k: what is lent with the call that makes round k's messages; ready t s, val t i s: the sections at moment t; sent k j r: what j sends to r for
--- round k; hashed k j: the hash of j's list, for a round with an echo; result i: what the last call of i writes
+-- What an honest run holds and sends. loan k: what is lent with the call that makes round k's messages; ready t s: section s holds its
+-- value at moment t; val t i s: that value, in box i; sent k j r: what j sends to r for round k; hashed k j: the hash of j's list, for
+-- a round with an echo; result i: what the last call of i writes
 pub record Script : Type 0 where
   pub loan : ℕ → Loan
   pub ready : ℕ → ℕ → Bool
@@ -87,7 +88,8 @@ module _ (T : Table) (U : Script) (n l : ℕ) where
     pub heard : Heard k
     pub keeps : Gets k (λ i w m. Known n l storeOf (before (plainAfter T k)) i (T .recv k .keep (frame n l i) w m))
     pub size : isEcho T (suc k) ≡ true → (j : ℕ) → j < n → length (U .hashed k j) ≡ 16
-    pub hashes : isEcho T (suc k) ≡ true → (i j : ℕ) → i < n → j < n → i ≢ j → T .recv k .digest (frame n l i) (U .sent k j i) ≡ U .hashed k j
+    pub hashes : isEcho T (suc k) ≡ true → (i j : ℕ) → i < n → j < n → i ≢ j
+        → T .recv k .digest (frame n l i) (U .sent k j i) ≡ U .hashed k j
 
   -- of every round but the first: what is kept before it is sent, and what is sent
   pub record HonestSend (k : ℕ) : Type 0 where
@@ -134,4 +136,4 @@ module _ (T : Table) (U : Script) (n l : ℕ) where
 
   -- what the call for round k is lent
   unfoldable pub loansOf : ℕ → Loan
-  loansOf k = pick (eqb k (T .last)) (record { r = []; perm = [] }) (pick (toEcho T (eqb n 2) k) (record { r = []; perm = [] }) (U .loan (nextOf T (eqb n 2) k)))
+  loansOf k = pick (eqb k (T .last)) nothing (pick (toEcho T (eqb n 2) k) nothing (U .loan (nextOf T (eqb n 2) k)))

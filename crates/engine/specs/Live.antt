@@ -1,10 +1,10 @@
 -- The premises can be met: all boxes open, and then each takes each round in turn. The list is fair, and all end done.
 use mathlib.Core.Path.{_≡_, refl, sym, ap, _∙_, subst}
-use mathlib.Core.Bool.{Bool, true, false, cond}
+use mathlib.Core.Bool.{Bool, true, false}
 use mathlib.Core.Logic.{_≢_}
 use mathlib.Core.List.{List, [], _∷_, _++_}
 use mathlib.Core.Option.{Option, some, none}
-use Prim.Native.Nat.{ℕ, zero, suc, _+_, _<_, _≤_}
+use Prim.Native.Nat.{ℕ, zero, suc, _<_, _≤_}
 use native.Mathlib.Nat.{le-refl}
 use native.Mathlib.Omega.{arith}
 use lib.ListN.{length, getD, replicate, length-replicate}
@@ -12,11 +12,12 @@ use lib.Dec.{ltb}
 use borrow.Author.Tests.{ltb-true, ltb-false}
 use Rattle.lists.specs.Over.{tab, length-tab, getD-tab, cat}
 use Rattle.lists.specs.Rows.{cat-inside, cat-part}
-use Rattle.algebra.specs.Sum.{neq, neq-true, neq-self}
-use Rattle.engine.specs.Step.{frame, Lent, Outcome, Protocol, gone, part, stretch, reasonOf}
+use Rattle.algebra.specs.Sum.{neq-true, neq-self}
+use Rattle.engine.specs.Step.{frame, Lent, Protocol, gone, part, stretch, reasonOf}
 use Rattle.engine.specs.StepLaws.{no-reason, sizes-hold}
-use Rattle.engine.specs.World.{In, here, there, All, update, Opening, Box, Note, note, World, Call, opening, turn, start, turned, after, run, runs, sessionAt, Scene, Course, Reads, its-own, Fair, FairList, Done}
-use Rattle.engine.specs.Engine.{Joint, HonestRound, Valid, Duty, ideal, holds, NoteOk, Before, boxAt, goes-on, every-done}
+use Rattle.engine.specs.World.{In, here, there, All, update, Opening, Box, Note, note, World, Call, opening, turn, start, turned}
+use Rattle.engine.specs.World.{after, run, runs, sessionAt, Scene, Course, Reads, its-own, Fair, FairList, Done}
+use Rattle.engine.specs.Engine.{Joint, Valid, Duty, ideal, holds, NoteOk, Before, boxAt, goes-on, every-done}
 
 update-same : {A : Type 0} (f : ℕ → A) (i : ℕ) (a : A) → update f i a i ≡ a
 update-same f i a = rw (neq-self i) refl
@@ -46,6 +47,9 @@ module _ {Args : Type 0} (S : Scene Args) (D : Duty S) (K : Cast S D) where
 
   abbrev on : ℕ → Joint
   on d = ideal S D d
+
+  abbrev at : ℕ → ℕ → Box
+  at d b = boxAt S D d b
 
   -- what is lent to box b for round d: everybody's messages to it, one after another
   abbrev pieces : ℕ → ℕ → ℕ → List ℕ
@@ -97,19 +101,19 @@ module _ {Args : Type 0} (S : Scene Args) (D : Duty S) (K : Cast S D) where
   noteAt d b = note b d (on d .out b)
 
   abbrev onward : World → ℕ → ℕ → World
-  onward w d b = record { box = update (w .box) b (some (boxAt S D d b)); log = noteAt d b ∷ w .log }
+  onward w d b = record { box = update (w .box) b (some (at d b)); log = noteAt d b ∷ w .log }
 
   -- the boxes below m stand at e, the others as `rest` says; what all wrote at d, and those below m at e, is in the log
   pub record Stage (e m : ℕ) (rest : ℕ → Option Box) (w : World) : Type 0 where
-    pub ahead : (b : ℕ) → b < m → w .box b ≡ some (boxAt S D e b)
+    pub ahead : (b : ℕ) → b < m → w .box b ≡ some (at e b)
     pub behind : (b : ℕ) → m ≤ b → b < n → w .box b ≡ rest b
     pub wrote : (b : ℕ) → b < m → In (noteAt e b) (w .log)
 
   stage-next : (e m : ℕ) (rest : ℕ → Option Box) (w : World) → Stage e m rest w → Stage e (suc m) rest (onward w e m)
   stage-next e m rest w s = record {
-    ahead = λ b h. split b h (λ i. update (w .box) m (some (boxAt S D e m)) i ≡ some (boxAt S D e i)) (update-same (w .box) m (some (boxAt S D e m)))
-        (λ h′. update-other (w .box) m b (some (boxAt S D e m)) (λ q. omega arith) ∙ s .ahead b h′);
-    behind = λ b h h′. update-other (w .box) m b (some (boxAt S D e m)) (λ q. omega arith) ∙ s .behind b (omega arith) h′;
+    ahead = λ b h. split b h (λ i. update (w .box) m (some (at e m)) i ≡ some (at e i)) (update-same (w .box) m (some (at e m)))
+        (λ h′. update-other (w .box) m b (some (at e m)) (λ q. omega arith) ∙ s .ahead b h′);
+    behind = λ b h h′. update-other (w .box) m b (some (at e m)) (λ q. omega arith) ∙ s .behind b (omega arith) h′;
     wrote = λ b h. split b h (λ i. In (noteAt e i) (noteAt e m ∷ w .log)) here (λ h′. there (s .wrote b h′));
   }
     where
@@ -158,10 +162,10 @@ module _ {Args : Type 0} (S : Scene Args) (D : Duty S) (K : Cast S D) where
         long : length (on d .work b) ≡ P .workLen (frame n (S .l) b)
         long = D .rounds d ld .sized (on d) (holds S D d (omega arith) (λ e le. K .valid e (omega arith))) b lb
 
-    turn-fair : w .box b ≡ some (boxAt S D d b) → Fair S w (turn b (C .number d) (lentFor d b))
+    turn-fair : w .box b ≡ some (at d b) → Fair S w (turn b (C .number d) (lentFor d b))
     turn-fair e = (lb, rw e (λ z. (reads, K .agree d ld)))
 
-    turn-after : w .box b ≡ some (boxAt S D d b) → Clean w → after P O w (turn b (C .number d) (lentFor d b)) ≡ onward w (suc d) b
+    turn-after : w .box b ≡ some (at d b) → Clean w → after P O w (turn b (C .number d) (lentFor d b)) ≡ onward w (suc d) b
     turn-after e c =
         ap (turned P w b (C .number d) (lentFor d b)) e
         ∙ rw (goes-on S D b (C .number d) d (lentFor d b) (w .log) B reads (K .agree d ld) reason-none) refl
@@ -174,12 +178,12 @@ module _ {Args : Type 0} (S : Scene Args) (D : Duty S) (K : Cast S D) where
 
   -- all boxes stand at d
   pub record Level (d : ℕ) (w : World) : Type 0 where
-    pub stand : (b : ℕ) → b < n → w .box b ≡ some (boxAt S D d b)
+    pub stand : (b : ℕ) → b < n → w .box b ≡ some (at d b)
     pub wrote : (b : ℕ) → b < n → In (noteAt d b) (w .log)
     pub clean : Clean w
 
   taken : (w : World) (d : ℕ) → d < C .steps → Level d w → (m : ℕ) → m ≤ n
-      → FairList S w (roundAll d m) × Stage (suc d) m (λ b. some (boxAt S D d b)) (run P O w (roundAll d m))
+      → FairList S w (roundAll d m) × Stage (suc d) m (λ b. some (at d b)) (run P O w (roundAll d m))
       × Clean (run P O w (roundAll d m)) × ((j : ℕ) → j < n → In (noteAt d j) (run P O w (roundAll d m) .log))
   taken w d ld v zero h = (
     tt,
@@ -190,12 +194,12 @@ module _ {Args : Type 0} (S : Scene Args) (D : Duty S) (K : Cast S D) where
   taken w d ld v (suc m) h =
       let ih = taken w d ld v m (omega arith) in
       let u : World = run P O w (roundAll d m) in
-      let e : u .box m ≡ some (boxAt S D d m) = ih .1 .behind m (le-refl m) h in
+      let e : u .box m ≡ some (at d m) = ih .1 .behind m (le-refl m) h in
       let a : after P O u (turn m (C .number d) (lentFor d m)) ≡ onward u (suc d) m = turn-after u d m ld h (ih .3) e (ih .2) in
       let r : run P O w (roundAll d (suc m)) ≡ onward u (suc d) m =
       run-append w (roundAll d m) (turn m (C .number d) (lentFor d m) ∷ []) ∙ a in (
         fair-append w (roundAll d m) _ (ih .0) (turn-fair u d m ld h (ih .3) e, tt),
-        rw r (stage-next (suc d) m (λ b. some (boxAt S D d b)) u (ih .1)),
+        rw r (stage-next (suc d) m (λ b. some (at d b)) u (ih .1)),
         rw r (clean-onward u (suc d) m ld (ih .2)),
         rw r (λ j lj. there (ih .3 j lj)),
       )
@@ -229,5 +233,5 @@ module _ {Args : Type 0} (S : Scene Args) (D : Duty S) (K : Cast S D) where
 
   pub robin-done : (b : ℕ) → b < S .n → (x : Box) × (runs S (robin (S .course .steps)) .box b ≡ some x) × Done (S .protocol) (x .session)
   robin-done b lb =
-      let e : runs S (robin (C .steps)) .box b ≡ some (boxAt S D (C .steps) b) = level (C .steps) (le-refl (C .steps)) .1 .stand b lb in
-      (boxAt S D (C .steps) b, e, every-done S D (robin (C .steps)) fair-robin b (boxAt S D (C .steps) b) e .1 refl)
+      let e : runs S (robin (C .steps)) .box b ≡ some (at (C .steps) b) = level (C .steps) (le-refl (C .steps)) .1 .stand b lb in
+      (at (C .steps) b, e, every-done S D (robin (C .steps)) fair-robin b (at (C .steps) b) e .1 refl)

@@ -1,6 +1,7 @@
--- The rounds of document 01 have one shape, and a table of them gives the Protocol: the call for a round judges and keeps what was received, and then
--- makes the messages of the next. Where n > 2 and the next round is an echo, the call keeps what it has against the messages, and echoes; the call for the
--- echo checks it, then reports what was kept, and then makes the next messages. That is what the Rust does between two receives.
+-- The rounds of document 01 have one shape, and a table of them gives the Protocol: the call for a round judges and keeps what was
+-- received, and makes the messages of the next round. Where n > 2 and the next round is an echo, the call only notes the fault that it
+-- found, and echoes; the call for the echo checks it, then reports that fault, and then makes the next messages. This is what the Rust
+-- does between two receives.
 use mathlib.Core.Bool.{Bool, not, _&&_}
 use mathlib.Core.List.{List, [], _∷_}
 use Prim.Native.Nat.{ℕ, zero, suc, _-_, _*_}
@@ -8,12 +9,12 @@ use lib.ListN.{length, getD, replicate}
 use lib.Dec.{ltb, leb, eqb}
 use Rattle.lists.specs.Pick.{pick}
 use Rattle.lists.specs.Over.{cat}
-use Rattle.engine.specs.Step.{Frame, Session, Loan, Fault, none?, Rule, Protocol, other, orElse, byParty}
+use Rattle.engine.specs.Step.{Frame, Loan, Fault, none?, Rule, Protocol, other, orElse, byParty}
 use Rattle.engine.specs.Area.{off, sec, putSec, toOthers, mem}
 
 -- ---- what a round gives
--- What is done with its messages. form: 13 or 6 of one message, or 0; judge: the content; keep: the work area afterwards; digest: the 16 bytes of
--- `hash_vec` of the list in a message, asked of rounds that have an echo
+-- What is done with its messages. form: 13 or 6 of one message, or 0; judge: the content; keep: the work area afterwards; digest: the
+-- 16 bytes of `hash_vec` of the list in a message, for a round that has an echo
 pub record Recv : Type 0 where
   pub form : Frame → List ℕ → ℕ
   pub judge : Frame → List ℕ → (ℕ → List ℕ) → Fault
@@ -37,8 +38,9 @@ pub record Echo : Type 0 where
   pub fault : ℕ → ℕ → ℕ → List ℕ → List ℕ → ℕ
 
 -- ---- the table of the rounds
--- fine: n, i, l in opening's ranges; last: the last round; echoes: the rounds that are echoes; count, size: the sections of the work area. Two more stand
--- behind the `count` that the rounds use: `pending`, 2 bytes, and `hashes`, n rows of 16. resultLen, result: what the last call writes
+-- fine: n, i, l in opening's ranges; last: the last round; echoes: the rounds that are echoes; count, size: the sections of the work
+-- area. Two more stand behind the `count` that the rounds use: section count, of 2 bytes, for a fault that waits for an echo, and section
+-- count + 1, n rows of 16 bytes, for the hashes. resultLen, result: what the last call writes
 pub record Table : Type 0 where
   pub fine : Frame → Bool
   pub last : ℕ
@@ -69,6 +71,7 @@ kept e w w′ = pick (eqb (e .code) 0) w′ w
 
 module _ (T : Table) where
   -- ---- the order of the rounds; two: n = 2
+  -- round k is an echo
   unfoldable pub isEcho : ℕ → Bool
   isEcho k = mem k (T .echoes)
 
@@ -94,15 +97,19 @@ module _ (T : Table) where
   toEcho two k = not two && isEcho (suc k)
 
   -- ---- lengths, and what is lent
+  -- a message of round k
   unfoldable pub lenOf : ℕ → ℕ → ℕ → ℕ
   lenOf n l k = pick (isEcho k) (T .echo .len n) (T .send k .len n l)
 
+  -- "The outgoing buffer holds just the messages that call writes .. or the results"
   unfoldable pub outLenOf : ℕ → Frame → ℕ
   outLenOf k f = pick (eqb k (T .last)) (T .resultLen f) ((f .n - 1) * lenOf (f .n) (f .l) (nextOf (eqb (f .n) 2) k))
 
+  -- what the call for round k is lent, as the messages that it makes ask for
   unfoldable pub lentOf : ℕ → ℕ → ℕ → Loan → ℕ
   lentOf k n l q = pick (eqb k (T .last)) (noLoan q) (pick (toEcho (eqb n 2) k) (noLoan q) (T .send (nextOf (eqb n 2) k) .lent n l q))
 
+  -- 13 or 6 of a message of round k
   unfoldable pub formOf : ℕ → Frame → List ℕ → ℕ
   formOf k f m = pick (isEcho k) (T .echo .form (f .n) m) (T .recv k .form f m)
 
@@ -111,6 +118,7 @@ module _ (T : Table) where
   unfoldable pub pending : Frame → List ℕ → Fault
   pending f w = record { code = getD (sec (T .size f) (T .count) w) 0 0; party = getD (sec (T .size f) (T .count) w) 1 0 }
 
+  -- the hashes of the lists that the echo is about
   unfoldable pub hashes : Frame → List ℕ → List ℕ
   hashes f w = sec (T .size f) (suc (T .count)) w
 
@@ -123,6 +131,7 @@ module _ (T : Table) where
   unfoldable pub echoCheck : Frame → List ℕ → (ℕ → List ℕ) → Fault
   echoCheck f w m = orElse (byParty f (λ j. T .echo .fault (f .n) (f .i) j (hashes f w) (m j))) (pending f w)
 
+  -- a call that writes an echo has no fault by content: its echo's call reports it
   unfoldable pub checkOf : ℕ → Frame → List ℕ → (ℕ → List ℕ) → Fault
   checkOf k f w m = pick (isEcho k) (echoCheck f w m) (pick (toEcho (eqb (f .n) 2) k) none? (T .recv k .judge f w m))
 
@@ -143,13 +152,16 @@ module _ (T : Table) where
   unfoldable pub keepOf : ℕ → Frame → Loan → List ℕ → (ℕ → List ℕ) → List ℕ
   keepOf k f q w m = pick (eqb k (T .last)) (replicate (length w) 0) (pick (toEcho (eqb (f .n) 2) k) (held k f w m) (made k f q w m))
 
+  -- the results, an echo, or the messages of the next plain round
   unfoldable pub writeOf : ℕ → Frame → Loan → List ℕ → (ℕ → List ℕ) → List ℕ
   writeOf k f q w m =
       pick (eqb k (T .last)) (T .result f w m)
       (toOthers (f .n) (f .i)
-      (pick (toEcho (eqb (f .n) 2) k) (T .echo .write (f .n) (f .i) (digests k f m)) (T .send (nextOf (eqb (f .n) 2) k) .write f q (made k f q w m))))
+      (pick (toEcho (eqb (f .n) 2) k) (T .echo .write (f .n) (f .i) (digests k f m))
+      (T .send (nextOf (eqb (f .n) 2) k) .write f q (made k f q w m))))
 
   -- ---- the protocol
+  -- the call for round k
   abbrev pub ruleOf : ℕ → Rule
   ruleOf k = record {
     outLen = outLenOf k;
@@ -160,6 +172,7 @@ module _ (T : Table) where
     write = writeOf k;
   }
 
+  -- "19 a call for another round than the one due. 20 the session is done or ended"; a session that opening can't have made counts as ended
   abbrev pub protocolOf : Protocol
   protocolOf = record {
     alive = λ s. T .fine (s .party) && isRound (eqb (s .party .n) 2) (s .due);

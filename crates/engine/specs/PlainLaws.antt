@@ -3,31 +3,34 @@ use mathlib.Core.Path.{_≡_, refl, sym, ap, ap₂, _∙_, subst}
 use mathlib.Core.Bool.{Bool, true, false, not, _&&_}
 use mathlib.Core.Logic.{_≢_}
 use mathlib.Core.List.{List, [], _∷_}
-use Prim.Native.Nat.{ℕ, zero, suc, _+_, _-_, _*_, _<_, _≤_}
+use Prim.Native.Nat.{ℕ, zero, suc, _*_, _<_, _≤_}
 use native.Mathlib.Nat.{le-refl}
 use native.Mathlib.Omega.{arith}
 use lib.ListN.{length, getD, replicate, length-replicate}
 use lib.Dec.{ltb, leb, eqb}
 use borrow.Author.Tests.{ltb-true, ltb-false, lt-ltb, le-ltb, eqb-true, eqb-false, eq-eqb, ne-eqb, leb-true}
 use Rattle.lists.specs.Pick.{pick}
-use Rattle.lists.specs.Over.{cat, length-cat}
+use Rattle.lists.specs.Over.{length-cat}
 use Rattle.lists.specs.Rows.{chunk, chunk-cat, cat-ext}
 use Rattle.lists.specs.All.{allOf, of-all, true-false}
-use Rattle.engine.specs.Step.{Frame, frame, Loan, Fault, none?, Protocol, other, orElse, byParty}
+use Rattle.engine.specs.Step.{Frame, frame, Loan, Fault, none?, Protocol, other, byParty}
 use Rattle.engine.specs.StepLaws.{other-is, other-cases, or-none, or-first, by-none}
 use Rattle.engine.specs.World.{Course, sessionOf}
 use Rattle.engine.specs.Engine.{Joint, Valid, HonestRound}
-use Rattle.engine.specs.Area.{off, sec, putSec, length-putSec, sec-same, sec-other, toOthers, toOthers-ext, mem, Every, every-mem}
-use Rattle.engine.specs.Sheet.{Store, Known, Sheet, Mail, Passes, Middle, Last, Holds, middle, last}
-use Rattle.engine.specs.Honest.{EchoLaws, orderTest, courseTest, Lawful, before, due, prior, Script, storeOf, plainAfter, Gets, Heard, HonestRecv, HonestSend, HonestLast, Honest, momentOf, readyOf, valOf, sentOf, sheetOf, loansOf}
-use Rattle.engine.specs.Plain.{Recv, Send, Echo, Table, noLoan, rowsOf, isEcho, nextOf, isRound, numberOf, stepsOf, toEcho, lenOf, lentOf, formOf, pending, hashes, digests, echoCheck, checkOf, waits, kept, held, made, keepOf, writeOf, ruleOf, protocolOf}
+use Rattle.engine.specs.Area.{off, sec, putSec, length-putSec, sec-same, sec-other, toOthers, toOthers-ext, mem, every-mem}
+use Rattle.engine.specs.Sheet.{Known, Sheet, Mail, Passes, Middle, Last, Holds, middle, last}
+use Rattle.engine.specs.Honest.{orderTest, courseTest, Lawful, before, due, prior, Script, storeOf, plainAfter, Heard, HonestRecv}
+use Rattle.engine.specs.Honest.{HonestSend, HonestLast, Honest, momentOf, readyOf, valOf, sentOf, sheetOf, loansOf}
+use Rattle.engine.specs.Plain.{Table, rowsOf, isEcho, nextOf, isRound, numberOf, stepsOf, toEcho, lenOf, lentOf, formOf, pending}
+use Rattle.engine.specs.Plain.{hashes, digests, echoCheck, checkOf, waits, kept, held, made, keepOf, writeOf, protocolOf}
 
 -- ---- rows of 16 bytes
 module _ (f : Frame) (h : ℕ → List ℕ) where
   pub rows-ext : (h′ : ℕ → List ℕ) → ((k : ℕ) → k < f .n → f .i ≢ k → h k ≡ h′ k) → rowsOf f h ≡ rowsOf f h′
   unfolding rowsOf
   rows-ext h′ e =
-      cat-ext (f .n) _ _ (λ k l. other-cases f k (λ b. pick b (h k) (replicate 16 0) ≡ pick b (h′ k) (replicate 16 0)) (λ l′ ne. e k l′ ne) refl)
+      cat-ext (f .n) _ _ (λ k l. other-cases f k (λ b. pick b (h k) (replicate 16 0) ≡ pick b (h′ k) (replicate 16 0))
+      (λ l′ ne. e k l′ ne) refl)
 
   module _ (len : (k : ℕ) → k < f .n → f .i ≢ k → length (h k) ≡ 16) where
     each : (k : ℕ) → k < f .n → length (pick (other f k) (h k) (replicate 16 0)) ≡ 16
@@ -123,6 +126,15 @@ module _ (T : Table) (n l : ℕ) (W : Lawful T n l) where
   unfolding nextOf
   next-on two k ne e = rw (ne-eqb k (T .last) ne, e) refl
 
+  -- two boxes pass the echoes over, more take each
+  pub two-skip : (k : ℕ) → toEcho T true k ≡ false
+  unfolding toEcho
+  two-skip k = refl
+
+  pub more-echo : (k : ℕ) → toEcho T false k ≡ isEcho T (suc k)
+  unfolding toEcho
+  more-echo k = refl
+
   pub next-echo : (two : Bool) (k : ℕ) → k ≢ T .last → toEcho T two k ≡ true → (nextOf T two k ≡ suc k) × (isEcho T (suc k) ≡ true)
   unfolding toEcho
   next-echo two k ne q = go two refl (isEcho T (suc k)) refl q
@@ -177,8 +189,11 @@ module _ (T : Table) (U : Script) (n l : ℕ) (W : Lawful T n l) where
       h′ : Own (momentOf T U n l k) i w
       h′ = subst (λ t. Own t i w) (sym (moment-plain k e)) h
 
-      go : (s : ℕ) (b : Bool) → ltb s (T .count) ≡ b → pick b (U .ready (momentOf T U n l k) s) (isEcho T k) ≡ true
-          → sec (T .size (frame n l i)) s w ≡ pick b (U .val (momentOf T U n l k) i s) (pick (eqb s (T .count)) (0 ∷ 0 ∷ []) (rows (prior k) i))
+      t : ℕ
+      t = momentOf T U n l k
+
+      go : (s : ℕ) (b : Bool) → ltb s (T .count) ≡ b → pick b (U .ready t s) (isEcho T k) ≡ true
+          → sec (T .size (frame n l i)) s w ≡ pick b (U .val t i s) (pick (eqb s (T .count)) (0 ∷ 0 ∷ []) (rows (prior k) i))
       go s true q r = h′ .has s (ltb-true s (T .count) q) r
       go s false q r = absurd (true-false (sym r ∙ e))
 
@@ -190,7 +205,8 @@ module _ (T : Table) (U : Script) (n l : ℕ) (W : Lawful T n l) where
     rows-len : length (rows k i) ≡ size (suc (T .count))
     rows-len = length-rows (frame n l i) (U .hashed k) (λ j lj ne. len j lj) ∙ sym (W .size-hashes i)
 
-    to-held : (w : List ℕ) → Own (before (suc (suc k))) i w → Is (suc k) i (putSec size (T .count) (0 ∷ 0 ∷ []) (putSec size (suc (T .count)) (rows k i) w))
+    to-held : (w : List ℕ) → Own (before (suc (suc k))) i w
+        → Is (suc k) i (putSec size (T .count) (0 ∷ 0 ∷ []) (putSec size (suc (T .count)) (rows k i) w))
     unfolding readyOf valOf
     to-held w h = record {
       long = length-putSec size all v lv (T .count) (0 ∷ 0 ∷ []) (omega arith) two;
@@ -216,15 +232,21 @@ module _ (T : Table) (U : Script) (n l : ℕ) (W : Lawful T n l) where
         u = putSec size (T .count) (0 ∷ 0 ∷ []) v
 
         -- which of the two
-        which : (s : ℕ) → s < all → (b : Bool) → eqb s (T .count) ≡ b → ltb s (T .count) ≡ false → sec size s u ≡ pick b (0 ∷ 0 ∷ []) (rows k i)
-        which s ls true q f = subst (λ t. sec size t u ≡ 0 ∷ 0 ∷ []) (sym (eqb-true s (T .count) q)) (sec-same size all v lv (T .count) (0 ∷ 0 ∷ []) (omega arith) two)
+        which : (s : ℕ) → s < all → (b : Bool) → eqb s (T .count) ≡ b → ltb s (T .count) ≡ false
+            → sec size s u ≡ pick b (0 ∷ 0 ∷ []) (rows k i)
+        which s ls true q f =
+            subst (λ t. sec size t u ≡ 0 ∷ 0 ∷ []) (sym (eqb-true s (T .count) q))
+            (sec-same size all v lv (T .count) (0 ∷ 0 ∷ []) (omega arith) two)
         which s ls false q f =
             let p : suc (T .count) ≡ s = omega (arith, eqb-false s (T .count) q, ltb-false s (T .count) f) in
             sec-other size all v lv s (T .count) (0 ∷ 0 ∷ []) (omega arith) (eqb-false s (T .count) q) two
             ∙ subst (λ t. sec size t v ≡ rows k i) p (sec-same size all w (h .long) (suc (T .count)) (rows k i) (omega arith) rows-len)
 
-        go : (s : ℕ) → s < all → (b : Bool) → ltb s (T .count) ≡ b → pick b (U .ready (momentOf T U n l (suc k)) s) (isEcho T (suc k)) ≡ true
-            → sec size s u ≡ pick b (U .val (momentOf T U n l (suc k)) i s) (pick (eqb s (T .count)) (0 ∷ 0 ∷ []) (rows k i))
+        t : ℕ
+        t = momentOf T U n l (suc k)
+
+        go : (s : ℕ) → s < all → (b : Bool) → ltb s (T .count) ≡ b → pick b (U .ready t s) (isEcho T (suc k)) ≡ true
+            → sec size s u ≡ pick b (U .val t i s) (pick (eqb s (T .count)) (0 ∷ 0 ∷ []) (rows k i))
         go s ls true q r =
             let ls′ : s < T .count = ltb-true s (T .count) q in
             sec-other size all v lv s (T .count) (0 ∷ 0 ∷ []) (omega arith) (λ p. omega arith) two
@@ -353,7 +375,6 @@ module _ (T : Table) (U : Script) (n l : ℕ) (W : Lawful T n l) where
             → Own (due (suc to)) i (area i w m)
         next v i li w K m M = H .keeps (sym lent-made ∙ v) i li (got i w m) (G i li w K m M)
 
-
   -- what comes after a plain round whose call writes no echo
   next-plain : (k : ℕ) → k < T .last → toEcho T two k ≡ false → (nextOf T two k ≡ plainAfter T k) × (isEcho T (plainAfter T k) ≡ false)
   unfolding plainAfter toEcho
@@ -410,15 +431,18 @@ module _ (T : Table) (U : Script) (n l : ℕ) (W : Lawful T n l) where
       area i li w K m M =
           subst (λ t. Own (before t) i (T .recv k .keep (frame n l i) w m)) after (R .keeps i li w (own i w K) m (mail-plain k i m e M))
 
-      clean : (i : ℕ) → i < n → (w : List ℕ) → Is k i w → (m : ℕ → List ℕ) → Mails k i m → eqb (T .recv k .judge (frame n l i) w m .code) 0 ≡ true
+      clean : (i : ℕ) → i < n → (w : List ℕ) → Is k i w → (m : ℕ → List ℕ) → Mails k i m
+          → eqb (T .recv k .judge (frame n l i) w m .code) 0 ≡ true
       clean i li w K m M = eq-eqb _ 0 (R .heard .judged i li w (own i w K) m (mail-plain k i m e M))
 
       keep-is : (i : ℕ) → i < n → (w : List ℕ) → Is k i w → (m : ℕ → List ℕ) → Mails k i m
-          → keepOf T k (frame n l i) (L k) w m
-          ≡ putSec (T .size (frame n l i)) (T .count) (0 ∷ 0 ∷ []) (putSec (T .size (frame n l i)) (suc (T .count)) (rows k i) (T .recv k .keep (frame n l i) w m))
+          → (let f : Frame = frame n l i in
+          keepOf T k f (L k) w m
+          ≡ putSec (T .size f) (T .count) (0 ∷ 0 ∷ []) (putSec (T .size f) (suc (T .count)) (rows k i) (T .recv k .keep f w m)))
       keep-is i li w K m M = unfold keepOf held waits kept in rw (ne-eqb k (T .last) ne, q, clean i li w K m M, digests-are i li m M) refl
 
-      write-is : (i : ℕ) (w : List ℕ) (m : ℕ → List ℕ) → writeOf T k (frame n l i) (L k) w m ≡ toOthers n i (T .echo .write n i (digests T k (frame n l i) m))
+      write-is : (i : ℕ) (w : List ℕ) (m : ℕ → List ℕ)
+          → writeOf T k (frame n l i) (L k) w m ≡ toOthers n i (T .echo .write n i (digests T k (frame n l i) m))
       write-is i w m = unfold writeOf in rw (ne-eqb k (T .last) ne, q) refl
 
       sent-is : (i : ℕ) → toOthers n i (T .echo .write n i (rows k i)) ≡ toOthers n i (sentOf T U n l (suc k) i)
@@ -452,9 +476,12 @@ module _ (T : Table) (U : Script) (n l : ℕ) (W : Lawful T n l) where
       e = last-plain T n l W
 
   -- ---- THE WHOLE SESSION
-  course-is : (allOf (stepsOf T two) (λ d. isRound T two (numberOf T two d)) ≡ true) × (eqb (numberOf T two (stepsOf T two)) 0 ≡ true)
+  abbrev counts : Bool
+  counts = allOf (stepsOf T two) (λ d. isRound T two (numberOf T two d))
+
+  course-is : (counts ≡ true) × (eqb (numberOf T two (stepsOf T two)) 0 ≡ true)
   unfolding courseTest
-  course-is = two-of (allOf (stepsOf T two) (λ d. isRound T two (numberOf T two d))) (eqb (numberOf T two (stepsOf T two)) 0) (W .course two)
+  course-is = two-of counts (eqb (numberOf T two (stepsOf T two)) 0) (W .course two)
 
   round-at : (d : ℕ) → d < stepsOf T two → isRound T two (numberOf T two d) ≡ true
   round-at d h = of-all (stepsOf T two) (λ d. isRound T two (numberOf T two d)) (course-is .0) d h
@@ -563,5 +590,7 @@ module _ (T : Table) (U : Script) (n l : ℕ) (W : Lawful T n l) where
 
     -- what the engine asks of the rounds
     pub honest-rounds : (d : ℕ) → d < stepsOf T (eqb n 2)
-        → HonestRound (protocolOf T) n l (loansOf T U n l) (Holds (protocolOf T) n l (loansOf T U n l) (sheetOf T U n l)) (numberOf T (eqb n 2) d)
+        → (let P : Protocol = protocolOf T in
+        let L : ℕ → Loan = loansOf T U n l in
+        HonestRound P n l L (Holds P n l L (sheetOf T U n l)) (numberOf T (eqb n 2) d))
     honest-rounds d h = good (numberOf T two d) (round-at d h)

@@ -1,5 +1,6 @@
--- The sheet of a session: what each section of each box's work area holds, and what each box sends to each, when each round is due. A round is then
--- shown honest box by box: from a work area and messages that are as the sheet says, it passes, and leaves and writes what the sheet says next.
+-- The sheet of a session: what each section of each box's work area holds, and what each box sends to each, when each round is due. A
+-- round is then shown honest box by box: from a work area and messages that are as the sheet says, it passes, and leaves and writes what
+-- the sheet says next.
 use mathlib.Core.Path.{_≡_, refl, sym, ap, _∙_, subst}
 use mathlib.Core.Bool.{Bool, true, false}
 use mathlib.Core.Logic.{_≢_}
@@ -12,10 +13,11 @@ use borrow.Author.Tests.{eqb-true, eqb-false, eq-eqb}
 use Rattle.lists.specs.Pick.{pick}
 use Rattle.lists.specs.Over.{cat}
 use Rattle.lists.specs.All.{allOf, of-all}
-use Rattle.engine.specs.Step.{Frame, frame, Loan, Fault, Rule, Protocol, mask, stretch}
+use Rattle.engine.specs.Step.{Frame, frame, Loan, Protocol, stretch}
 use Rattle.engine.specs.StepLaws.{mask-at}
 use Rattle.engine.specs.Engine.{Joint, mailOf, together, Valid, HonestRound}
-use Rattle.engine.specs.Area.{off, sec, putSec, length-putSec, sec-same, sec-other, length-lay, sec-lay, toOthers, stretch-toOthers, mem, Every, every-mem}
+use Rattle.engine.specs.Area.{off, sec, putSec, length-putSec, sec-same, sec-other, length-lay, sec-lay, toOthers, stretch-toOthers}
+use Rattle.engine.specs.Area.{mem, Every, every-mem}
 
 -- ---- sections written one after another
 -- the sections of a list filled, each with v of it; the first of the list last
@@ -69,7 +71,8 @@ module _ (size : ℕ → ℕ) (total : ℕ) (v : ℕ → List ℕ) (w : List ℕ
       go false e ih = sec-other size total u lu s t (v t) (f t (mem-head t ts) .0) (eqb-false s t e) (fit .1) ∙ ih
 
 -- ---- what the sections hold
--- total, size: the sections; of the first `count` of them, ready t s: section s holds its value at moment t; val t i s: that value, in box i
+-- total, size: the sections; of the first `count` of them, ready t s: section s holds its value at moment t; val t i s: that value, in
+-- box i
 pub record Store : Type 0 where
   pub total : ℕ
   pub count : ℕ
@@ -86,7 +89,8 @@ module _ (n l : ℕ) (C : Store) where
   -- from moment t to moment u the sections of a list are filled, and the others stay
   pub record Fills (t u : ℕ) (fills : List ℕ) : Type 0 where
     pub fits : (i s : ℕ) → i < n → mem s fills ≡ true → (s < C .count) × (length (C .val u i s) ≡ C .size (frame n l i) s)
-    pub stays : (i s : ℕ) → i < n → s < C .count → mem s fills ≡ false → C .ready u s ≡ true → (C .ready t s ≡ true) × (C .val t i s ≡ C .val u i s)
+    pub stays : (i s : ℕ) → i < n → s < C .count → mem s fills ≡ false → C .ready u s ≡ true
+        → (C .ready t s ≡ true) × (C .val t i s ≡ C .val u i s)
 
   pub filled : C .count ≤ C .total → (t u : ℕ) (fills : List ℕ) → Fills t u fills → (i : ℕ) → i < n → (w : List ℕ) → Known t i w
       → Known u i (putAll (C .size (frame n l i)) fills (C .val u i) w)
@@ -135,8 +139,8 @@ fills-by n l C t u fills same fit test = record {
 }
 
 -- ---- the sheet
--- store: what is held when round k is due (its moments are the rounds' numbers); sent k j r: what j sends to r for round k; result i: what the last
--- call of i writes
+-- store: what is held when round k is due (its moments are the rounds' numbers); sent k j r: what j sends to r for round k; result i:
+-- what the last call of i writes
 pub record Sheet : Type 0 where
   pub store : Store
   pub sent : ℕ → ℕ → ℕ → List ℕ
@@ -150,7 +154,8 @@ module _ (P : Protocol) (n l : ℕ) (loans : ℕ → Loan) (T : Sheet) where
   -- a claim on every box that takes round k with a work area and messages as the sheet says
   abbrev pub Each : ℕ → (ℕ → List ℕ → (ℕ → List ℕ) → Type 0) → Type 0
   Each k Q =
-      Valid P n l loans k → (i : ℕ) → i < n → (w : List ℕ) → Known n l (T .store) k i w → (m : ℕ → List ℕ) → Mail n (T .sent) k i m → Q i w m
+      Valid P n l loans k → (i : ℕ) → i < n → (w : List ℕ) → Known n l (T .store) k i w → (m : ℕ → List ℕ) → Mail n (T .sent) k i m
+      → Q i w m
 
   -- what has to be shown of any round k
   pub record Passes (k : ℕ) : Type 0 where

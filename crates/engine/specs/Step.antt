@@ -1,6 +1,6 @@
--- A round call as a function of what it is given (document 01, "The call" and "Turned down by the session"). What the rounds are stands in a
--- Protocol; nothing here knows one.
-use mathlib.Core.Bool.{Bool, true, false, not, _&&_}
+-- A round call as a function of what it is given (document 01, "The call" and "Turned down by the session"). What the rounds are
+-- stands in a Protocol; nothing here knows one.
+use mathlib.Core.Bool.{Bool, true, not, _&&_}
 use mathlib.Core.List.{List, []}
 use Prim.Native.Nat.{ℕ, zero, suc, _+_, _-_, _*_}
 use lib.ListN.{length, getD, take, drop, replicate}
@@ -18,6 +18,9 @@ pub use Rattle.engine.specs.declared.Verdict.the-variants.{Accepted, Ref
 pub record Loan : Type 0 where
   pub r : List ℕ
   pub perm : List ℕ
+
+abbrev pub nothing : Loan
+nothing = record { r = []; perm = [] }
 
 -- "one incoming buffer, a start and a length per party or a missing mark", and the outgoing buffer
 pub record Lent : Type 0 where
@@ -51,9 +54,9 @@ abbrev pub none? : Fault
 none? = record { code = 0; party = 0 }
 
 -- ---- what the rounds are
--- One round. outLen: the length of the outgoing buffer; lent: 17 or 18 of the r Blocks and the permutation, or 0, by n and l alone, so that it is the
--- same for every box; form: 13 or 6 of one message, or 0; check: the content; keep: the work area afterwards; write: the outgoing buffer.
--- `m k` is the message of party k, [] for the own one.
+-- One round. outLen: the length of the outgoing buffer; lent: 17 or 18 of the r Blocks and the permutation, or 0, by n and l alone, so
+-- that it is the same for every box; form: 13 or 6 of one message, or 0; check: the content; keep: the work area afterwards; write: the
+-- outgoing buffer. `m k` is the message of party k, [] for the own one.
 pub record Rule : Type 0 where
   pub outLen : Frame → ℕ
   pub lent : ℕ → ℕ → Loan → ℕ
@@ -62,8 +65,8 @@ pub record Rule : Type 0 where
   pub keep : Frame → Loan → List ℕ → (ℕ → List ℕ) → List ℕ
   pub write : Frame → Loan → List ℕ → (ℕ → List ℕ) → List ℕ
 
--- alive: the session is neither done nor ended, and of numbers that opening can have made; next n k: the round due after k, 0 after the last;
--- msgLen n l k: the length of a message of round k
+-- alive: the session is neither done nor ended, and of numbers that opening can have made; next n k: the round due after k, 0 after
+-- the last; msgLen n l k: the length of a message of round k
 pub record Protocol : Type 0 where
   pub alive : Session → Bool
   pub workLen : Frame → ℕ
@@ -88,7 +91,8 @@ gone q k = not (eqb (getD (q .missing) k 0) 0)
 unfoldable pub part : Lent → ℕ → List ℕ
 part q k = take (getD (q .lens) k 0) (drop (getD (q .starts) k 0) (q .incoming))
 
--- "The outgoing buffer holds just the messages that call writes, by party, own left out": the one for party i in what party j wrote, m bytes each
+-- "The outgoing buffer holds just the messages that call writes, by party, own left out": the one for party i in what party j wrote, of
+-- m bytes
 unfoldable pub stretch : ℕ → ℕ → ℕ → List ℕ → List ℕ
 stretch m j i o = take m (drop (m * pick (ltb i j) i (i - 1)) o)
 

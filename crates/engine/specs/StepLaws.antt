@@ -8,12 +8,14 @@ use native.Mathlib.Nat.{le-refl}
 use native.Mathlib.Numerals.{add-one}
 use native.Mathlib.Omega.{arith}
 use lib.ListN.{length, getD, replicate}
-use lib.Dec.{ltb, leb, eqb}
+use lib.Dec.{ltb, eqb}
 use borrow.Author.Tests.{ltb-true, ltb-false, eqb-true, eqb-false, eq-eqb, ne-eqb, lt-ltb, le-leb}
 use Rattle.lists.specs.Pick.{pick, pick-else}
-use Rattle.lists.specs.All.{allOf, all-of}
-use Rattle.algebra.specs.Sum.{neq, neq-true, same?, Same, same, apart}
-use Rattle.engine.specs.Step.{Frame, Session, Loan, Lent, Verdict, Accepted, Refused, Outcome, outcome, Fault, none?, Rule, Protocol, other, mask, gone, part, inside, partsIn, sizes, reasonOf, orElse, scan, byParty, formFault, faultOf, ended, refused, faulted, accepted, roundSpec}
+use Rattle.lists.specs.All.{all-of}
+use Rattle.algebra.specs.Sum.{neq, neq-true, same?, Same, apart}
+use Rattle.engine.specs.Step.{Frame, Session, Lent, Refused, Outcome, outcome, Fault, Rule, Protocol, other, mask, gone, part}
+use Rattle.engine.specs.Step.{inside, partsIn, sizes, reasonOf, orElse, scan, byParty, formFault, faultOf, ended, refused, faulted}
+use Rattle.engine.specs.Step.{accepted, roundSpec}
 
 -- ---- the three cases
 zero? : (n : ℕ) (A : Type 0) → (n ≢ 0 → A) → (n ≡ 0 → A) → A
@@ -38,8 +40,8 @@ module _ (P : Protocol) (s : Session) (k : ℕ) (q : Lent) (w : List ℕ) where
 
   -- a received fault ends the session, zeroes the work area, and leaves the outgoing buffer as it was
   pub round-faults : reasonOf P s k q w ≡ 0 → faultOf (P .rule k) (s .party) q w .code ≢ 0
-      → roundSpec P s k q w
-      ≡ outcome (ended s) (Refused (faultOf (P .rule k) (s .party) q w .code) (faultOf (P .rule k) (s .party) q w .party)) (replicate (length w) 0) (q .out)
+      → (let e : Fault = faultOf (P .rule k) (s .party) q w in
+      roundSpec P s k q w ≡ outcome (ended s) (Refused (e .code) (e .party)) (replicate (length w) 0) (q .out))
   unfolding roundSpec faulted
   round-faults z ne = rw (eq-eqb (reasonOf P s k q w) 0 z, ne-eqb (faultOf (P .rule k) (s .party) q w .code) 0 ne) refl
 
@@ -71,14 +73,6 @@ pub record Due (P : Protocol) (s : Session) (k : ℕ) (q : Lent) : Type 0 where
   pub lent : P .rule k .lent (s .party .n) (s .party .l) (q .loan) ≡ 0
 
 module _ (P : Protocol) (s : Session) (k : ℕ) (q : Lent) (w : List ℕ) where
-  pub due-of : reasonOf P s k q w ≡ 0 → Due P s k q
-  unfolding reasonOf
-  due-of h =
-      let e1 = pick-else (not (P .alive s)) _ _ _ (not-zero 19) h in
-      let e2 = pick-else (not (eqb k (s .due))) _ _ _ (not-zero 18) (e1 .1) in
-      let e3 = pick-else (not (sizes (P .workLen (s .party)) (P .rule k .outLen (s .party)) (s .party) q w)) _ _ _ (not-zero 16) (e2 .1) in
-      record { alive = not-false _ (e1 .0); number = eqb-true _ _ (not-false _ (e2 .0)); lent = e3 .1 }
-
   -- a session that is done or ended answers 20 to any call
   pub over-20 : P .alive s ≡ false → roundSpec P s k q w ≡ outcome s (Refused 20 (s .party .i)) w (q .out)
   unfolding roundSpec reasonOf refused
@@ -88,6 +82,14 @@ module _ (P : Protocol) (s : Session) (k : ℕ) (q : Lent) (w : List ℕ) where
   pub other-19 : P .alive s ≡ true → k ≢ s .due → roundSpec P s k q w ≡ outcome s (Refused 19 (s .party .i)) w (q .out)
   unfolding roundSpec reasonOf refused
   other-19 h ne = rw (h, ne-eqb k (s .due) ne) refl
+
+  pub due-of : reasonOf P s k q w ≡ 0 → Due P s k q
+  unfolding reasonOf
+  due-of h =
+      let e1 = pick-else (not (P .alive s)) _ _ _ (not-zero 19) h in
+      let e2 = pick-else (not (eqb k (s .due))) _ _ _ (not-zero 18) (e1 .1) in
+      let e3 = pick-else (not (sizes (P .workLen (s .party)) (P .rule k .outLen (s .party)) (s .party) q w)) _ _ _ (not-zero 16) (e2 .1) in
+      record { alive = not-false _ (e1 .0); number = eqb-true _ _ (not-false _ (e2 .0)); lent = e3 .1 }
 
   -- what a call needs to have no reason
   pub no-reason : P .alive s ≡ true → k ≡ s .due

@@ -7,7 +7,8 @@ use mathlib.Core.List.{List, [], _∷_}
 use mathlib.Core.Option.{Option, some, none}
 use Prim.Native.Nat.{ℕ, suc, _<_}
 use Rattle.algebra.specs.Sum.{neq}
-use Rattle.engine.specs.Step.{Frame, frame, Session, Loan, Lent, Verdict, Accepted, Refused, Outcome, outcome, Protocol, gone, part, stretch, reasonOf, roundSpec}
+use Rattle.engine.specs.Step.{frame, Session, Loan, Lent, Verdict, Accepted, Refused, Outcome, outcome, Protocol, gone, part}
+use Rattle.engine.specs.Step.{stretch, reasonOf, roundSpec}
 
 -- ---- lists and tables
 pub data In {A : Type 0} (a : A) : List A → Type 0 where
@@ -24,7 +25,8 @@ abbrev pub update : {A : Type 0} → (ℕ → A) → ℕ → A → ℕ → A
 update f i a j = cond (neq i j) (f j) a
 
 -- ---- boxes
--- opening, as a function of all that it is given; reason: the first of 01's order, 0 for none; party, work, out: what its answer names and what it is lent
+-- opening, as a function of all that it is given; reason: the first of 01's order, 0 for none; party: the one that its refusal names;
+-- work, out: what it is lent
 pub record Opening (Args : Type 0) : Type 0 where
   pub spec : Args → Outcome
   pub reason : Args → ℕ
@@ -32,7 +34,8 @@ pub record Opening (Args : Type 0) : Type 0 where
   pub work : Args → List ℕ
   pub out : Args → List ℕ
 
--- "session and work area as that box's last call left them"; how many of its round calls were accepted, and what the last accepted call wrote
+-- "session and work area as that box's last call left them"; how many of its round calls were accepted, and what the last accepted
+-- call wrote
 pub record Box : Type 0 where
   pub session : Session
   pub work : List ℕ
@@ -103,8 +106,8 @@ Done P s = (k : ℕ) (q : Lent) (w : List ℕ) → roundSpec P s k q w .verdict 
 abbrev pub sessionOf : ℕ → ℕ → ℕ → ℕ → Session
 sessionOf n l b k = record { party = frame n l b; due = k }
 
--- "Round 1 is due after opening; each accepted call makes the next in order due": number d is due after d accepted calls, for d below steps;
--- after steps calls the session is over
+-- "Round 1 is due after opening; each accepted call makes the next in order due": number d is due after d accepted calls, for d below
+-- steps; after steps calls the session is over
 pub record Course (P : Protocol) (n l : ℕ) : Type 0 where
   pub steps : ℕ
   pub number : ℕ → ℕ
@@ -112,8 +115,8 @@ pub record Course (P : Protocol) (n l : ℕ) : Type 0 where
   pub live : (d b : ℕ) → d < steps → b < n → P .alive (sessionOf n l b (number d)) ≡ true
   pub over : (b : ℕ) → P .alive (sessionOf n l b (number steps)) ≡ false
 
--- what a claim on lists of calls is about: n boxes with one l. Agrees k: "its r Blocks and permutation, where due, equal the other boxes'", of a call
--- for round k; Given b: "one opening with the inputs of demand 3", for box b
+-- what a claim on lists of calls is about: n boxes with one l. Agrees k: "its r Blocks and permutation, where due, equal the other
+-- boxes'", of a call for round k; Given b: "one opening with the inputs of demand 3", for box b
 pub record Scene (Args : Type 0) : Type 1 where
   pub protocol : Protocol
   pub opens : Opening Args
@@ -134,8 +137,8 @@ module _ {Args : Type 0} (S : Scene Args) where
   abbrev pub reasonAfter : ℕ → Box → ℕ → Lent → ℕ
   reasonAfter b x k q = reasonOf (S .protocol) (sessionAt b (x .rounds)) k q (x .work)
 
-  -- "from each other box, a copy in full length of the bytes that an earlier call of the list wrote to it for that round", the one due after
-  -- d accepted calls
+  -- "from each other box, a copy in full length of the bytes that an earlier call of the list wrote to it for that round", the one due
+  -- after d accepted calls
   abbrev pub Reads : List Note → ℕ → ℕ → ℕ → Lent → Type 0
   Reads log b d k q = (j : ℕ) → j < S .n → b ≢ j → (gone q j ≡ false)
       × ((o : List ℕ) × In (note j d o) log × (part q j ≡ stretch (S .protocol .msgLen (S .n) (S .l) k) j b o))
