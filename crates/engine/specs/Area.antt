@@ -1,0 +1,267 @@
+-- A buffer in numbered sections, each as long as a table says, and the stretches of an outgoing buffer.
+use mathlib.Core.Path.{_≡_, refl, sym, ap, ap₂, _∙_, subst}
+use mathlib.Core.Bool.{Bool, true, false}
+use mathlib.Core.Logic.{_≢_}
+use mathlib.Core.List.{List, [], _∷_, _++_, append-assoc}
+use Prim.Native.Nat.{ℕ, zero, suc, _+_, _-_, _*_, _<_, _≤_, min}
+use native.Mathlib.Nat.{le-refl, mul-comm}
+use native.Mathlib.Numerals.{add-one}
+use native.Mathlib.Omega.{arith}
+use lib.ListN.{length, getD, take, drop, set, length-append, length-take, length-drop, take-append-drop}
+use lib.Seq.{take-at, drop-at, take-nil, take-take, drop-drop, take-add, take-append-le, drop-append-le, length-take-le, getD-take}
+use lib.Seq.{getD-drop, set-split}
+use lib.Dec.{ltb, eqb}
+use borrow.Author.Tests.{ltb-true, ltb-false, le-ltb, eqb-true}
+use Rattle.lists.specs.Pick.{pick}
+use Rattle.lists.specs.Over.{cat, length-cat}
+use Rattle.lists.specs.All.{true-false}
+use Rattle.lists.specs.Rows.{cat-part, chunk, chunk-cat, cat-ext}
+use Rattle.lists.specs.Sect.{get, put, length-put, get-put-same, get-put-before, get-put-after}
+use Rattle.engine.specs.Step.{stretch}
+
+-- ---- parts of parts
+module _ {A : Type 0} where
+  drop-take : (a m : ℕ) (x : List A) → drop a (take (a + m) x) ≡ take m (drop a x)
+  drop-take zero m x = ap (λ j. take j x) (let e : 0 + m ≡ m = omega arith in e)
+  drop-take (suc a) m [] = ap (drop (suc a)) (take-nil (suc a + m)) ∙ sym (take-nil m)
+  drop-take (suc a) m (y ∷ x) =
+      let e : suc a + m ≡ suc (a + m) = omega arith in
+      ap (λ j. drop (suc a) (take j (y ∷ x))) e ∙ drop-take a m x
+
+  -- k elements from a on, of the m elements from o on
+  pub get-get : (o m a k : ℕ) (w : List A) → a + k ≤ m → get a k (get o m w) ≡ get (o + a) k w
+  get-get o m a k w h =
+      ap (λ j. take k (drop a (take j (drop o w)))) (let e : m ≡ a + (m - a) = omega arith in e)
+      ∙ ap (take k) (drop-take a (m - a) (drop o w))
+      ∙ take-take k (m - a) (drop a (drop o w)) (omega arith)
+      ∙ ap (take k) (drop-drop a o w)
+
+  pub put-put-in : (o m a k : ℕ) (xs w : List A) → a + k ≤ m → o + m ≤ length w → put (o + a) k xs w ≡ put o m (put a k xs (get o m w)) w
+  put-put-in o m a k xs w h l =
+      let y : List A = get o m w in
+      let z : List A = drop m (drop o w) in
+      let ly : length y ≡ m = length-take m (drop o w) ∙ ap (min m) (length-drop o w) ∙ (omega arith) in
+      let t : take (o + a) w ≡ take o w ++ take a y =
+      take-add o a w ∙ ap (λ (r : List A). take o w ++ r) (sym (take-take a m (drop o w) (omega arith))) in
+      let d : drop k (drop (o + a) w) ≡ drop k (drop a y) ++ z =
+      ap (drop k) (sym (drop-drop a o w)) ∙ ap (λ (r : List A). drop k (drop a r)) (sym (take-append-drop m (drop o w)))
+      ∙ ap (drop k) (drop-append-le a y z (omega arith)) ∙ drop-append-le k (drop a y) z (rw (length-drop a y) (omega arith)) in
+      ap₂ (λ (p r : List A). p ++ (xs ++ r)) t d ∙ append-assoc (take o w) (take a y) _
+      ∙ ap (λ (r : List A). take o w ++ r)
+      (ap (λ (r : List A). take a y ++ r) (sym (append-assoc xs (drop k (drop a y)) z))
+      ∙ sym (append-assoc (take a y) (xs ++ drop k (drop a y)) z))
+
+  -- what is put first is lost
+  pub put-twice : (o m : ℕ) (xs ys w : List A) → length ys ≡ m → o ≤ length w → put o m xs (put o m ys w) ≡ put o m xs w
+  put-twice o m xs ys w h l =
+      let z : List A = drop m (drop o w) in
+      let lo : length (take o w) ≡ o = length-take-le o w l in
+      ap₂ (λ (p r : List A). p ++ (xs ++ r)) (take-at (take o w) (ys ++ z) o lo)
+      (ap (drop m) (drop-at (take o w) (ys ++ z) o lo) ∙ drop-at ys z m h)
+
+  put-append : (o m : ℕ) (xs u z : List A) → o + m ≤ length u → put o m xs (u ++ z) ≡ put o m xs u ++ z
+  put-append o m xs u z h =
+      ap₂ (λ (p r : List A). p ++ (xs ++ r)) (take-append-le o u z (omega arith))
+      (ap (drop m) (drop-append-le o u z (omega arith)) ∙ drop-append-le m (drop o u) z (rw (length-drop o u) (omega arith)))
+      ∙ ap (λ (r : List A). take o u ++ r) (sym (append-assoc xs (drop m (drop o u)) z))
+      ∙ sym (append-assoc (take o u) (xs ++ drop m (drop o u)) z)
+
+  -- parts that do not meet
+  pub put-comm : (o m o′ m′ : ℕ) (xs ys w : List A) → length xs ≡ m → o + m ≤ o′ → o′ ≤ length w
+      → put o m xs (put o′ m′ ys w) ≡ put o′ m′ ys (put o m xs w)
+  put-comm o m o′ m′ xs ys w hx h l =
+      let u : List A = take o′ w in
+      let lu : length u ≡ o′ = length-take-le o′ w l in
+      let p : List A = put o m xs u in
+      let lp : length p ≡ o′ = length-put o m xs u hx (omega arith) ∙ lu in
+      let e : put o m xs w ≡ p ++ drop o′ w =
+      ap (put o m xs) (sym (take-append-drop o′ w)) ∙ put-append o m xs u (drop o′ w) (omega arith) in
+      put-append o m xs u (ys ++ drop m′ (drop o′ w)) (omega arith)
+      ∙ sym (ap (put o′ m′ ys) e
+      ∙ ap₂ (λ (q r : List A). q ++ (ys ++ r)) (take-at p (drop o′ w) o′ lp) (ap (drop m′) (drop-at p (drop o′ w) o′ lp)))
+
+  -- a store is a part of one element
+  pub set-put : (i : ℕ) (v : A) (w : List A) → i < length w → set w i v ≡ put i 1 (v ∷ []) w
+  set-put i v w h =
+      set-split w i v h ∙ ap (λ (r : List A). take i w ++ (v ∷ r)) (ap (λ j. drop j w) (sym (add-one i)) ∙ sym (drop-drop 1 i w))
+
+-- ---- sections
+module _ (size : ℕ → ℕ) where
+  -- where section s starts
+  unfoldable pub off : ℕ → ℕ
+  off zero = 0
+  off (suc s) = off s + size s
+
+  unfoldable pub sec : ℕ → List ℕ → List ℕ
+  sec s w = get (off s) (size s) w
+
+  unfoldable pub putSec : ℕ → List ℕ → List ℕ → List ℕ
+  putSec s xs w = put (off s) (size s) xs w
+
+  off-le : (s t : ℕ) → s ≤ t → off s ≤ off t
+  unfolding off
+  off-le s zero h = rw (let e : s ≡ 0 = omega arith in e) (omega arith)
+  off-le s (suc t) h = go (ltb t s) refl (off-le s t)
+    where
+      go : (b : Bool) → ltb t s ≡ b → (s ≤ t → off s ≤ off t) → off s ≤ off t + size t
+      go true e ih = subst (λ i. off i ≤ off t + size t) (let p : suc t ≡ s = omega (arith, ltb-true t s e) in p) (le-refl (off t + size t))
+      go false e ih = omega (arith, ih (ltb-false t s e))
+
+  -- section s ends before a later one starts
+  within : (s t : ℕ) → s < t → off s + size s ≤ off t
+  unfolding off
+  within s t h = off-le (suc s) t h
+
+  module _ (S : ℕ) (w : List ℕ) (h : length w ≡ off S) where
+    pub length-sec : (s : ℕ) → s < S → length (sec s w) ≡ size s
+    unfolding sec
+    length-sec s l =
+        length-take (size s) (drop (off s) w) ∙ ap (min (size s)) (length-drop (off s) w) ∙ (let e = within s S l in omega (arith, e))
+
+    pub length-putSec : (s : ℕ) (xs : List ℕ) → s < S → length xs ≡ size s → length (putSec s xs w) ≡ off S
+    unfolding putSec
+    length-putSec s xs l hx = length-put (off s) (size s) xs w hx (omega (arith, within s S l)) ∙ h
+
+    pub sec-same : (s : ℕ) (xs : List ℕ) → s < S → length xs ≡ size s → sec s (putSec s xs w) ≡ xs
+    unfolding sec putSec
+    sec-same s xs l hx = get-put-same (off s) (size s) xs w hx (omega (arith, within s S l))
+
+    pub sec-other : (s t : ℕ) (xs : List ℕ) → t < S → s ≢ t → length xs ≡ size t → sec s (putSec t xs w) ≡ sec s w
+    unfolding sec putSec
+    sec-other s t xs l ne hx = go (ltb s t) refl
+      where
+        go : (b : Bool) → ltb s t ≡ b → get (off s) (size s) (put (off t) (size t) xs w) ≡ get (off s) (size s) w
+        go true e = get-put-before (off s) (size s) (off t) (size t) xs w (within s t (ltb-true s t e)) (omega (arith, within t S l))
+        go false e =
+            let q = within t s (omega (arith, ltb-false s t e, ne)) in
+            get-put-after (off s) (size s) (off t) (size t) xs w hx q (omega (arith, within t S l))
+
+    -- putting a section twice, and two sections in either order
+    pub putSec-twice : (s : ℕ) (xs ys : List ℕ) → s < S → length ys ≡ size s → putSec s xs (putSec s ys w) ≡ putSec s xs w
+    unfolding putSec
+    putSec-twice s xs ys l hy = put-twice (off s) (size s) xs ys w hy (omega (arith, within s S l))
+
+    pub putSec-comm : (s t : ℕ) (xs ys : List ℕ) → s < S → t < S → s ≢ t → length xs ≡ size s → length ys ≡ size t
+        → putSec s xs (putSec t ys w) ≡ putSec t ys (putSec s xs w)
+    unfolding putSec
+    putSec-comm s t xs ys ls lt ne hx hy = go (ltb s t) refl
+      where
+        go : (b : Bool) → ltb s t ≡ b
+            → put (off s) (size s) xs (put (off t) (size t) ys w) ≡ put (off t) (size t) ys (put (off s) (size s) xs w)
+        go true e = put-comm (off s) (size s) (off t) (size t) xs ys w hx (within s t (ltb-true s t e)) (omega (arith, within t S lt))
+        go false e =
+            let q = within t s (omega (arith, ltb-false s t e, ne)) in
+            sym (put-comm (off t) (size t) (off s) (size s) ys xs w hy q (omega (arith, within s S ls)))
+
+    -- writing a part of a section, and one element of it
+    pub put-sec : (s a k : ℕ) (xs : List ℕ) → s < S → a + k ≤ size s → put (off s + a) k xs w ≡ putSec s (put a k xs (sec s w)) w
+    unfolding sec putSec
+    put-sec s a k xs l h′ = put-put-in (off s) (size s) a k xs w h′ (omega (arith, within s S l))
+
+    pub set-sec : (s a v : ℕ) → s < S → a < size s → set w (off s + a) v ≡ putSec s (set (sec s w) a v) w
+    set-sec s a v l h′ =
+        let e : length (sec s w) ≡ size s = length-sec s l in
+        set-put (off s + a) v w (omega (arith, within s S l)) ∙ put-sec s a 1 (v ∷ []) l (omega arith)
+        ∙ ap (λ (x : List ℕ). putSec s x w) (sym (set-put a v (sec s w) (omega arith)))
+
+  -- reading a part of a section, and one element of it
+  pub get-sec : (s a k : ℕ) (w : List ℕ) → a + k ≤ size s → get (off s + a) k w ≡ get a k (sec s w)
+  unfolding sec
+  get-sec s a k w h = sym (get-get (off s) (size s) a k w h)
+
+  pub getD-sec : (s a : ℕ) (w : List ℕ) → a < size s → getD w (off s + a) 0 ≡ getD (sec s w) a 0
+  unfolding sec
+  getD-sec s a w h = sym (getD-take (size s) (drop (off s) w) a 0 h ∙ getD-drop (off s) w a 0)
+
+  -- a buffer laid out section by section
+  pub length-lay : (S : ℕ) (c : ℕ → List ℕ) → ((s : ℕ) → s < S → length (c s) ≡ size s) → length (cat S c) ≡ off S
+  unfolding cat off
+  length-lay zero c h = refl
+  length-lay (suc S) c h = length-append (cat S c) (c S) ∙ ap₂ _+_ (length-lay S c (λ s l. h s (omega arith))) (h S (le-refl (suc S)))
+
+  pub sec-lay : (S : ℕ) (c : ℕ → List ℕ) → ((s : ℕ) → s < S → length (c s) ≡ size s) → (s : ℕ) → s < S → sec s (cat S c) ≡ c s
+  unfolding sec
+  sec-lay S c h s l =
+      ap₂ (λ a k. take k (drop a (cat S c))) (sym (length-lay s c (λ t m. h t (omega arith)))) (sym (h s l)) ∙ cat-part S c s l
+
+-- ---- one message to each other party
+unfoldable pub nth : ℕ → ℕ → ℕ
+nth i q = pick (ltb q i) q (suc q)
+
+unfoldable pub toOthers : ℕ → ℕ → (ℕ → List ℕ) → List ℕ
+toOthers n i g = cat (n - 1) (λ q. g (nth i q))
+
+slot-lt : (n j i : ℕ) → j < n → i < n → j ≢ i → pick (ltb i j) i (i - 1) < n - 1
+slot-lt n j i lj li ne = go (ltb i j) refl
+  where
+    go : (b : Bool) → ltb i j ≡ b → pick b i (i - 1) < n - 1
+    go true e = omega (arith, ltb-true i j e)
+    go false e = omega (arith, ltb-false i j e)
+
+slot-nth : (j i : ℕ) → j ≢ i → nth j (pick (ltb i j) i (i - 1)) ≡ i
+unfolding nth
+slot-nth j i ne = go (ltb i j) refl
+  where
+    go : (b : Bool) → ltb i j ≡ b → pick (ltb (pick b i (i - 1)) j) (pick b i (i - 1)) (suc (pick b i (i - 1))) ≡ i
+    go true e = rw e refl
+    go false e = rw (le-ltb (i - 1) j (omega (arith, ltb-false i j e))) (omega (arith, ltb-false i j e))
+
+nth-lt : (n j q : ℕ) → q < n - 1 → nth j q < n
+unfolding nth
+nth-lt n j q h = go (ltb q j)
+  where
+    go : (b : Bool) → pick b q (suc q) < n
+    go true = omega arith
+    go false = omega arith
+
+nth-ne : (j q : ℕ) → j ≢ nth j q
+unfolding nth
+nth-ne j q = go (ltb q j) refl
+  where
+    go : (b : Bool) → ltb q j ≡ b → j ≢ pick b q (suc q)
+    go true e p = omega (arith, ltb-true q j e)
+    go false e p = omega (arith, ltb-false q j e)
+
+pub toOthers-ext : (n j : ℕ) (g h : ℕ → List ℕ) → ((k : ℕ) → k < n → j ≢ k → g k ≡ h k) → toOthers n j g ≡ toOthers n j h
+unfolding toOthers
+toOthers-ext n j g h e = cat-ext (n - 1) _ _ (λ q l. e (nth j q) (nth-lt n j q l) (nth-ne j q))
+
+module _ (m n j : ℕ) (g : ℕ → List ℕ) (h : (k : ℕ) → k < n → j ≢ k → length (g k) ≡ m) where
+  pub length-toOthers : length (toOthers n j g) ≡ (n - 1) * m
+  unfolding toOthers
+  length-toOthers = length-cat (n - 1) m (λ q. g (nth j q)) (λ q l. h (nth j q) (nth-lt n j q l) (nth-ne j q))
+
+  -- what party i finds in its stretch
+  pub stretch-toOthers : (i : ℕ) → j < n → i < n → j ≢ i → stretch m j i (toOthers n j g) ≡ g i
+  unfolding stretch toOthers chunk
+  stretch-toOthers i lj li ne =
+      let at : ℕ = pick (ltb i j) i (i - 1) in
+      let each : (q : ℕ) → q < n - 1 → length (g (nth j q)) ≡ m = λ q l. h (nth j q) (nth-lt n j q l) (nth-ne j q) in
+      ap (λ a. take m (drop a (cat (n - 1) (λ q. g (nth j q))))) (mul-comm m at)
+      ∙ chunk-cat m (n - 1) (λ q. g (nth j q)) each at (slot-lt n j i lj li ne)
+      ∙ ap g (slot-nth j i ne)
+
+-- ---- lists of sections or rounds
+-- s is in the list
+unfoldable pub mem : ℕ → List ℕ → Bool
+mem s [] = false
+mem s (t ∷ ts) = pick (eqb s t) true (mem s ts)
+
+-- a property of every entry of a list
+abbrev pub Every : (ℕ → Type 0) → List ℕ → Type 0
+Every Q [] = Unit {0}
+Every Q (a ∷ l) = Q a × Every Q l
+
+pub every-at : (Q : ℕ → Type 0) (l : List ℕ) (z : ℕ) → Every Q l → (d : ℕ) → d < length l → Q (getD l d z)
+every-at Q [] z h d i = absurd (omega arith)
+every-at Q (a ∷ l) z h zero i = h .0
+every-at Q (a ∷ l) z h (suc d) i = every-at Q l z (h .1) d (omega arith)
+
+pub every-mem : (Q : ℕ → Type 0) (ts : List ℕ) → Every Q ts → (s : ℕ) → mem s ts ≡ true → Q s
+unfolding mem
+every-mem Q [] h s e = absurd (true-false (sym e))
+every-mem Q (t ∷ ts) h s e = go (eqb s t) refl e (every-mem Q ts (h .1) s)
+  where
+    go : (b : Bool) → eqb s t ≡ b → pick b true (mem s ts) ≡ true → (mem s ts ≡ true → Q s) → Q s
+    go true q e ih = subst Q (sym (eqb-true s t q)) (h .0)
+    go false q e ih = ih e
