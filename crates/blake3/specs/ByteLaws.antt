@@ -7,11 +7,14 @@ use native.Mathlib.Nat.{add-zero, mod-eq-of-lt}
 use native.Mathlib.Omega.{arith}
 use lib.Pow.{mod-pow-add, shr-shr, shr-lt}
 use lib.ListN.{length, getD, take, drop, take-append-drop, length-drop}
+use lib.Dec.{eqb}
 use lib.Seq.{take-all, take-add, drop-drop}
 use Rattle.lists.specs.Over.{tab, length-tab, getD-tab}
 use Rattle.lists.specs.Bytes.{Bytes, bytes-tab}
 use Rattle.lists.specs.Sect.{get}
 use Rattle.lists.specs.Same.{same?, same-true, same-false}
+use Rattle.algebra.specs.Group.{odd}
+use Rattle.block.proofs.Laws.{test-odd}
 use Rattle.block.specs.declared.Block.{Block}
 use Rattle.block.specs.Block.{leOf, wordAt, blockAt, le8, bytesOf, eqBlock}
 use Rattle.block.specs.Group.{block-eq, block-ne}
@@ -82,6 +85,14 @@ two-words h k l ha hb =
     let p6 = place h (k + 1) 2 (a + 6) (omega arith) (omega arith) (omega arith) in
     let p7 = place h (k + 1) 3 (a + 7) (omega arith) (omega arith) (omega arith) in
     sym ((λ i. leOf (p0 i) (p1 i) (p2 i) (p3 i) (p4 i) (p5 i) (p6 i) (p7 i)) ∙ eight (getD h k 0) (getD h (k + 1) 0) ha hb)
+
+-- the lowest bit of byte 31
+digit : (x : ℕ) → x % 2 ≡ x % 2 ^ 8 % 2
+digit x = omega arith
+
+pub last-bit : (h : List ℕ) → eqb (getD h 7 0 / 2 ^ 24 % 2) 1 ≡ odd (getD (bytes h) 31 0)
+last-bit h =
+    ap (λ (x : ℕ). eqb x 1) (digit (getD h 7 0 / 2 ^ 24)) ∙ test-odd (byteOf 3 (getD h 7 0)) ∙ ap odd (sym (byte-at h 31 (omega arith)))
 
 -- ---- the 32 bytes in two halves
 
