@@ -1,17 +1,18 @@
 -- The tree's rule: a list of one chunk is that chunk; else the left subtree takes the largest power of two of chunks below the total.
 use mathlib.Core.Path.{_≡_, refl, sym, ap, ap₂, _∙_}
 use mathlib.Core.Bool.{Bool, true, false}
-use mathlib.Core.List.{List}
+use mathlib.Core.List.{List, [], _∷_}
 use Prim.Native.Nat.{ℕ, zero, suc, _+_, _-_, _*_, _/_, _^_, _≤_, _<_}
 use native.Mathlib.Nat.{pow-suc}
 use native.Mathlib.Numerals.{add-one}
 use native.Mathlib.Omega.{arith}
 use lib.Pow.{pow-pos, pow-mono}
 use lib.ListN.{length, take, drop, length-drop}
-use lib.Seq.{length-take-le}
+use lib.Seq.{length-take-le, take-nil, take-take, drop-drop}
 use lib.Dec.{ltb, leb}
 use borrow.Author.Tests.{le-leb, lt-leb, leb-true, leb-false, ltb-true, ltb-false}
 use Rattle.lists.specs.Pick.{pick}
+use Rattle.lists.specs.Sect.{get}
 use Rattle.blake3_core.specs.Node.{chunk, parent, CHUNK-LEN}
 use Rattle.blake3.specs.Tree.{chunks, powerBelow, leftChunks, treeIn, tree}
 
@@ -83,6 +84,21 @@ module _ (n k : ℕ) (h : CHUNK-LEN < n) (p : Largest (chunks n) k) where
   pub right-count : chunks (n - CHUNK-LEN * k) ≡ chunks n - k
   right-count = omega (arith, some, inside)
 
+-- ---- parts of lists
+
+pub length-get : (from len : ℕ) (m : List ℕ) → from + len ≤ length m → length (get from len m) ≡ len
+length-get from len m h = length-take-le len (drop from m) (omega (arith, length-drop from m))
+
+drop-take : (n len : ℕ) (l : List ℕ) → n ≤ len → drop n (take len l) ≡ take (len - n) (drop n l)
+drop-take zero len l h = let e : len ≡ len - 0 = omega arith in ap (λ (k : ℕ). take k l) e
+drop-take (suc n) zero l h = absurd (omega arith)
+drop-take (suc n) (suc len) [] h = sym (take-nil (suc len - suc n))
+drop-take (suc n) (suc len) (a ∷ l) h =
+    let e : len - n ≡ suc len - suc n = omega arith in drop-take n len l (omega arith) ∙ ap (λ (k : ℕ). take k (drop n l)) e
+
+drop-get : (from len n : ℕ) (m : List ℕ) → n ≤ len → drop n (get from len m) ≡ get (from + n) (len - n) m
+drop-get from len n m h = drop-take n len (drop from m) h ∙ ap (take (len - n)) (drop-drop n from m)
+
 -- ---- the tree
 
 -- one chunk
@@ -147,3 +163,22 @@ tree-parent s t f k h p =
     ∙ ap₂ (λ (x y : List ℕ). parent x y f)
     (deep d (chunks (length (take (CHUNK-LEN * k) s))) (take (CHUNK-LEN * k) s) t 0 (omega (arith, p .below)) (omega arith))
     (deep d (chunks (length (drop (CHUNK-LEN * k) s))) (drop (CHUNK-LEN * k) s) (t + k) 0 (omega arith) (omega arith))
+
+-- the same of a part of a list, its two parts given by where they start
+pub tree-parts : (m : List ℕ) (from len t f k n : ℕ) (l r : List ℕ) → from + len ≤ length m → CHUNK-LEN < len → Largest (chunks len) k → n ≡ CHUNK-LEN * k
+    → l ≡ tree (get from n m) t 0 → r ≡ tree (get (from + n) (len - n) m) (t + k) 0
+    → parent l r f ≡ tree (get from len m) t f
+tree-parts m from len t f k n l r h w p e el er =
+    let i = inside len k w p in
+    let a : length (get from len m) ≡ len = length-get from len m h in
+    let x : take (CHUNK-LEN * k) (get from len m) ≡ get from n m =
+    take-take (CHUNK-LEN * k) len (drop from m) (omega arith) ∙ ap (λ (j : ℕ). get from j m) (sym e) in
+    let y : drop (CHUNK-LEN * k) (get from len m) ≡ get (from + n) (len - n) m =
+    ap (λ (j : ℕ). drop j (get from len m)) (sym e) ∙ drop-get from len n m (omega arith) in
+    ap₂ (λ (u v : List ℕ). parent u v f)
+    (el ∙ ap (λ (u : List ℕ). tree u t 0) (sym x))
+    (er ∙ ap (λ (u : List ℕ). tree u (t + k) 0) (sym y))
+    ∙ sym (tree-parent (get from len m) t f k (omega arith) (rw a p))
+
+pub tree-leaf : (m : List ℕ) (from len t f : ℕ) → from + len ≤ length m → len ≤ CHUNK-LEN → chunk (get from len m) t f ≡ tree (get from len m) t f
+tree-leaf m from len t f h w = sym (tree-chunk (get from len m) t f (omega (arith, length-get from len m h)))

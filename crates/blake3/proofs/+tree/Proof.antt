@@ -1,9 +1,15 @@
+use mathlib.Core.Path.{refl, _∙_}
 use Prim.Native.Nat.{ℕ, _<_}
+use native.Mathlib.Omega.{arith}
 use borrow.Fn.Kinds.{In}
 use borrow.Fn.PlainCycle.{Measures, is, falls, and}
-use Rattle.blake3.proofs.tree.Reads as tree
+use Rattle.blake3.specs.Tree.{chunks}
+use Rattle.blake3.specs.Firsts.{firsts}
+use Rattle.blake3.specs.TreeLaws.{Largest, inside, some, left-count, right-count, tree-leaf, tree-parts}
+use Rattle.blake3.specs.FirstLaws.{firsts-fit}
+use Rattle.blake3.proofs.tree.Reads as reads
 use Rattle.blake3.proofs.tree.Kinds as tree-kinds
-use Rattle.blake3.proofs.+tree.Lts-tree as tree-lts
+use Rattle.blake3.proofs.+tree.Lts-tree as lts
 use Rattle.blake3.proofs.chunks.Reads as chunks-reads
 use Rattle.blake3.proofs.leaf.Reads as leaf-reads
 use Rattle.blake3.proofs.left_chunks.Reads as left-chunks-reads
@@ -11,219 +17,98 @@ use Rattle.blake3_core.proofs.parent.Reads as parent-reads
 use Rattle.blake3.proofs.+tree.{statement}
 use Rattle.blake3.proofs.+tree.Tie.{close}
 
+-- the chunk count falls
 abbrev μ-tree : Measures 1 tree-kinds.ps ℕ
-μ-tree κs a = ?
+μ-tree κs a = chunks (a .1 .1 .1 .0)
 
-abbrev tree-at : ℕ → In 1 tree-kinds.ps
-tree-at t = and 1 tree-kinds.ps (is 1 tree-kinds.ps μ-tree t) tree.Pre
+abbrev At : ℕ → In 1 tree-kinds.ps
+At t = and 1 tree-kinds.ps (is 1 tree-kinds.ps μ-tree t) reads.Pre
 
-abbrev tree-below : ℕ → In 1 tree-kinds.ps
-tree-below t = and 1 tree-kinds.ps (falls 1 tree-kinds.ps _<_ μ-tree t) tree.Pre
+abbrev Below : ℕ → In 1 tree-kinds.ps
+Below t = and 1 tree-kinds.ps (falls 1 tree-kinds.ps _<_ μ-tree t) reads.Pre
 
--- src/lib.rt:95:9
-tree-leaf-requires : (t : ℕ) → tree-lts.Need-leaf-requires (
+abbrev Calls : ℕ → lts.Claims
+Calls t = (
   leaf-reads.Asked,
   leaf-reads.Learnt,
   chunks-reads.Asked,
   chunks-reads.Learnt,
   left-chunks-reads.Asked,
   left-chunks-reads.Learnt,
-  tree-below t,
-  tree.Post,
-  parent-reads.Asked,
-  parent-reads.Learnt,
-) (tree-at t) tree.Post
-tree-leaf-requires t c κs = ?
-
--- src/lib.rt:95:9
-tree-returns : (t : ℕ) → tree-lts.Need-returns (
-  leaf-reads.Asked,
-  leaf-reads.Learnt,
-  chunks-reads.Asked,
-  chunks-reads.Learnt,
-  left-chunks-reads.Asked,
-  left-chunks-reads.Learnt,
-  tree-below t,
-  tree.Post,
-  parent-reads.Asked,
-  parent-reads.Learnt,
-) (tree-at t) tree.Post
-tree-returns t c = ?
-
--- src/lib.rt:97:25
-tree-chunks-requires : (t : ℕ) → tree-lts.Need-chunks-requires (
-  leaf-reads.Asked,
-  leaf-reads.Learnt,
-  chunks-reads.Asked,
-  chunks-reads.Learnt,
-  left-chunks-reads.Asked,
-  left-chunks-reads.Learnt,
-  tree-below t,
-  tree.Post,
-  parent-reads.Asked,
-  parent-reads.Learnt,
-) (tree-at t) tree.Post
-tree-chunks-requires t c κs = ?
-
--- src/lib.rt:97:9
-tree-left-chunks-requires : (t : ℕ) → tree-lts.Need-left-chunks-requires (
-  leaf-reads.Asked,
-  leaf-reads.Learnt,
-  chunks-reads.Asked,
-  chunks-reads.Learnt,
-  left-chunks-reads.Asked,
-  left-chunks-reads.Learnt,
-  tree-below t,
-  tree.Post,
-  parent-reads.Asked,
-  parent-reads.Learnt,
-) (tree-at t) tree.Post
-tree-left-chunks-requires t c κs = ?
-
--- src/lib.rt:98:13
-tree-mul-n : (t : ℕ) → tree-lts.Need-mul-n (
-  leaf-reads.Asked,
-  leaf-reads.Learnt,
-  chunks-reads.Asked,
-  chunks-reads.Learnt,
-  left-chunks-reads.Asked,
-  left-chunks-reads.Learnt,
-  tree-below t,
-  tree.Post,
-  parent-reads.Asked,
-  parent-reads.Learnt,
-) (tree-at t) tree.Post
-tree-mul-n t c = ?
-
--- src/lib.rt:99:13
-tree-tree-requires : (t : ℕ) → tree-lts.Need-tree-requires (
-  leaf-reads.Asked,
-  leaf-reads.Learnt,
-  chunks-reads.Asked,
-  chunks-reads.Learnt,
-  left-chunks-reads.Asked,
-  left-chunks-reads.Learnt,
-  tree-below t,
-  tree.Post,
-  parent-reads.Asked,
-  parent-reads.Learnt,
-) (tree-at t) tree.Post
-tree-tree-requires t c κs = ?
-
--- src/lib.rt:100:29
-tree-add-tree : (t : ℕ) → tree-lts.Need-add-tree (
-  leaf-reads.Asked,
-  leaf-reads.Learnt,
-  chunks-reads.Asked,
-  chunks-reads.Learnt,
-  left-chunks-reads.Asked,
-  left-chunks-reads.Learnt,
-  tree-below t,
-  tree.Post,
-  parent-reads.Asked,
-  parent-reads.Learnt,
-) (tree-at t) tree.Post
-tree-add-tree t c = ?
-
--- src/lib.rt:100:39
-tree-sub-tree : (t : ℕ) → tree-lts.Need-sub-tree (
-  leaf-reads.Asked,
-  leaf-reads.Learnt,
-  chunks-reads.Asked,
-  chunks-reads.Learnt,
-  left-chunks-reads.Asked,
-  left-chunks-reads.Learnt,
-  tree-below t,
-  tree.Post,
-  parent-reads.Asked,
-  parent-reads.Learnt,
-) (tree-at t) tree.Post
-tree-sub-tree t c = ?
-
--- src/lib.rt:100:48
-tree-add-tree-2 : (t : ℕ) → tree-lts.Need-add-tree-2 (
-  leaf-reads.Asked,
-  leaf-reads.Learnt,
-  chunks-reads.Asked,
-  chunks-reads.Learnt,
-  left-chunks-reads.Asked,
-  left-chunks-reads.Learnt,
-  tree-below t,
-  tree.Post,
-  parent-reads.Asked,
-  parent-reads.Learnt,
-) (tree-at t) tree.Post
-tree-add-tree-2 t c = ?
-
--- src/lib.rt:100:13
-tree-tree-requires-2 : (t : ℕ) → tree-lts.Need-tree-requires-2 (
-  leaf-reads.Asked,
-  leaf-reads.Learnt,
-  chunks-reads.Asked,
-  chunks-reads.Learnt,
-  left-chunks-reads.Asked,
-  left-chunks-reads.Learnt,
-  tree-below t,
-  tree.Post,
-  parent-reads.Asked,
-  parent-reads.Learnt,
-) (tree-at t) tree.Post
-tree-tree-requires-2 t c κs = ?
-
--- src/lib.rt:101:5
-tree-parent-requires : (t : ℕ) → tree-lts.Need-parent-requires (
-  leaf-reads.Asked,
-  leaf-reads.Learnt,
-  chunks-reads.Asked,
-  chunks-reads.Learnt,
-  left-chunks-reads.Asked,
-  left-chunks-reads.Learnt,
-  tree-below t,
-  tree.Post,
-  parent-reads.Asked,
-  parent-reads.Learnt,
-) (tree-at t) tree.Post
-tree-parent-requires t c κs = ?
-
--- src/lib.rt:88:1
-tree-returns-2 : (t : ℕ) → tree-lts.Need-returns-2 (
-  leaf-reads.Asked,
-  leaf-reads.Learnt,
-  chunks-reads.Asked,
-  chunks-reads.Learnt,
-  left-chunks-reads.Asked,
-  left-chunks-reads.Learnt,
-  tree-below t,
-  tree.Post,
-  parent-reads.Asked,
-  parent-reads.Learnt,
-) (tree-at t) tree.Post
-tree-returns-2 t c = ?
-
-pub +tree-spec : {M : Type 1} → statement M
-+tree-spec = close μ-tree λ t. tree-lts.spec (
-  leaf-reads.Asked,
-  leaf-reads.Learnt,
-  chunks-reads.Asked,
-  chunks-reads.Learnt,
-  left-chunks-reads.Asked,
-  left-chunks-reads.Learnt,
-  tree-below t,
-  tree.Post,
+  Below t,
+  reads.Post,
   parent-reads.Asked,
   parent-reads.Learnt,
 )
-    (tree-at t)
-    tree.Post
-    (tree-leaf-requires t)
-    (tree-returns t)
-    (tree-chunks-requires t)
-    (tree-left-chunks-requires t)
-    (tree-mul-n t)
-    (tree-tree-requires t)
-    (tree-add-tree t)
-    (tree-sub-tree t)
-    (tree-add-tree-2 t)
-    (tree-tree-requires-2 t)
-    (tree-parent-requires t)
-    (tree-returns-2 t)
+
+module _ (t : ℕ) where
+  leaf-requires : lts.Need-leaf-requires (Calls t) (At t) reads.Post
+  leaf-requires c κs = omega arith
+
+  returns : lts.Need-returns (Calls t) (At t) reads.Post
+  returns c =
+      let b = c .before .before .before in
+      let a = b .args in
+      c .leaf .ensures ∙ tree-leaf (firsts (a .stride) (a .s .now)) (a .from) (a .len) (a .t) (a .f) (b .pre .1 .0 .1) (omega arith)
+
+  chunks-requires : lts.Need-chunks-requires (Calls t) (At t) reads.Post
+  chunks-requires c κs = omega arith
+
+  left-chunks-requires : lts.Need-left-chunks-requires (Calls t) (At t) reads.Post
+  left-chunks-requires c κs = omega arith
+
+  -- the left subtree's chunks
+  part : (c : lts.After-left-chunks (Calls t) (At t) reads.Post) → Largest (chunks (c .before .before .before .before .args .len)) (c .left-chunks .result)
+  part c = rw (c .before .chunks .ensures) at (c .left-chunks .ensures)
+
+  mul-n : lts.Need-mul-n (Calls t) (At t) reads.Post
+  mul-n c = omega (arith, inside (c .before .before .before .before .args .len) (c .left-chunks .result) (omega arith) (part c))
+
+  tree-requires : lts.Need-tree-requires (Calls t) (At t) reads.Post
+  tree-requires c κs =
+      let b = c .before .before .before .before in
+      let n = b .args .len in
+      let k = c .left-chunks .result in
+      let p = part c in
+      omega (arith, inside n k (omega arith) p, left-count n k (omega arith) p, p .below, b .pre .0, b .pre .1)
+
+  add-tree : lts.Need-add-tree (Calls t) (At t) reads.Post
+  add-tree c =
+      let b = c .before .before .before .before .before in
+      omega (arith, inside (b .args .len) (c .before .left-chunks .result) (omega arith) (part (c .before)), firsts-fit (b .args .stride) (b .args .s .now) (b .pre .1 .0 .0))
+
+  sub-tree : lts.Need-sub-tree (Calls t) (At t) reads.Post
+  sub-tree c =
+      let b = c .before .before .before .before .before in
+      omega (arith, inside (b .args .len) (c .before .left-chunks .result) (omega arith) (part (c .before)))
+
+  add-tree-2 : lts.Need-add-tree-2 (Calls t) (At t) reads.Post
+  add-tree-2 c = omega (arith, part (c .before) .below)
+
+  tree-requires-2 : lts.Need-tree-requires-2 (Calls t) (At t) reads.Post
+  tree-requires-2 c κs =
+      let b = c .before .before .before .before .before in
+      let n = b .args .len in
+      let k = c .before .left-chunks .result in
+      let p = part (c .before) in
+      omega (arith, inside n k (omega arith) p, right-count n k (omega arith) p, some n k (omega arith) p, p .below, b .pre .0, b .pre .1)
+
+  parent-requires : lts.Need-parent-requires (Calls t) (At t) reads.Post
+  parent-requires c κs = omega arith
+
+  returns-2 : lts.Need-returns-2 (Calls t) (At t) reads.Post
+  returns-2 c =
+      let r = c .before .before .before in
+      let k = r .before .before in
+      let b = k .before .before .before .before in
+      let a = b .args in
+      c .parent .ensures
+      ∙ tree-parts (firsts (a .stride) (a .s .now)) (a .from) (a .len) (a .t) (a .f) (k .left-chunks .result) _ _ _ (b .pre .1 .0 .1) (omega arith) (part k)
+      refl (r .before .tree .ensures) (r .tree2 .ensures)
+
+pub +tree-spec : {M : Type 1} → statement M
++tree-spec =
+    close μ-tree
+    (λ t.
+    lts.spec (Calls t) (At t) reads.Post (leaf-requires t) (returns t) (chunks-requires t) (left-chunks-requires t) (mul-n t) (tree-requires t)
+    (add-tree t) (sub-tree t) (add-tree-2 t) (tree-requires-2 t) (parent-requires t) (returns-2 t))

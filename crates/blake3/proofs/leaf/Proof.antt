@@ -1,52 +1,30 @@
+use mathlib.Core.Path.{ap, _∙_}
+use mathlib.Core.List.{List}
+use Prim.Native.Nat.{ℕ}
+use native.Mathlib.Omega.{arith}
+use Rattle.blake3_core.specs.Node.{chunk}
+use Rattle.blake3.specs.FirstLaws.{firsts-fit, plain-part}
 use borrow.Author.Needs.{needs}
 use Rattle.blake3.proofs.leaf.Statement.{statement}
 use Rattle.blake3.proofs.leaf.Tie as tie
-use Rattle.blake3.proofs.leaf.Reads as reads
-use Rattle.blake3.proofs.leaf.Lts as lts
-use Rattle.blake3.proofs.gathered.Reads as gathered-reads
-use Rattle.blake3_core.proofs.chunk.Reads as chunk-reads
 
--- src/lib.rt:80:17
 add-e : tie.Need-add-e
-add-e c = ?
+add-e c =
+    let b = c .before .before in omega (arith, firsts-fit (b .args .stride) (b .args .s .now) (b .pre .0 .0))
 
--- src/lib.rt:81:28
-sub-chunk : tie.Need-sub-chunk
-sub-chunk c = search needs
-
--- src/lib.rt:81:28
-part-chunk-start : tie.Need-part-chunk-start
-part-chunk-start c = search needs
-
--- src/lib.rt:81:28
 part-chunk-end : tie.Need-part-chunk-end
-part-chunk-end c = ?
+part-chunk-end c =
+    let b = c .before .before in omega (arith, firsts-fit (b .args .stride) (b .args .s .now) (b .pre .0 .0))
 
--- src/lib.rt:81:9
-chunk-requires : tie.Need-chunk-requires
-chunk-requires c κs = search needs
-
--- src/lib.rt:83:9
-gathered-requires : tie.Need-gathered-requires
-gathered-requires c κs = search needs
-
--- src/lib.rt:73:1
 returns : tie.Need-returns
-returns c = ?
-
--- src/lib.rt:73:1
-returns-2 : tie.Need-returns-2
-returns-2 c = search needs
+returns c =
+    let a = c .before .before .before .before .args in
+    c .chunk .ensures
+    ∙ ap (λ (x : List ℕ). chunk x (a .t) (a .f)) (plain-part (a .stride) (a .from) (a .len) (a .s .now) (c .before .before .if1 .taken))
 
 pub leaf-spec : {M : Type 1} → statement M
 leaf-spec =
     tie.close
     (tie.spec
-    add-e
-    sub-chunk
-    part-chunk-start
-    part-chunk-end
-    chunk-requires
-    gathered-requires
-    returns
-    returns-2)
+    add-e (λ c. search needs) (λ c. search needs) part-chunk-end (λ c κs. search needs) (λ c κs. search needs) returns
+    (λ c. search needs))
