@@ -6,7 +6,7 @@ use Prim.Native.Nat.{ℕ, zero, suc, _+_, _-_, _*_, _/_, _≤_, _<_, min}
 use native.Mathlib.Nat.{div-one, div-mul-le-self, mul-one, suc-mul, mul-le-mul-right, mul-le-mul-left}
 use native.Mathlib.Omega.{arith}
 use lib.ListN.{length, getD, take, drop, length-append, length-take, length-drop, take-append-drop, List·getD-append}
-use lib.Seq.{take-all, getD-take, getD-append-add}
+use lib.Seq.{take-all, take-length, getD-take, getD-append-add}
 use lib.Dec.{leb}
 use borrow.Author.Tests.{leb-true, leb-false}
 use Rattle.lists.specs.Over.{tab, length-tab, getD-tab}
@@ -85,3 +85,12 @@ pub plain-part : (stride from len : ℕ) (s : List ℕ) → stride ≡ 1 → tak
 plain-part stride from len s e =
     let n : (from + len) - from ≡ len = omega arith in
     ap₂ (λ (k : ℕ) (t : List ℕ). get from k t) n (sym (firsts-one s) ∙ ap (λ (k : ℕ). firsts k s) (sym e))
+
+-- the whole list
+pub all-plain : (s : List ℕ) → get 0 (length s) (firsts 1 s) ≡ s
+all-plain s = ap (take (length s)) (firsts-one s) ∙ take-length s
+
+pub all-firsts : (stride : ℕ) (s : List ℕ) → 0 < stride → 8 ≤ length s
+    → get 0 (8 + (length s - 8) / stride) (firsts stride s) ≡ firsts stride s
+all-firsts stride s p h =
+    take-all (8 + (length s - 8) / stride) (firsts stride s) (omega (arith, length-firsts stride s p))

@@ -14,11 +14,11 @@ ghost use Rattle.blake3_core.specs.Node as N;
 ghost use Rattle.blake3.specs.Tree as T;
 ghost use Rattle.blake3.specs.TreeLaws.{Largest};
 ghost use Rattle.blake3.specs.Firsts.{firsts};
+use blake3_core::CHUNK_END;
 use blake3_core::CHUNK_LEN;
 use blake3_core::CHUNK_START;
-use blake3_core::CHUNK_END;
-use blake3_core::ROOT;
 use blake3_core::IV;
+use blake3_core::ROOT;
 use block::Block;
 
 // How many chunks n bytes take.
@@ -46,11 +46,7 @@ fn first(s: &[u8], stride: usize, i: usize) -> u8
     requires { ⌜ (0 < stride) × (i < length (firsts stride (now s))) ⌝ }
     ensures { λ r. ⌜ r ≡ getD (firsts stride (now (s .entry))) i 0 ⌝ }
 {
-    if i < 8 {
-        s[i]
-    } else {
-        s[8 + (i - 8) * stride]
-    }
+    if i < 8 { s[i] } else { s[8 + (i - 8) * stride] }
 }
 
 // A chunk of a list that lies scattered.

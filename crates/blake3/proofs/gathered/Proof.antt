@@ -31,10 +31,12 @@ add-first c =
 loop-again : tie.Need-loop-again Inv-loop μ-loop
 loop-again c =
     let l = c .before .before .loop in
-    let a = c .before .before .before .before .args in
-    (ap₂ (λ (x : List ℕ) (y : ℕ). set x (l .i) y) (l .inv .0) (c .first .ensures)
-    ∙ tab-step (l .i) (λ j. getD (firsts (a .stride) (a .s .now)) (a .from + j) 0) (replicate 1024 0) (omega arith),
-    length-set (l .b) (l .i) _ ∙ l .inv .1, omega arith)
+    let a = c .before .before .before .before .args in (
+      ap₂ (λ (x : List ℕ) (y : ℕ). set x (l .i) y) (l .inv .0) (c .first .ensures)
+          ∙ tab-step (l .i) (λ j. getD (firsts (a .stride) (a .s .now)) (a .from + j) 0) (replicate 1024 0) (omega arith),
+      length-set (l .b) (l .i) _ ∙ l .inv .1,
+      omega arith,
+    )
 
 -- what is lent to `chunk`
 lent : (s b : List ℕ) (stride from len i : ℕ) → from + len ≤ length (firsts stride s) → i ≡ len

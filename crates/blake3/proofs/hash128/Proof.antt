@@ -1,22 +1,15 @@
+use mathlib.Core.Path.{ap, _∙_}
+use mathlib.Core.List.{List}
+use Prim.Native.Nat.{ℕ}
+use Rattle.block.specs.Block.{blockAt}
+use Rattle.blake3.specs.Tree.{bytes, hash}
 use borrow.Author.Needs.{needs}
 use Rattle.blake3.proofs.hash128.Statement.{statement}
 use Rattle.blake3.proofs.hash128.Tie as tie
-use Rattle.blake3.proofs.hash128.Reads as reads
-use Rattle.blake3.proofs.hash128.Lts as lts
-use Rattle.blake3.proofs.Digest.block.Reads as block-reads
-use Rattle.blake3.proofs.digest_of.Reads as digest-of-reads
 
--- src/lib.rt:180:5
-digest-of-requires : tie.Need-digest-of-requires
-digest-of-requires c κs = search needs
-
--- src/lib.rt:180:5
-block-requires : tie.Need-block-requires
-block-requires c κs = search needs
-
--- src/lib.rt:177:1
 returns : tie.Need-returns
-returns c = ?
+unfolding hash
+returns c = c .block .ensures ∙ ap (λ (h : List ℕ). blockAt (bytes h) 0) (c .before .digest-of .ensures)
 
 pub hash128-spec : {M : Type 1} → statement M
-hash128-spec = tie.close (tie.spec digest-of-requires block-requires returns)
+hash128-spec = tie.close (tie.spec (λ c κs. search needs) (λ c κs. search needs) returns)
