@@ -1,0 +1,24 @@
+use mathlib.Core.Path.{ap₂, _∙_}
+use mathlib.Core.Bool.{_&&_}
+use native.Mathlib.Omega.{arith}
+use Rattle.block.specs.Block.{eqBlock}
+use Rattle.blake3.specs.ByteLaws.{same-halves}
+use borrow.Author.Needs.{needs}
+use Rattle.blake3.proofs.Digest.is.Statement.{statement}
+use Rattle.blake3.proofs.Digest.is.Tie as tie
+
+returns : tie.Need-returns
+returns c =
+    let k = c .before .before .before .before .before .before in
+    let a = k .before .args in
+    ap₂ _&&_
+    (c .before .before .before .equals .ensures ∙ ap₂ eqBlock (c .before .before .before .before .before .block .ensures) (c .before .before .before .before .load .ensures))
+    (c .equals2 .ensures ∙ ap₂ eqBlock (c .before .before .second .ensures) (c .before .load2 .ensures))
+    ∙ same-halves (a .self .0) (a .s .now) (a .at) (λ i. omega (arith, k .shared-slice-known .given i)) (omega arith)
+
+pub is-spec : {M : Type 1} → statement M
+is-spec =
+    tie.close
+    (tie.spec
+    (λ c κs. search needs) (λ c κs. search needs) (λ c κs. search needs) (λ c κs. search needs) (λ c. search needs)
+    (λ c κs. search needs) (λ c κs. search needs) returns)

@@ -1,0 +1,28 @@
+use mathlib.Core.Path.{_∙_}
+use Prim.Native.Nat.{ℕ}
+use native.Mathlib.Omega.{arith}
+use lib.ListN.{getD}
+use mir.Syntax.{w32}
+use mir.Val.{Fits}
+use Rattle.block.specs.Block.{blockAt}
+use Rattle.blake3.specs.ByteLaws.{two-words}
+use borrow.Author.Needs.{needs}
+use Rattle.blake3.proofs.Digest.second.Statement.{statement}
+use Rattle.blake3.proofs.Digest.second.Tie as tie
+
+returns : tie.Need-returns
+unfolding blockAt
+returns c =
+    let h = c .before .before .before .before .before .before .args .t1 .0 in
+    let w : (k : ℕ) → Fits w32 (getD h k 0) = λ k. search needs in
+    λ i. record {
+      0 = (c .before .before .before .joined .ensures ∙ two-words h 4 (omega arith) (w 4 .fits) (w 5 .fits)) i;
+      1 = (c .joined2 .ensures ∙ two-words h 6 (omega arith) (w 6 .fits) (w 7 .fits)) i;
+    }
+
+pub second-spec : {M : Type 1} → statement M
+second-spec =
+    tie.close
+    (tie.spec
+    (λ c. search needs) (λ c. search needs) (λ c κs. search needs) (λ c. search needs) (λ c. search needs)
+    (λ c κs. search needs) returns)

@@ -1,0 +1,31 @@
+use mathlib.Core.Path.{ap, _∙_}
+use mathlib.Core.List.{List}
+use Prim.Native.Nat.{ℕ}
+use native.Mathlib.Omega.{arith}
+use Rattle.block.specs.Block.{blockAt}
+use Rattle.blake3.specs.Tree.{tree, digest, bytes, hash}
+use Rattle.blake3.specs.FirstLaws.{length-firsts, firsts-fit, all-firsts}
+use borrow.Author.Needs.{needs}
+use Rattle.blake3.proofs.hash128_firsts.Statement.{statement}
+use Rattle.blake3.proofs.hash128_firsts.Tie as tie
+
+add-n : tie.Need-add-n
+add-n c =
+    let b = c .before in
+    omega (arith, length-firsts (b .args .stride) (b .args .s .now) (b .pre .0), firsts-fit (b .args .stride) (b .args .s .now) (b .pre .0))
+
+tree-requires : tie.Need-tree-requires
+tree-requires c κs =
+    let b = c .before in
+    omega (arith, length-firsts (b .args .stride) (b .args .s .now) (b .pre .0), firsts-fit (b .args .stride) (b .args .s .now) (b .pre .0))
+
+returns : tie.Need-returns
+unfolding digest hash
+returns c =
+    let b = c .before .before .before in
+    c .block .ensures
+    ∙ ap (λ (h : List ℕ). blockAt (bytes h) 0)
+    (c .before .tree .ensures ∙ ap (λ (m : List ℕ). tree m 0 8) (all-firsts (b .args .stride) (b .args .s .now) (b .pre .0) (b .pre .1)))
+
+pub hash128-firsts-spec : {M : Type 1} → statement M
+hash128-firsts-spec = tie.close (tie.spec (λ c. search needs) (λ c. search needs) add-n tree-requires (λ c κs. search needs) returns)

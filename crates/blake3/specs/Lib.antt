@@ -1,0 +1,5 @@
+pub mod Tree
+pub mod Firsts
+pub mod TreeLaws
+pub mod FirstLaws
+pub mod ByteLaws

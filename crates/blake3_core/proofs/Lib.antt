@@ -1,0 +1,4 @@
+mod Rotate
+mod Joins
+mod Rounds
+mod Blocks

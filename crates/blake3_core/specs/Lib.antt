@@ -1,0 +1,3 @@
+pub mod Word
+pub mod Compress
+pub mod Node

@@ -1,0 +1,339 @@
+// BLAKE3's nodes: the compression function, the chaining value of a chunk and that of a parent.
+// From the BLAKE3 specification, 2.2 to 2.5, with the names of the authors' reference_impl.rs. The tree over the nodes is the crate blake3.
+//
+// Speed: a round is written as two calls, `columns` and `diagonals`, and `compress` names them seven times. Each is small enough to be
+// inlined there, the state then stays in registers and `permute` costs nothing; a function for a whole round would stay a call.
+ghost use mathlib.Core.Path.{_≡_};
+ghost use Prim.Native.Nat.{_+_, _/_, _%_, _^_, _<_, _≤_};
+ghost use mathlib.Core.List.{_++_};
+ghost use lib.ListN.{length};
+ghost use Rattle.blake3_core.specs.Word.{rotr, plus, word, wordAt};
+ghost use Rattle.blake3_core.specs.Compress as S;
+ghost use Rattle.blake3_core.specs.Node as N;
+
+pub const BLOCK_LEN: usize = 64;
+
+pub const CHUNK_LEN: usize = 1024;
+
+// Flags are different bits, so a sum of them is their OR.
+pub const CHUNK_START: u32 = 1;
+
+pub const CHUNK_END: u32 = 2;
+
+pub const PARENT: u32 = 4;
+
+pub const ROOT: u32 = 8;
+
+pub const IV: [u32; 8] = [
+    0x6a09e667,
+    0xbb67ae85,
+    0x3c6ef372,
+    0xa54ff53a,
+    0x510e527f,
+    0x9b05688c,
+    0x1f83d9ab,
+    0x5be0cd19,
+];
+
+const MSG_PERMUTATION: [usize; 16] = [2, 6, 3, 10, 7, 0, 4, 13, 1, 11, 12, 5, 9, 14, 15, 8];
+
+fn rotr16(x: u32) -> u32
+    ensures { λ r. ⌜ r ≡ rotr 16 x ⌝ }
+{
+    x >> 16 | x << 16
+}
+
+fn rotr12(x: u32) -> u32
+    ensures { λ r. ⌜ r ≡ rotr 12 x ⌝ }
+{
+    x >> 12 | x << 20
+}
+
+fn rotr8(x: u32) -> u32
+    ensures { λ r. ⌜ r ≡ rotr 8 x ⌝ }
+{
+    x >> 8 | x << 24
+}
+
+fn rotr7(x: u32) -> u32
+    ensures { λ r. ⌜ r ≡ rotr 7 x ⌝ }
+{
+    x >> 7 | x << 25
+}
+
+fn add(x: u32, y: u32) -> u32
+    ensures { λ r. ⌜ r ≡ plus x y ⌝ }
+{
+    std::num::wrapping_add_u32(x, y)
+}
+
+// The mixing function: a quarter round at the places i, j, k, l of the state.
+fn g(v: &mut [u32; 16], i: usize, j: usize, k: usize, l: usize, x: u32, y: u32)
+    requires { ⌜ i < 16 ⌝ }
+    requires { ⌜ j < 16 ⌝ }
+    requires { ⌜ k < 16 ⌝ }
+    requires { ⌜ l < 16 ⌝ }
+    ensures { λ _. ⌜ now (v .exit) ≡ S.g i j k l x y (now (v .entry)) ⌝ }
+{
+    let mut a = v[i];
+    let mut b = v[j];
+    let mut c = v[k];
+    let mut d = v[l];
+    a = add(add(a, b), x);
+    d = rotr16(d ^ a);
+    c = add(c, d);
+    b = rotr12(b ^ c);
+    a = add(add(a, b), y);
+    d = rotr8(d ^ a);
+    c = add(c, d);
+    b = rotr7(b ^ c);
+    v[i] = a;
+    v[j] = b;
+    v[k] = c;
+    v[l] = d;
+}
+
+// The first half of a round.
+fn columns(v: &mut [u32; 16], m: &[u32; 16])
+    ensures { λ _. ⌜ now (v .exit) ≡ S.columns (now (m .entry)) (now (v .entry)) ⌝ }
+{
+    g(v, 0, 4, 8, 12, m[0], m[1]);
+    g(v, 1, 5, 9, 13, m[2], m[3]);
+    g(v, 2, 6, 10, 14, m[4], m[5]);
+    g(v, 3, 7, 11, 15, m[6], m[7]);
+}
+
+// The second half of a round.
+fn diagonals(v: &mut [u32; 16], m: &[u32; 16])
+    ensures { λ _. ⌜ now (v .exit) ≡ S.diagonals (now (m .entry)) (now (v .entry)) ⌝ }
+{
+    g(v, 0, 5, 10, 15, m[8], m[9]);
+    g(v, 1, 6, 11, 12, m[10], m[11]);
+    g(v, 2, 7, 8, 13, m[12], m[13]);
+    g(v, 3, 4, 9, 14, m[14], m[15]);
+}
+
+// The message words in the order of the next round.
+fn permute(m: &[u32; 16]) -> [u32; 16]
+    ensures { λ r. ⌜ r ≡ S.permute (now (m .entry)) ⌝ }
+{
+    let p = MSG_PERMUTATION;
+    [
+        m[p[0]],
+        m[p[1]],
+        m[p[2]],
+        m[p[3]],
+        m[p[4]],
+        m[p[5]],
+        m[p[6]],
+        m[p[7]],
+        m[p[8]],
+        m[p[9]],
+        m[p[10]],
+        m[p[11]],
+        m[p[12]],
+        m[p[13]],
+        m[p[14]],
+        m[p[15]],
+    ]
+}
+
+pub fn low(t: u64) -> u32
+    ensures { λ r. ⌜ r ≡ t % 2 ^ 32 ⌝ }
+{
+    (t & 0xffff_ffff) as u32
+}
+
+pub fn high(t: u64) -> u32
+    ensures { λ r. ⌜ r ≡ t / 2 ^ 32 ⌝ }
+{
+    (t >> 32) as u32
+}
+
+fn start(h: &[u32; 8], t: u64, n: u32, f: u32) -> [u32; 16]
+    ensures { λ r. ⌜ r ≡ S.start (now (h .entry)) t n f ⌝ }
+{
+    let iv = IV;
+    [
+        h[0],
+        h[1],
+        h[2],
+        h[3],
+        h[4],
+        h[5],
+        h[6],
+        h[7],
+        iv[0],
+        iv[1],
+        iv[2],
+        iv[3],
+        low(t),
+        high(t),
+        n,
+        f,
+    ]
+}
+
+fn fold(v: &[u32; 16]) -> [u32; 8]
+    ensures { λ r. ⌜ r ≡ S.fold (now (v .entry)) ⌝ }
+{
+    [
+        v[0] ^ v[8],
+        v[1] ^ v[9],
+        v[2] ^ v[10],
+        v[3] ^ v[11],
+        v[4] ^ v[12],
+        v[5] ^ v[13],
+        v[6] ^ v[14],
+        v[7] ^ v[15],
+    ]
+}
+
+// The chaining value after the block m of n bytes; t is the counter and f the flags.
+pub fn compress(h: &[u32; 8], m: &[u32; 16], t: u64, n: u32, f: u32) -> [u32; 8]
+    ensures { λ r. ⌜ r ≡ S.compress (now (h .entry)) (now (m .entry)) t n f ⌝ }
+{
+    let mut v = start(h, t, n, f);
+    columns(&mut v, m);
+    diagonals(&mut v, m);
+    let m1 = permute(m);
+    columns(&mut v, &m1);
+    diagonals(&mut v, &m1);
+    let m2 = permute(&m1);
+    columns(&mut v, &m2);
+    diagonals(&mut v, &m2);
+    let m3 = permute(&m2);
+    columns(&mut v, &m3);
+    diagonals(&mut v, &m3);
+    let m4 = permute(&m3);
+    columns(&mut v, &m4);
+    diagonals(&mut v, &m4);
+    let m5 = permute(&m4);
+    columns(&mut v, &m5);
+    diagonals(&mut v, &m5);
+    let m6 = permute(&m5);
+    columns(&mut v, &m6);
+    diagonals(&mut v, &m6);
+    fold(&v)
+}
+
+// The word of four bytes.
+fn joined(a: u8, b: u8, c: u8, d: u8) -> u32
+    ensures { λ r. ⌜ r ≡ word a b c d ⌝ }
+{
+    a as u32 | (b as u32) << 8 | (c as u32) << 16 | (d as u32) << 24
+}
+
+// The word that starts at `at`.
+fn load(s: &[u8], at: usize) -> u32
+    requires { ⌜ at + 3 < length (now s) ⌝ }
+    ensures { λ r. ⌜ r ≡ wordAt at (now (s .entry)) ⌝ }
+{
+    joined(s[at], s[at + 1], s[at + 2], s[at + 3])
+}
+
+// The words of a whole block.
+fn whole(s: &[u8]) -> [u32; 16]
+    requires { ⌜ N.BLOCK-LEN ≤ length (now s) ⌝ }
+    ensures { λ r. ⌜ r ≡ N.blockWords (now (s .entry)) ⌝ }
+{
+    [
+        load(s, 0),
+        load(s, 4),
+        load(s, 8),
+        load(s, 12),
+        load(s, 16),
+        load(s, 20),
+        load(s, 24),
+        load(s, 28),
+        load(s, 32),
+        load(s, 36),
+        load(s, 40),
+        load(s, 44),
+        load(s, 48),
+        load(s, 52),
+        load(s, 56),
+        load(s, 60),
+    ]
+}
+
+// The words of a block that ends early: with zeros behind it.
+fn padded(s: &[u8]) -> [u32; 16]
+    requires { ⌜ length (now s) ≤ N.BLOCK-LEN ⌝ }
+    ensures { λ r. ⌜ r ≡ N.blockWords (now (s .entry)) ⌝ }
+{
+    let mut b = [0u8; 64];
+    let mut i: usize = 0;
+    while i < s.len() {
+        b[i] = s[i];
+        i += 1;
+    }
+    whole(&b)
+}
+
+// The words of a chunk's last block.
+fn rest(s: &[u8]) -> [u32; 16]
+    requires { ⌜ length (now s) ≤ N.BLOCK-LEN ⌝ }
+    ensures { λ r. ⌜ r ≡ N.blockWords (now (s .entry)) ⌝ }
+{
+    if s.len() == BLOCK_LEN {
+        whole(s)
+    } else {
+        padded(s)
+    }
+}
+
+// The chaining value of chunk `t`; f is ROOT where the chunk is the whole tree, else 0.
+pub fn chunk(s: &[u8], t: u64, f: u32) -> [u32; 8]
+    requires { ⌜ length (now s) ≤ N.CHUNK-LEN ⌝ }
+    requires { ⌜ f < 16 ⌝ }
+    ensures { λ r. ⌜ r ≡ N.chunk (now (s .entry)) t f ⌝ }
+{
+    let mut h = IV;
+    let mut d = CHUNK_START;
+    let mut k: usize = 0;
+    while BLOCK_LEN * k + BLOCK_LEN < s.len() {
+        let at = BLOCK_LEN * k;
+        let m = whole(&s[at..]);
+        h = compress(&h, &m, t, 64, d);
+        d = 0;
+        k += 1;
+    }
+    let at = BLOCK_LEN * k;
+    let m = rest(&s[at..]);
+    let n = (s.len() - at) as u32;
+    compress(&h, &m, t, n, d + CHUNK_END + f)
+}
+
+fn both(l: &[u32; 8], r: &[u32; 8]) -> [u32; 16]
+    ensures { λ m. ⌜ m ≡ (S.words8 (now (l .entry)) ++ S.words8 (now (r .entry))) ⌝ }
+{
+    [
+        l[0],
+        l[1],
+        l[2],
+        l[3],
+        l[4],
+        l[5],
+        l[6],
+        l[7],
+        r[0],
+        r[1],
+        r[2],
+        r[3],
+        r[4],
+        r[5],
+        r[6],
+        r[7],
+    ]
+}
+
+// The chaining value of a node over two others; f is ROOT where it is the root, else 0.
+pub fn parent(l: &[u32; 8], r: &[u32; 8], f: u32) -> [u32; 8]
+    requires { ⌜ f < 16 ⌝ }
+    ensures { λ h. ⌜ h ≡ N.parent (now (l .entry)) (now (r .entry)) f ⌝ }
+{
+    let m = both(l, r);
+    let h = IV;
+    compress(&h, &m, 0, 64, PARENT + f)
+}
