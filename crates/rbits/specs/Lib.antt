@@ -1,0 +1,5 @@
+pub mod Chosen
+pub mod Tables
+pub mod DigitLaws
+pub mod TableLaws
+pub mod LoopLaws
