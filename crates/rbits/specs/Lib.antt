@@ -3,3 +3,4 @@ pub mod Tables
 pub mod DigitLaws
 pub mod TableLaws
 pub mod LoopLaws
+pub mod ChosenLaws
