@@ -1,0 +1,6 @@
+pub mod Chosen
+pub mod Tables
+pub mod DigitLaws
+pub mod TableLaws
+pub mod LoopLaws
+pub mod ChosenLaws

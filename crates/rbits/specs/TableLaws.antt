@@ -1,0 +1,112 @@
+-- The tables of sums: entry c of `sums n f` has word e where digit e of c is 1, for every n; and what is looked up in the tables of 64 words.
+use mathlib.Core.Path.{_≡_, refl, sym, ap, ap₂, _∙_}
+use mathlib.Core.Bool.{Bool, true, false}
+use mathlib.Core.List.{List, [], _∷_, _++_, map}
+use Prim.Native.Nat.{ℕ, zero, suc, _+_, _-_, _*_, _/_, _%_, _^_, _<_, _≤_}
+use native.Mathlib.Nat.{add-zero, add-assoc, zero-mul, suc-mul, pow-suc, div-eq-of-lt, mod-lt}
+use native.Mathlib.Numerals.{add-one}
+use native.Mathlib.Omega.{arith}
+use lib.ListN.{length, getD, length-append, length-map, List·getD-append, List·getD-map}
+use lib.Seq.{getD-append-add}
+use lib.Bits.{bitXor, bitAnd, xor-self, xor-zero-r, and-mask}
+use lib.Arith.{digits-div, digits-mod}
+use lib.Dec.{ltb}
+use borrow.Author.Tests.{ltb-true, ltb-false}
+use Rattle.lists.specs.Over.{cat}
+use Rattle.lists.specs.Rows.{chunk-cat, getD-chunk}
+use Rattle.algebra.specs.Xor.{xor-assoc}
+use Rattle.algebra.specs.Group.{XorGroup, numbers, sel, odd, unit-r}
+use Rattle.algebra.specs.Sum.{sum, sum-ext, sum-split}
+use Rattle.rbits.specs.Tables.{sums, sums4, tables, entry, lookup}
+use Rattle.rbits.specs.DigitLaws.{mod-digit, part-digit}
+
+pub length-sums : (n : ℕ) (f : ℕ → ℕ) → length (sums n f) ≡ 2 ^ n
+unfolding sums
+length-sums zero f = refl
+length-sums (suc n) f =
+    length-append (sums n f) (map (λ x. bitXor x (f n)) (sums n f))
+    ∙ ap (λ k. length (sums n f) + k) (length-map (sums n f) (λ x. bitXor x (f n)))
+    ∙ (let q : length (sums n f) ≡ 2 ^ n = length-sums n f in omega (arith, pow-suc 2 n))
+
+-- a sum of sums is one sum
+pub sum-groups : {A : Type 0} (G : XorGroup A) (n m : ℕ) (f : ℕ → A) → sum G n (λ k. sum G m (λ e. f (k * m + e))) ≡ sum G (n * m) f
+unfolding sum
+sum-groups G zero m f = ap (λ k. sum G k f) (sym (zero-mul m))
+sum-groups G (suc n) m f =
+    ap (λ x. G .op x (sum G m (λ e. f (n * m + e)))) (sum-groups G n m f) ∙ sym (sum-split G (n * m) m f)
+    ∙ ap (λ k. sum G k f) (sym (suc-mul n m))
+
+-- the words that c chooses
+abbrev pub picked : ℕ → (ℕ → ℕ) → ℕ → ℕ
+picked n f c = sum numbers n (λ e. sel numbers (odd (c / 2 ^ e)) (f e))
+
+pub sums-at : (n : ℕ) (f : ℕ → ℕ) (c z : ℕ) → c < 2 ^ n → getD (sums n f) c z ≡ picked n f c
+unfolding sums sum odd
+sums-at zero f zero z h = refl
+sums-at zero f (suc c) z h = absurd (omega arith)
+sums-at (suc n) f c z h = go (ltb c (2 ^ n)) refl (sums-at n f)
+  where
+    g : ℕ → ℕ
+    g x = bitXor x (f n)
+
+    top : ℕ → ℕ
+    top k = sel numbers (odd k) (f n)
+
+    go : (b : Bool) → ltb c (2 ^ n) ≡ b → ((c z : ℕ) → c < 2 ^ n → getD (sums n f) c z ≡ picked n f c)
+        → getD (sums n f ++ map g (sums n f)) c z ≡ bitXor (picked n f c) (top (c / 2 ^ n))
+    go true q ih =
+        let l : c < 2 ^ n = ltb-true c (2 ^ n) q in
+        List·getD-append (sums n f) (map g (sums n f)) z c (rw (length-sums n f) l) ∙ ih c z l
+        ∙ sym (ap (λ k. bitXor (picked n f c) (top k)) (div-eq-of-lt l) ∙ xor-zero-r (picked n f c))
+    go false q ih =
+        let d : ℕ = c - 2 ^ n in
+        let l : 2 ^ n ≤ c = ltb-false c (2 ^ n) q in
+        let s : length (sums n f) + d ≡ c = omega (arith, length-sums n f) in
+        let k : d < 2 ^ n = omega (arith, pow-suc 2 n) in
+        let w : 1 * 2 ^ n + d ≡ c = omega arith in
+        let u : z ≡ g (bitXor z (f n)) = sym (xor-assoc z (f n) (f n) ∙ ap (bitXor z) (xor-self (f n)) ∙ xor-zero-r z) in
+        ap (λ i. getD (sums n f ++ map g (sums n f)) i z) (sym s) ∙ getD-append-add (sums n f) (map g (sums n f)) d z
+        ∙ ap (getD (map g (sums n f)) d) u ∙ List·getD-map g (sums n f) d (bitXor z (f n))
+        ∙ ap₂ bitXor
+        (ih d (bitXor z (f n)) k
+        ∙ sum-ext numbers n _ (λ e. sel numbers (odd (c / 2 ^ e)) (f e))
+        (λ e v. ap (λ b. sel numbers b (f e)) (sym (sym (mod-digit c n e v) ∙ ap (λ x. odd (x / 2 ^ e)) (ap (λ x. x % 2 ^ n) (sym w) ∙ digits-mod 1 k)))))
+        (ap top (sym (ap (λ x. x / 2 ^ n) (sym w) ∙ digits-div 1 k)))
+
+-- what w chooses of 64 words, four digits at a time
+pub lookup-tables : (f : ℕ → ℕ) (w : ℕ) → lookup (tables f) w ≡ picked 64 f w
+unfolding lookup tables
+lookup-tables f w = sum-ext numbers 16 (entry (tables f) w) (λ k. sum numbers 4 (λ e. F (k * 4 + e))) four ∙ sum-groups numbers 16 4 F
+  where
+    F : ℕ → ℕ
+    F e = sel numbers (odd (w / 2 ^ e)) (f e)
+
+    g : ℕ → List ℕ
+    g k = sums 4 (λ e. f (k * 4 + e))
+
+    four : (k : ℕ) → k < 16 → getD (cat 16 g) (k * 16 + w / 2 ^ (k * 4) % 16) 0 ≡ sum numbers 4 (λ e. F (k * 4 + e))
+    four k h =
+        let c : ℕ = w / 2 ^ (k * 4) % 16 in
+        let l : c < 16 = mod-lt (w / 2 ^ (k * 4)) (omega arith) in
+        sym (getD-chunk 16 k (cat 16 g) c 0 l)
+        ∙ ap (λ (x : List ℕ). getD x c 0) (chunk-cat 16 16 g (λ j v. length-sums 4 (λ e. f (j * 4 + e))) k h)
+        ∙ sums-at 4 (λ e. f (k * 4 + e)) c 0 l
+        ∙ sum-ext numbers 4 _ (λ e. F (k * 4 + e)) (λ e v. ap (λ b. sel numbers b (f (k * 4 + e))) (part-digit w (k * 4) 4 e v))
+
+-- a loop's turns
+pub sum-turn : {A : Type 0} (G : XorGroup A) (n : ℕ) (f : ℕ → A) → sum G (n + 1) f ≡ G .op (sum G n f) (f n)
+unfolding sum
+sum-turn G n f = rw (add-one n) refl
+
+pub lookup-turn : (t : List ℕ) (w k a : ℕ) → a ≡ sum numbers k (entry t w)
+    → bitXor a (getD t (k * 16 + bitAnd (w / 2 ^ (k * 4)) 15) 0) ≡ sum numbers (k + 1) (entry t w)
+lookup-turn t w k a h =
+    ap₂ (λ x y. bitXor x (getD t (k * 16 + y) 0)) h (and-mask (w / 2 ^ (k * 4)) 4) ∙ sym (sum-turn numbers k (entry t w))
+
+-- table k, of four words
+pub sums4-at : (f : ℕ → ℕ) (first k a b c d : ℕ) → a ≡ f (first + k * 4) → b ≡ f (first + k * 4 + 1) → c ≡ f (first + k * 4 + 2) → d ≡ f (first + k * 4 + 3)
+    → sums4 a b c d ≡ sums 4 (λ e. f (first + (k * 4 + e)))
+unfolding sums4 sums
+sums4-at f first k a b c d ea eb ec ed =
+    let at : (e : ℕ) → f (first + k * 4 + e) ≡ f (first + (k * 4 + e)) = λ e. ap f (add-assoc first (k * 4) e) in
+    λ i. sums4 ((ea ∙ ap (λ n. f (first + n)) (sym (add-zero (k * 4)))) i) ((eb ∙ at 1) i) ((ec ∙ at 2) i) ((ed ∙ at 3) i)
