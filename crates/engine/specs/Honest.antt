@@ -9,12 +9,12 @@ use lib.Dec.{ltb, eqb}
 use Rattle.lists.specs.Pick.{pick}
 use Rattle.lists.specs.Rows.{chunk}
 use Rattle.lists.specs.All.{allOf}
-use Rattle.engine.specs.Step.{frame, Loan, nothing}
+use Rattle.engine.specs.Step.{Frame, frame, Loan, nothing}
 use Rattle.engine.specs.Area.{mem, Every}
 use Rattle.engine.specs.Sheet.{Store, Known, Sheet, Mail}
-use Rattle.engine.specs.Plain.{Echo, Table, rowsOf, isEcho, nextOf, isRound, numberOf, stepsOf, toEcho}
+use Rattle.engine.specs.Plain.{Recv, Send, Echo, Table, rowsOf, isEcho, nextOf, isRound, numberOf, stepsOf, toEcho}
 
--- ---- what is asked of the table, and of the echo's messages
+-- ---- what the echo's messages owe
 -- an honest echo is as long as it should, is formed, and has no fault
 pub record EchoLaws (E : Echo) (n : ℕ) : Type 0 where
   pub lens : (i r : ℕ) → i < n → r < n → i ≢ r → (rows : List ℕ) → length rows ≡ n * 16 → length (E .write n i rows r) ≡ E .len n
@@ -22,10 +22,60 @@ pub record EchoLaws (E : Echo) (n : ℕ) : Type 0 where
   pub passes : (i j : ℕ) → i < n → j < n → i ≢ j → (own sent : List ℕ) → length own ≡ n * 16 → length sent ≡ n * 16
       → ((k : ℕ) → k < n → i ≢ k → j ≢ k → chunk 16 k own ≡ chunk 16 k sent) → E .fault n i j own (E .write n j sent i) ≡ 0
 
+-- ---- WHAT A ROUND OWES, on a store of what the sections hold: a round's facts name no table
+module _ (n l : ℕ) (C : Store) where
+  -- a claim on every box that receives, at moment t, with a work area as the store says, messages that are as sent says
+  abbrev pub Gets : (ℕ → ℕ → List ℕ) → ℕ → (ℕ → List ℕ → (ℕ → List ℕ) → Type 0) → Type 0
+  Gets sent t Q = (i : ℕ) → i < n → (w : List ℕ) → Known n l C t i w → (m : ℕ → List ℕ) → Mail n sent i m → Q i w m
+
+  -- its messages are len bytes long, are formed, and have no fault
+  pub record Heard (R : Recv) (len : ℕ) (sent : ℕ → ℕ → List ℕ) (t : ℕ) : Type 0 where
+    pub lens : (j r : ℕ) → j < n → r < n → j ≢ r → length (sent j r) ≡ len
+    pub formed : (i j : ℕ) → i < n → j < n → i ≢ j → R .form (frame n l i) (sent j i) ≡ 0
+    pub judged : Gets sent t (λ i w m. R .judge (frame n l i) w m .code ≡ 0)
+
+  -- a round but the last, received at moment t: besides, what it keeps for moment u
+  pub record HonestRecv (R : Recv) (len : ℕ) (sent : ℕ → ℕ → List ℕ) (t u : ℕ) : Type 0 where
+    pub heard : Heard R len sent t
+    pub keeps : Gets sent t (λ i w m. Known n l C u i (R .keep (frame n l i) w m))
+
+  -- a round with an echo: all receivers hash one list
+  pub record HonestList (R : Recv) (sent : ℕ → ℕ → List ℕ) (hashed : ℕ → List ℕ) : Type 0 where
+    pub size : (j : ℕ) → j < n → length (hashed j) ≡ 16
+    pub hashes : (i j : ℕ) → i < n → j < n → i ≢ j → R .digest (frame n l i) (sent j i) ≡ hashed j
+
+  -- a round but the first, its messages made between moments t and u: what is kept, and what is sent
+  pub record HonestSend (S : Send) (loan : Loan) (sent : ℕ → ℕ → List ℕ) (t u : ℕ) : Type 0 where
+    pub keeps : S .lent n l loan ≡ 0 → (i : ℕ) → i < n → (w : List ℕ) → Known n l C t i w
+        → Known n l C u i (S .keep (frame n l i) loan w)
+    pub writes : S .lent n l loan ≡ 0 → (i r : ℕ) → i < n → r < n → i ≢ r → (w : List ℕ) → Known n l C u i w
+        → S .write (frame n l i) loan w r ≡ sent i r
+
+  -- the last round: what it writes
+  pub record HonestLast (R : Recv) (len : ℕ) (sent : ℕ → ℕ → List ℕ) (t : ℕ) (write : Frame → List ℕ → (ℕ → List ℕ) → List ℕ)
+      (result : ℕ → List ℕ) : Type 0 where
+    pub heard : Heard R len sent t
+    pub results : Gets sent t (λ i w m. write (frame n l i) w m ≡ result i)
+
+-- ---- the honest run
+-- The moments of a run: before the messages of round k are made, and when it is due. A section that receiving round k fills is ready from
+-- `before` of the next plain round on, one that making its messages fills from `due k` on
+abbrev pub before : ℕ → ℕ
+before k = k + k
+
+abbrev pub due : ℕ → ℕ
+due k = suc (k + k)
+
 -- the plain round that comes after round k
 unfoldable pub plainAfter : Table → ℕ → ℕ
 plainAfter T k = suc (pick (isEcho T (suc k)) (suc k) k)
 
+-- the round before
+abbrev pub prior : ℕ → ℕ
+prior zero = zero
+prior (suc k) = k
+
+-- ---- what the table owes
 -- no echo follows another, and neither the first round nor the last is one: one computed test
 unfoldable pub orderTest : Table → Bool
 orderTest T =
@@ -35,6 +85,7 @@ orderTest T =
 unfoldable pub courseTest : Table → Bool → Bool
 courseTest T two = allOf (stepsOf T two) (λ d. isRound T two (numberOf T two d)) && eqb (numberOf T two (stepsOf T two)) 0
 
+-- for n boxes with l: opening takes them, the order is one, and the two sections of the echoes have their sizes
 pub record Lawful (T : Table) (n l : ℕ) : Type 0 where
   pub fine : (i : ℕ) → i < n → T .fine (frame n l i) ≡ true
   pub order : orderTest T ≡ true
@@ -42,19 +93,6 @@ pub record Lawful (T : Table) (n l : ℕ) : Type 0 where
   pub size-pending : (i : ℕ) → T .size (frame n l i) (T .count) ≡ 2
   pub size-hashes : (i : ℕ) → T .size (frame n l i) (suc (T .count)) ≡ n * 16
   pub echo : EchoLaws (T .echo) n
-
--- ---- the honest run
--- The moments of a run: before the messages of round k are made, and when it is due
-abbrev pub before : ℕ → ℕ
-before k = k + k
-
-abbrev pub due : ℕ → ℕ
-due k = suc (k + k)
-
--- the round before
-abbrev pub prior : ℕ → ℕ
-prior zero = zero
-prior (suc k) = k
 
 -- What an honest run holds and sends. loan k: what is lent with the call that makes round k's messages; ready t s: section s holds its
 -- value at moment t; val t i s: that value, in box i; sent k j r: what j sends to r for round k; hashed k j: the hash of j's list, for
@@ -72,50 +110,34 @@ module _ (T : Table) (U : Script) (n l : ℕ) where
   abbrev pub storeOf : Store
   storeOf = record { total = suc (suc (T .count)); count = T .count; size = T .size; ready = U .ready; val = U .val }
 
-  -- a claim on every box that receives round k with a work area and messages as the script says
-  abbrev pub Gets : ℕ → (ℕ → List ℕ → (ℕ → List ℕ) → Type 0) → Type 0
-  Gets k Q = (i : ℕ) → i < n → (w : List ℕ) → Known n l storeOf (due k) i w → (m : ℕ → List ℕ) → Mail n (U .sent) k i m → Q i w m
+  -- round k of the table, received; its echo; its messages made
+  abbrev pub RecvAt : ℕ → Type 0
+  RecvAt k = HonestRecv n l storeOf (T .recv k) (T .send k .len n l) (U .sent k) (due k) (before (plainAfter T k))
 
-  -- ---- WHAT A ROUND OWES
-  -- its messages are as long as they should, are formed, and have no fault
-  pub record Heard (k : ℕ) : Type 0 where
-    pub lens : (j r : ℕ) → j < n → r < n → j ≢ r → length (U .sent k j r) ≡ T .send k .len n l
-    pub formed : (i j : ℕ) → i < n → j < n → i ≢ j → T .recv k .form (frame n l i) (U .sent k j i) ≡ 0
-    pub judged : Gets k (λ i w m. T .recv k .judge (frame n l i) w m .code ≡ 0)
+  abbrev pub ListAt : ℕ → Type 0
+  ListAt k = HonestList n l storeOf (T .recv k) (U .sent k) (U .hashed k)
 
-  -- of every round but the last: besides, what it keeps, and that all receivers hash one list
-  pub record HonestRecv (k : ℕ) : Type 0 where
-    pub heard : Heard k
-    pub keeps : Gets k (λ i w m. Known n l storeOf (before (plainAfter T k)) i (T .recv k .keep (frame n l i) w m))
-    pub size : isEcho T (suc k) ≡ true → (j : ℕ) → j < n → length (U .hashed k j) ≡ 16
-    pub hashes : isEcho T (suc k) ≡ true → (i j : ℕ) → i < n → j < n → i ≢ j
-        → T .recv k .digest (frame n l i) (U .sent k j i) ≡ U .hashed k j
+  abbrev pub SendAt : ℕ → Type 0
+  SendAt k = HonestSend n l storeOf (T .send k) (U .loan k) (U .sent k) (before k) (due k)
 
-  -- of every round but the first: what is kept before it is sent, and what is sent
-  pub record HonestSend (k : ℕ) : Type 0 where
-    pub keeps : T .send k .lent n l (U .loan k) ≡ 0 → (i : ℕ) → i < n → (w : List ℕ) → Known n l storeOf (before k) i w
-        → Known n l storeOf (due k) i (T .send k .keep (frame n l i) (U .loan k) w)
-    pub writes : T .send k .lent n l (U .loan k) ≡ 0 → (i r : ℕ) → i < n → r < n → i ≢ r → (w : List ℕ) → Known n l storeOf (due k) i w
-        → T .send k .write (frame n l i) (U .loan k) w r ≡ U .sent k i r
+  abbrev pub LastAt : ℕ → Type 0
+  LastAt k = HonestLast n l storeOf (T .recv k) (T .send k .len n l) (U .sent k) (due k) (T .result) (U .result)
 
-  -- of the last round
-  pub record HonestLast (k : ℕ) : Type 0 where
-    pub heard : Heard k
-    pub results : Gets k (λ i w m. T .result (frame n l i) w m ≡ U .result i)
-
-  -- all rounds. plain: those that have no echo's number, but for the last; each is received, and then the next plain one is sent
+  -- all rounds. plain: those that are no echoes, but for the last
   pub record Honest : Type 0 where
     pub plain : List ℕ
     pub whole : allOf (T .last) (λ k. pick (eqb k 0) true (pick (isEcho T k) true (mem k plain))) ≡ true
-    pub recv : Every HonestRecv plain
-    pub send : Every (λ k. HonestSend (plainAfter T k)) plain
-    pub last : HonestLast (T .last)
+    pub recv : Every RecvAt plain
+    pub send : Every (λ k. SendAt (plainAfter T k)) plain
+    pub lists : Every (λ k. ListAt (prior k)) (T .echoes)
+    pub last : LastAt (T .last)
 
   -- ---- the sheet of the session
   -- an echo k comes before the messages of round k + 1 are made
   unfoldable pub momentOf : ℕ → ℕ
   momentOf k = pick (isEcho T k) (before (suc k)) (due k)
 
+  -- the two sections of the echoes hold something when an echo is due
   unfoldable pub readyOf : ℕ → ℕ → Bool
   readyOf k s = pick (ltb s (T .count)) (U .ready (momentOf k) s) (isEcho T k)
 
@@ -124,9 +146,11 @@ module _ (T : Table) (U : Script) (n l : ℕ) where
   valOf k i s =
       pick (ltb s (T .count)) (U .val (momentOf k) i s) (pick (eqb s (T .count)) (0 ∷ 0 ∷ []) (rowsOf (frame n l i) (U .hashed (prior k))))
 
+  -- an echo of the hashes, or the round's own message
   unfoldable pub sentOf : ℕ → ℕ → ℕ → List ℕ
   sentOf k j r = pick (isEcho T k) (T .echo .write n j (rowsOf (frame n l j) (U .hashed (prior k))) r) (U .sent k j r)
 
+  -- what holds when each round is due, echoes among them
   abbrev pub sheetOf : Sheet
   sheetOf = record {
     store = record { total = suc (suc (T .count)); count = suc (suc (T .count)); size = T .size; ready = readyOf; val = valOf };

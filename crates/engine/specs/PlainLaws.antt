@@ -1,4 +1,4 @@
--- A session whose rounds are plain: from what is honest of each round's Recv and Send, each call is honest, with and without echoes.
+-- From what each round of a table owes follows what the engine asks of each call: for n = 2, and for n > 2 with the echoes between.
 use mathlib.Core.Path.{_≡_, refl, sym, ap, ap₂, _∙_, subst}
 use mathlib.Core.Bool.{Bool, true, false, not, _&&_}
 use mathlib.Core.Logic.{_≢_}
@@ -19,8 +19,8 @@ use Rattle.engine.specs.World.{Course, sessionOf}
 use Rattle.engine.specs.Engine.{Joint, Valid, HonestRound}
 use Rattle.engine.specs.Area.{off, sec, putSec, length-putSec, sec-same, sec-other, toOthers, toOthers-ext, mem, every-mem}
 use Rattle.engine.specs.Sheet.{Known, Sheet, Mail, Passes, Middle, Last, Holds, middle, last}
-use Rattle.engine.specs.Honest.{orderTest, courseTest, Lawful, before, due, prior, Script, storeOf, plainAfter, Heard, HonestRecv}
-use Rattle.engine.specs.Honest.{HonestSend, HonestLast, Honest, momentOf, readyOf, valOf, sentOf, sheetOf, loansOf}
+use Rattle.engine.specs.Honest.{orderTest, courseTest, Lawful, before, due, prior, Script, storeOf, plainAfter, Heard, RecvAt}
+use Rattle.engine.specs.Honest.{ListAt, SendAt, LastAt, Honest, momentOf, readyOf, valOf, sentOf, sheetOf, loansOf}
 use Rattle.engine.specs.Plain.{Table, rowsOf, isEcho, nextOf, isRound, numberOf, stepsOf, toEcho, lenOf, lentOf, formOf, pending}
 use Rattle.engine.specs.Plain.{hashes, digests, echoCheck, checkOf, waits, kept, held, made, keepOf, writeOf, protocolOf}
 
@@ -142,6 +142,45 @@ module _ (T : Table) (n l : ℕ) (W : Lawful T n l) where
       go : (c : Bool) → two ≡ c → (b : Bool) → isEcho T (suc k) ≡ b → (not c && b) ≡ true → (nextOf T two k ≡ suc k) × (b ≡ true)
       go true z b e q = absurd (true-false (sym q))
       go false z b e q = (next-on two k ne (ap (λ c. c && isEcho T (suc k)) z), q)
+
+  -- ---- which round is due
+  abbrev counts : Bool
+  counts = allOf (stepsOf T (eqb n 2)) (λ d. isRound T (eqb n 2) (numberOf T (eqb n 2) d))
+
+  course-is : (counts ≡ true) × (eqb (numberOf T (eqb n 2) (stepsOf T (eqb n 2))) 0 ≡ true)
+  unfolding courseTest
+  course-is = two-of counts (eqb (numberOf T (eqb n 2) (stepsOf T (eqb n 2))) 0) (W .course (eqb n 2))
+
+  round-at : (d : ℕ) → d < stepsOf T (eqb n 2) → isRound T (eqb n 2) (numberOf T (eqb n 2) d) ≡ true
+  round-at d h = of-all (stepsOf T (eqb n 2)) (λ d. isRound T (eqb n 2) (numberOf T (eqb n 2) d)) (course-is .0) d h
+
+  never-zero : isRound T (eqb n 2) 0 ≡ false
+  unfolding isRound
+  never-zero = refl
+
+  pub number-next : (d : ℕ) → d < stepsOf T (eqb n 2) → nextOf T (eqb n 2) (numberOf T (eqb n 2) d) ≡ numberOf T (eqb n 2) (suc d)
+  unfolding numberOf
+  number-next d h = refl
+
+  pub number-live : (d b : ℕ) → d < stepsOf T (eqb n 2) → b < n → protocolOf T .alive (sessionOf n l b (numberOf T (eqb n 2) d)) ≡ true
+  number-live d b h lb = ap₂ _&&_ (W .fine b lb) (round-at d h)
+
+  pub number-end : numberOf T (eqb n 2) (stepsOf T (eqb n 2)) ≡ 0
+  number-end = eqb-true _ _ (course-is .1)
+
+  pub number-over : (b : ℕ) → protocolOf T .alive (sessionOf n l b (numberOf T (eqb n 2) (stepsOf T (eqb n 2)))) ≡ false
+  number-over b =
+      ap (λ c. T .fine (frame n l b) && c) (ap (isRound T (eqb n 2)) number-end ∙ never-zero) ∙ and-false (T .fine (frame n l b))
+
+  -- the order of the rounds of n boxes
+  abbrev pub courseOf : Course (protocolOf T) n l
+  courseOf = record {
+    steps = stepsOf T (eqb n 2);
+    number = numberOf T (eqb n 2);
+    next-is = number-next;
+    live = number-live;
+    over = number-over;
+  }
 
 module _ (T : Table) (U : Script) (n l : ℕ) (W : Lawful T n l) where
   abbrev P : Protocol
@@ -269,13 +308,13 @@ module _ (T : Table) (U : Script) (n l : ℕ) (W : Lawful T n l) where
 
   -- ---- what is received
   abbrev Mails : ℕ → ℕ → (ℕ → List ℕ) → Type 0
-  Mails k i m = Mail n (S .sent) k i m
+  Mails k i m = Mail n (S .sent k) i m
 
   sent-plain : (k j r : ℕ) → isEcho T k ≡ false → U .sent k j r ≡ sentOf T U n l k j r
   unfolding sentOf
   sent-plain k j r e = rw e refl
 
-  mail-plain : (k i : ℕ) (m : ℕ → List ℕ) → isEcho T k ≡ false → Mails k i m → Mail n (U .sent) k i m
+  mail-plain : (k i : ℕ) (m : ℕ → List ℕ) → isEcho T k ≡ false → Mails k i m → Mail n (U .sent k) i m
   mail-plain k i m e M j lj ne = M j lj ne ∙ sym (sent-plain k j i e)
 
   mail-echo : (k i : ℕ) (m : ℕ → List ℕ) → isEcho T (suc k) ≡ true → Mails (suc k) i m
@@ -283,7 +322,8 @@ module _ (T : Table) (U : Script) (n l : ℕ) (W : Lawful T n l) where
   unfolding sentOf
   mail-echo k i m e M j lj ne = M j lj ne ∙ rw e refl
 
-  pass-plain : (k : ℕ) → isEcho T k ≡ false → Heard T U n l k → Passes P n l L S k
+  pass-plain : (k : ℕ) → isEcho T k ≡ false → Heard n l (storeOf T U n l) (T .recv k) (T .send k .len n l) (U .sent k) (due k)
+      → Passes P n l L S k
   unfolding lenOf formOf sentOf checkOf
   pass-plain k e H = record {
     lens = λ j r lj lr ne. rw e (H .lens j r lj lr ne);
@@ -359,7 +399,7 @@ module _ (T : Table) (U : Script) (n l : ℕ) (W : Lawful T n l) where
     write-made i w m =
         rw (ne-eqb k (T .last) ne, q, made-is i w m) (ap₂ (λ j q. toOthers n i (T .send j .write (frame n l i) q (area i w m))) x loan-made)
 
-    middle-made : isEcho T (suc to) ≡ false → Passes P n l L S k → HonestSend T U n l (suc to)
+    middle-made : isEcho T (suc to) ≡ false → Passes P n l L S k → SendAt T U n l (suc to)
         → ((i : ℕ) → i < n → (w : List ℕ) → Is k i w → (m : ℕ → List ℕ) → Mails k i m → Own (before (suc to)) i (got i w m))
         → Middle P n l L S k
     middle-made e A H G = record {
@@ -391,8 +431,8 @@ module _ (T : Table) (U : Script) (n l : ℕ) (W : Lawful T n l) where
 
   -- ---- THE FOUR KINDS OF CALLS
   -- for a plain round, when no echo follows
-  pub middle-plain : (k : ℕ) → k < T .last → isEcho T k ≡ false → toEcho T (eqb n 2) k ≡ false → HonestRecv T U n l k
-      → HonestSend T U n l (plainAfter T k) → Middle (protocolOf T) n l (loansOf T U n l) (sheetOf T U n l) k
+  pub middle-plain : (k : ℕ) → k < T .last → isEcho T k ≡ false → toEcho T (eqb n 2) k ≡ false → RecvAt T U n l k
+      → SendAt T U n l (plainAfter T k) → Middle (protocolOf T) n l (loansOf T U n l) (sheetOf T U n l) k
   unfolding plainAfter
   middle-plain k lk e q R H =
       let x = next-plain k lk q in
@@ -400,13 +440,13 @@ module _ (T : Table) (U : Script) (n l : ℕ) (W : Lawful T n l) where
       (λ i li w K m M. rw e (R .keeps i li w (subst (λ t. Own t i w) (moment-plain k e) (to-own k i w K)) m (mail-plain k i m e M)))
 
   -- for a plain round, when its echo follows
-  pub middle-held : (k : ℕ) → k < T .last → isEcho T k ≡ false → toEcho T (eqb n 2) k ≡ true → HonestRecv T U n l k
+  pub middle-held : (k : ℕ) → k < T .last → isEcho T k ≡ false → toEcho T (eqb n 2) k ≡ true → RecvAt T U n l k → ListAt T U n l k
       → Middle (protocolOf T) n l (loansOf T U n l) (sheetOf T U n l) k
-  middle-held k lk e q R = record {
+  middle-held k lk e q R E = record {
     pass = pass-plain k e (R .heard);
     to = k;
     to-is = c .0;
-    keeps = λ v i li w K m M. rw (keep-is i li w K m M) (to-held k i (c .1) (R .size (c .1)) _ (area i li w K m M));
+    keeps = λ v i li w K m M. rw (keep-is i li w K m M) (to-held k i (c .1) (E .size) _ (area i li w K m M));
     writes = λ v i li w K m M. write-is i w m ∙ ap (λ (x : List ℕ). toOthers n i (T .echo .write n i x)) (digests-are i li m M) ∙ sent-is i;
   }
     where
@@ -418,7 +458,7 @@ module _ (T : Table) (U : Script) (n l : ℕ) (W : Lawful T n l) where
 
       digests-are : (i : ℕ) → i < n → (m : ℕ → List ℕ) → Mails k i m → digests T k (frame n l i) m ≡ rows k i
       digests-are i li m M = unfold digests in rows-ext (frame n l i) _ (U .hashed k)
-          (λ j lj nj. ap (T .recv k .digest (frame n l i)) (mail-plain k i m e M j lj nj) ∙ R .hashes (c .1) i j li lj nj)
+          (λ j lj nj. ap (T .recv k .digest (frame n l i)) (mail-plain k i m e M j lj nj) ∙ E .hashes i j li lj nj)
 
       own : (i : ℕ) (w : List ℕ) → Is k i w → Own (due k) i w
       own i w K = subst (λ t. Own t i w) (moment-plain k e) (to-own k i w K)
@@ -450,7 +490,7 @@ module _ (T : Table) (U : Script) (n l : ℕ) (W : Lawful T n l) where
 
   -- for an echo
   pub middle-echo : (k : ℕ) → suc k ≤ T .last → isEcho T (suc k) ≡ true → ((j : ℕ) → j < n → length (U .hashed k j) ≡ 16)
-      → HonestSend T U n l (suc (suc k)) → Middle (protocolOf T) n l (loansOf T U n l) (sheetOf T U n l) (suc k)
+      → SendAt T U n l (suc (suc k)) → Middle (protocolOf T) n l (loansOf T U n l) (sheetOf T U n l) (suc k)
   middle-echo k lk e len H =
       middle-made (suc k) (suc k) ne (unfold toEcho in ap (λ b. not two && b) single ∙ and-false (not two))
       (next-on T n l W two (suc k) ne (ap (λ b. two && b) single ∙ and-false two)) single (pass-echo k e len) H
@@ -463,7 +503,7 @@ module _ (T : Table) (U : Script) (n l : ℕ) (W : Lawful T n l) where
       single = no-two T n l W (suc k) lk e
 
   -- for the last round
-  pub last-call : HonestLast T U n l (T .last) → Last (protocolOf T) n l (loansOf T U n l) (sheetOf T U n l) (T .last)
+  pub last-call : LastAt T U n l (T .last) → Last (protocolOf T) n l (loansOf T U n l) (sheetOf T U n l) (T .last)
   unfolding nextOf writeOf
   last-call H = record {
     pass = pass-plain (T .last) e (H .heard);
@@ -476,44 +516,6 @@ module _ (T : Table) (U : Script) (n l : ℕ) (W : Lawful T n l) where
       e = last-plain T n l W
 
   -- ---- THE WHOLE SESSION
-  abbrev counts : Bool
-  counts = allOf (stepsOf T two) (λ d. isRound T two (numberOf T two d))
-
-  course-is : (counts ≡ true) × (eqb (numberOf T two (stepsOf T two)) 0 ≡ true)
-  unfolding courseTest
-  course-is = two-of counts (eqb (numberOf T two (stepsOf T two)) 0) (W .course two)
-
-  round-at : (d : ℕ) → d < stepsOf T two → isRound T two (numberOf T two d) ≡ true
-  round-at d h = of-all (stepsOf T two) (λ d. isRound T two (numberOf T two d)) (course-is .0) d h
-
-  never-zero : isRound T two 0 ≡ false
-  unfolding isRound
-  never-zero = refl
-
-  pub number-next : (d : ℕ) → d < stepsOf T (eqb n 2) → nextOf T (eqb n 2) (numberOf T (eqb n 2) d) ≡ numberOf T (eqb n 2) (suc d)
-  unfolding numberOf
-  number-next d h = refl
-
-  pub number-live : (d b : ℕ) → d < stepsOf T (eqb n 2) → b < n → protocolOf T .alive (sessionOf n l b (numberOf T (eqb n 2) d)) ≡ true
-  number-live d b h lb = ap₂ _&&_ (W .fine b lb) (round-at d h)
-
-  pub number-end : numberOf T (eqb n 2) (stepsOf T (eqb n 2)) ≡ 0
-  number-end = eqb-true _ _ (course-is .1)
-
-  pub number-over : (b : ℕ) → protocolOf T .alive (sessionOf n l b (numberOf T (eqb n 2) (stepsOf T (eqb n 2)))) ≡ false
-  number-over b =
-      ap (λ c. T .fine (frame n l b) && c) (ap (isRound T two) number-end ∙ never-zero) ∙ and-false (T .fine (frame n l b))
-
-  -- the order of the rounds
-  abbrev pub courseOf : Course (protocolOf T) n l
-  courseOf = record {
-    steps = stepsOf T (eqb n 2);
-    number = numberOf T (eqb n 2);
-    next-is = number-next;
-    live = number-live;
-    over = number-over;
-  }
-
   -- after opening
   pub known-first : (G : Joint) → ((i : ℕ) → i < n → Known n l (storeOf T U n l) (due 1) i (G .work i))
       → ((j : ℕ) → j < n → G .out j ≡ toOthers n j (U .sent 1 j))
@@ -535,11 +537,15 @@ module _ (T : Table) (U : Script) (n l : ℕ) (W : Lawful T n l) where
         go true e t = absurd (let z : k ≡ 0 = eqb-true k 0 e in omega (arith, h .0))
         go false e t = rw (h .2) at t
 
-    recv-of : (k : ℕ) → Plain k → HonestRecv T U n l k
-    recv-of k h = every-mem (HonestRecv T U n l) (H .plain) (H .recv) k (listed k h)
+    recv-of : (k : ℕ) → Plain k → RecvAt T U n l k
+    recv-of k h = every-mem (RecvAt T U n l) (H .plain) (H .recv) k (listed k h)
 
-    send-of : (k : ℕ) → Plain k → HonestSend T U n l (plainAfter T k)
-    send-of k h = every-mem (λ k. HonestSend T U n l (plainAfter T k)) (H .plain) (H .send) k (listed k h)
+    send-of : (k : ℕ) → Plain k → SendAt T U n l (plainAfter T k)
+    send-of k h = every-mem (λ k. SendAt T U n l (plainAfter T k)) (H .plain) (H .send) k (listed k h)
+
+    list-of : (k : ℕ) → isEcho T k ≡ true → ListAt T U n l (prior k)
+    unfolding isEcho
+    list-of k e = every-mem (λ k. ListAt T U n l (prior k)) (T .echoes) (H .lists) k e
 
     abbrev Good : ℕ → Type 0
     Good k = HonestRound P n l L (Holds P n l L S) k
@@ -556,7 +562,7 @@ module _ (T : Table) (U : Script) (n l : ℕ) (W : Lawful T n l) where
     good-echo : (k : ℕ) → suc k ≤ T .last → isEcho T (suc k) ≡ true → Good (suc k)
     good-echo k lk e =
         let h : Plain k = before-echo k lk e in
-        middle P n l L S (λ i. refl) k (middle-echo k lk e (recv-of k h .size e) (subst (HonestSend T U n l) after (send-of k h)))
+        middle P n l L S (λ i. refl) k (middle-echo k lk e (list-of (suc k) e .size) (subst (SendAt T U n l) after (send-of k h)))
       where
         after : plainAfter T k ≡ suc (suc k)
         after = unfold plainAfter in rw e refl
@@ -565,7 +571,9 @@ module _ (T : Table) (U : Script) (n l : ℕ) (W : Lawful T n l) where
     good-plain k h = go (toEcho T two (suc k)) refl
       where
         go : (b : Bool) → toEcho T two (suc k) ≡ b → Good (suc k)
-        go true q = middle P n l L S (λ i. refl) k (middle-held (suc k) (h .1) (h .2) q (recv-of (suc k) h))
+        go true q =
+            let c = next-echo T n l W two (suc k) (λ p. omega (arith, h .1)) q in
+            middle P n l L S (λ i. refl) k (middle-held (suc k) (h .1) (h .2) q (recv-of (suc k) h) (list-of (suc (suc k)) (c .1)))
         go false q = middle P n l L S (λ i. refl) k (middle-plain (suc k) (h .1) (h .2) q (recv-of (suc k) h) (send-of (suc k) h))
 
     good-last : (k : ℕ) → suc k ≡ T .last → Good (suc k)
@@ -574,7 +582,7 @@ module _ (T : Table) (U : Script) (n l : ℕ) (W : Lawful T n l) where
 
     good : (k : ℕ) → isRound T two k ≡ true → Good k
     unfolding isRound
-    good zero r = absurd (true-false (sym r ∙ never-zero))
+    good zero r = absurd (true-false (sym r ∙ never-zero T n l W))
     good (suc k) r = by-echo (isEcho T (suc k)) refl
       where
         lk : suc k ≤ T .last
@@ -593,4 +601,4 @@ module _ (T : Table) (U : Script) (n l : ℕ) (W : Lawful T n l) where
         → (let P : Protocol = protocolOf T in
         let L : ℕ → Loan = loansOf T U n l in
         HonestRound P n l L (Holds P n l L (sheetOf T U n l)) (numberOf T (eqb n 2) d))
-    honest-rounds d h = good (numberOf T two d) (round-at d h)
+    honest-rounds d h = good (numberOf T two d) (round-at T n l W d h)

@@ -61,95 +61,104 @@ module _ (T : Table) (U : Script) (n l : ℕ) where
       go false true = refl
       go false false = v (nextOf T (eqb n 2) k)
 
-  module _ {Args : Type 0} (O : Opening Args) (Agree : ℕ → Loan → Type 0) (Given : ℕ → Args → Type 0) (W : Lawful T n l) where
-    -- Agree j: what is asked of the r Blocks and permutation of the call that makes the messages of round j
-    abbrev pub sceneOf : Scene Args
-    sceneOf = record {
-      protocol = protocolOf T;
-      opens = O;
-      n = n;
-      l = l;
-      course = courseOf T U n l W;
-      Agrees = λ k q. Agree (nextOf T (eqb n 2) k) q;
-      Given = Given;
+-- ---- the scene: n boxes with one l that run the rounds of the table
+-- Agree j: what is asked of the r Blocks and permutation of the call that makes the messages of round j; Given b: what makes an
+-- opening box b's own
+module _ (T : Table) (n l : ℕ) {Args : Type 0} (O : Opening Args) (Agree : ℕ → Loan → Type 0) (Given : ℕ → Args → Type 0)
+    (W : Lawful T n l) where
+  abbrev pub sceneOf : Scene Args
+  sceneOf = record {
+    protocol = protocolOf T;
+    opens = O;
+    n = n;
+    l = l;
+    course = courseOf T n l W;
+    Agrees = λ k q. Agree (nextOf T (eqb n 2) k) q;
+    Given = Given;
+  }
+
+-- ---- what is left to show for it
+module _ (T : Table) (U : Script) (n l : ℕ) {Args : Type 0} (O : Opening Args) (Agree : ℕ → Loan → Type 0) (Given : ℕ → Args → Type 0)
+    (W : Lawful T n l) where
+  abbrev pub scene : Scene Args
+  scene = sceneOf T n l O Agree Given W
+
+  -- what opening owes
+  pub record HonestOpening : Type 0 where
+    pub first : Joint
+    pub refuses : (a : Args) → O .reason a ≢ 0
+        → O .spec a ≡ outcome (O .spec a .session) (Refused (O .reason a) (O .party a)) (O .work a) (O .out a)
+    pub takes : (b : ℕ) (a : Args) → b < n → Given b a
+        → (O .reason a ≡ 0) × (O .spec a ≡ outcome (sessionOf n l b 1) Accepted (first .work b) (first .out b))
+    pub keeps : (i : ℕ) → i < n → Known n l (storeOf T U n l) (due 1) i (first .work i)
+    pub writes : (j : ℕ) → j < n → first .out j ≡ toOthers n j (U .sent 1 j)
+    pub agrees : (j : ℕ) (q : Loan) → T .send j .lent n l q ≡ 0 → Agree j q → q ≡ U .loan j
+
+  module _ (H : Honest T U n l) (B : HonestOpening) where
+    pub agreed-by : (k : ℕ) (q : Loan) → lentOf T k n l q ≡ 0 → Agree (nextOf T (eqb n 2) k) q → q ≡ loansOf T U n l k
+    agreed-by k q v a = lent-cases T U n l k q (λ x. q ≡ x) v (none-lent q) (λ v′. B .agrees (nextOf T (eqb n 2) k) q v′ a)
+
+    pub takes-by : (b : ℕ) (a : Args) → b < n → Given b a
+        → (O .reason a ≡ 0) × (O .spec a ≡ outcome (sessionAt scene b 0) Accepted (B .first .work b) (B .first .out b))
+    unfolding numberOf
+    takes-by = B .takes
+
+    abbrev pub dutyOf : Duty scene
+    dutyOf = record {
+      loans = loansOf T U n l;
+      first = B .first;
+      Holds = Holds (protocolOf T) n l (loansOf T U n l) (sheetOf T U n l);
+      agreed = agreed-by;
+      refuses = B .refuses;
+      takes = takes-by;
+      base = known-first T U n l W (B .first) (B .keeps) (B .writes);
+      rounds = honest-rounds T U n l W H;
     }
 
-    -- what opening owes
-    pub record HonestOpening : Type 0 where
-      pub first : Joint
-      pub refuses : (a : Args) → O .reason a ≢ 0
-          → O .spec a ≡ outcome (O .spec a .session) (Refused (O .reason a) (O .party a)) (O .work a) (O .out a)
-      pub takes : (b : ℕ) (a : Args) → b < n → Given b a
-          → (O .reason a ≡ 0) × (O .spec a ≡ outcome (sessionOf n l b 1) Accepted (first .work b) (first .out b))
-      pub keeps : (i : ℕ) → i < n → Known n l (storeOf T U n l) (due 1) i (first .work i)
-      pub writes : (j : ℕ) → j < n → first .out j ≡ toOthers n j (U .sent 1 j)
-      pub agrees : (j : ℕ) (q : Loan) → T .send j .lent n l q ≡ 0 → Agree j q → q ≡ U .loan j
+    -- ---- what follows, beside `every-call` and `every-done`
+    -- what a done box wrote last is its result
+    pub every-written : (cs : List (Call Args)) → FairList scene start cs → (b : ℕ) (x : Box) → runs scene cs .box b ≡ some x
+        → Done (protocolOf T) (x .session) → (b < n) × (x .wrote ≡ U .result b)
+    every-written cs fair b x e done =
+        let G : Joint = ideal scene dutyOf (stepsOf T (eqb n 2)) in
+        let r = every-result scene dutyOf cs fair b x e done in
+        let h : dutyOf .Holds 0 G = subst (λ k. dutyOf .Holds k G) (number-end T n l W) (r .2) in
+        (r .0, r .1 ∙ h b (r .0))
 
-    module _ (H : Honest T U n l) (B : HonestOpening) where
-      pub agreed-by : (k : ℕ) (q : Loan) → lentOf T k n l q ≡ 0 → Agree (nextOf T (eqb n 2) k) q → q ≡ loansOf T U n l k
-      agreed-by k q v a = lent-cases k q (λ x. q ≡ x) v (none-lent q) (λ v′. B .agrees (nextOf T (eqb n 2) k) q v′ a)
+    -- the premises can be met: inputs for every box, and r Blocks and a permutation that have no reason
+    pub record Supply : Type 0 where
+      pub args : ℕ → Args
+      pub given : (b : ℕ) → b < n → Given b (args b)
+      pub valid : (j : ℕ) → T .send j .lent n l (U .loan j) ≡ 0
+      pub agree : (j : ℕ) → Agree j (U .loan j)
+      pub quiet-end : Agree 0 nothing
+      pub quiet-echo : (j : ℕ) → isEcho T j ≡ true → Agree j nothing
 
-      pub takes-by : (b : ℕ) (a : Args) → b < n → Given b a
-          → (O .reason a ≡ 0) × (O .spec a ≡ outcome (sessionAt sceneOf b 0) Accepted (B .first .work b) (B .first .out b))
-      unfolding numberOf
-      takes-by = B .takes
+    pub castOf : Supply → Cast scene dutyOf
+    castOf I = record {
+      args = I .args;
+      given = I .given;
+      valid = λ d h. valid-by T U n l (I .valid) (numberOf T (eqb n 2) d);
+      agree = λ d h. agree (numberOf T (eqb n 2) d);
+    }
+      where
+        two : Bool
+        two = eqb n 2
 
-      abbrev pub dutyOf : Duty sceneOf
-      dutyOf = record {
-        loans = loansOf T U n l;
-        first = B .first;
-        Holds = Holds (protocolOf T) n l (loansOf T U n l) (sheetOf T U n l);
-        agreed = agreed-by;
-        refuses = B .refuses;
-        takes = takes-by;
-        base = known-first T U n l W (B .first) (B .keeps) (B .writes);
-        rounds = honest-rounds T U n l W H;
-      }
+        by-echo : (k : ℕ) → k ≢ T .last → (b : Bool) → toEcho T two k ≡ b
+            → Agree (nextOf T two k) (pick b nothing (U .loan (nextOf T two k)))
+        by-echo k ne true q =
+            let c = next-echo T n l W two k ne q in
+            subst (λ j. Agree j nothing) (sym (c .0)) (I .quiet-echo (suc k) (c .1))
+        by-echo k ne false q = I .agree (nextOf T two k)
 
-      -- ---- what follows, beside `every-call` and `every-done`
-      -- what a done box wrote last is its result
-      pub every-written : (cs : List (Call Args)) → FairList sceneOf start cs → (b : ℕ) (x : Box) → runs sceneOf cs .box b ≡ some x
-          → Done (protocolOf T) (x .session) → (b < n) × (x .wrote ≡ U .result b)
-      every-written cs fair b x e done =
-          let G : Joint = ideal sceneOf dutyOf (stepsOf T (eqb n 2)) in
-          let r = every-result sceneOf dutyOf cs fair b x e done in
-          let h : dutyOf .Holds 0 G = subst (λ k. dutyOf .Holds k G) (number-end T U n l W) (r .2) in
-          (r .0, r .1 ∙ h b (r .0))
+        end : (k : ℕ) → eqb k (T .last) ≡ true → nextOf T two k ≡ 0
+        end k q = unfold nextOf in rw q refl
 
-      -- the premises can be met: inputs for every box, and r Blocks and a permutation that have no reason
-      pub record Supply : Type 0 where
-        pub args : ℕ → Args
-        pub given : (b : ℕ) → b < n → Given b (args b)
-        pub valid : (j : ℕ) → T .send j .lent n l (U .loan j) ≡ 0
-        pub agree : (j : ℕ) → Agree j (U .loan j)
-        pub quiet-end : Agree 0 nothing
-        pub quiet-echo : (j : ℕ) → isEcho T j ≡ true → Agree j nothing
+        by-last : (k : ℕ) (b : Bool) → eqb k (T .last) ≡ b
+            → Agree (nextOf T two k) (pick b nothing (pick (toEcho T two k) nothing (U .loan (nextOf T two k))))
+        by-last k true q = subst (λ j. Agree j nothing) (sym (end k q)) (I .quiet-end)
+        by-last k false q = by-echo k (eqb-false k (T .last) q) (toEcho T two k) refl
 
-      pub castOf : Supply → Cast sceneOf dutyOf
-      castOf I = record {
-        args = I .args;
-        given = I .given;
-        valid = λ d h. valid-by (I .valid) (numberOf T (eqb n 2) d);
-        agree = λ d h. agree (numberOf T (eqb n 2) d);
-      }
-        where
-          two : Bool
-          two = eqb n 2
-
-          by-echo : (k : ℕ) → k ≢ T .last → (b : Bool) → toEcho T two k ≡ b
-              → Agree (nextOf T two k) (pick b nothing (U .loan (nextOf T two k)))
-          by-echo k ne true q =
-              let c = next-echo T n l W two k ne q in
-              subst (λ j. Agree j nothing) (sym (c .0)) (I .quiet-echo (suc k) (c .1))
-          by-echo k ne false q = I .agree (nextOf T two k)
-
-          end : (k : ℕ) → eqb k (T .last) ≡ true → nextOf T two k ≡ 0
-          end k q = unfold nextOf in rw q refl
-
-          by-last : (k : ℕ) (b : Bool) → eqb k (T .last) ≡ b
-              → Agree (nextOf T two k) (pick b nothing (pick (toEcho T two k) nothing (U .loan (nextOf T two k))))
-          by-last k true q = subst (λ j. Agree j nothing) (sym (end k q)) (I .quiet-end)
-          by-last k false q = by-echo k (eqb-false k (T .last) q) (toEcho T two k) refl
-
-          agree : (k : ℕ) → Agree (nextOf T two k) (loansOf T U n l k)
-          agree k = unfold loansOf in by-last k (eqb k (T .last)) refl
+        agree : (k : ℕ) → Agree (nextOf T two k) (loansOf T U n l k)
+        agree k = unfold loansOf in by-last k (eqb k (T .last)) refl

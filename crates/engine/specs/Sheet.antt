@@ -146,15 +146,15 @@ pub record Sheet : Type 0 where
   pub sent : ℕ → ℕ → ℕ → List ℕ
   pub result : ℕ → List ℕ
 
--- messages to box i that are as the sheet says for round k
-abbrev pub Mail : ℕ → (ℕ → ℕ → ℕ → List ℕ) → ℕ → ℕ → (ℕ → List ℕ) → Type 0
-Mail n sent k i m = (j : ℕ) → j < n → i ≢ j → m j ≡ sent k j i
+-- messages to box i that are as sent says: sent j r is what j sends to r
+abbrev pub Mail : ℕ → (ℕ → ℕ → List ℕ) → ℕ → (ℕ → List ℕ) → Type 0
+Mail n sent i m = (j : ℕ) → j < n → i ≢ j → m j ≡ sent j i
 
 module _ (P : Protocol) (n l : ℕ) (loans : ℕ → Loan) (T : Sheet) where
   -- a claim on every box that takes round k with a work area and messages as the sheet says
   abbrev pub Each : ℕ → (ℕ → List ℕ → (ℕ → List ℕ) → Type 0) → Type 0
   Each k Q =
-      Valid P n l loans k → (i : ℕ) → i < n → (w : List ℕ) → Known n l (T .store) k i w → (m : ℕ → List ℕ) → Mail n (T .sent) k i m
+      Valid P n l loans k → (i : ℕ) → i < n → (w : List ℕ) → Known n l (T .store) k i w → (m : ℕ → List ℕ) → Mail n (T .sent k) i m
       → Q i w m
 
   -- what has to be shown of any round k
@@ -191,7 +191,7 @@ module _ (P : Protocol) (n l : ℕ) (loans : ℕ → Loan) (T : Sheet) where
           ap (stretch (P .msgLen n l (suc k)) j i) (h .1 j lj)
           ∙ stretch-toOthers (P .msgLen n l (suc k)) n j (T .sent (suc k) j) (λ r lr ne′. A .lens j r lj lr ne′) i lj li (λ e. ne (sym e))
 
-      mail-ok : (G : Joint) → Holds (suc k) G → (i : ℕ) → i < n → Mail n (T .sent) (suc k) i (mailOf P n l loans (suc k) G i)
+      mail-ok : (G : Joint) → Holds (suc k) G → (i : ℕ) → i < n → Mail n (T .sent (suc k)) i (mailOf P n l loans (suc k) G i)
       unfolding mailOf
       mail-ok G h i li j lj ne =
           mask-at (frame n l i) (λ j. stretch (P .msgLen n l (suc k)) j i (G .out j)) j lj ne ∙ arrives G h i j li lj ne
@@ -210,7 +210,7 @@ module _ (P : Protocol) (n l : ℕ) (loans : ℕ → Loan) (T : Sheet) where
     unfolding together
     middle M = honest-by (M .pass) (λ G h v. subst (λ m. Holds m (together P n l loans (suc k) G)) (sym (M .to-is)) (next G h v))
       where
-        mails : (G : Joint) → Holds (suc k) G → (i : ℕ) → i < n → Mail n (T .sent) (suc k) i (mailOf P n l loans (suc k) G i)
+        mails : (G : Joint) → Holds (suc k) G → (i : ℕ) → i < n → Mail n (T .sent (suc k)) i (mailOf P n l loans (suc k) G i)
         mails = mail-ok (M .pass)
 
         next : (G : Joint) → Holds (suc k) G → Valid P n l loans (suc k) → Holds (suc (M .to)) (together P n l loans (suc k) G)

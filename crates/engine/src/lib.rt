@@ -29,7 +29,7 @@ pub struct Answer {
 }
 
 // The session after a received fault, and after the last round: it answers 20 from now on, and still knows i.
-pub fn end(s: Session) -> Session
+pub fn ended(s: Session) -> Session
     ensures { λ r. ⌜ r ≡ ended s ⌝ }
 {
     let party = s.party;
