@@ -118,7 +118,7 @@ pub vec-encode : (size c : ℕ) (g : ℕ → List ℕ) (rest : List ℕ) → c <
 vec-encode size c g rest h l =
     let e = count-encode c g rest h in
     let n : 8 + wordAt (encode c g ++ rest) 0 * size ≤ length (encode c g ++ rest) =
-        rw e (omega (arith, length-append (encode c g) rest, length-encode size c g l)) in
+    rw e (omega (arith, length-append (encode c g) rest, length-encode size c g l)) in
     vec-some size (encode c g ++ rest) n ∙ ap (λ w. 8 + w * size) e
 
 -- ---- a dm
@@ -205,12 +205,12 @@ module _ (c : ℕ) (d : ℕ → Bool) (x : ℕ → Block) where
   unfolding innerDue
   coded-dvalue h = record {
     len = λ rest.
-    bucket-some c (s rest h) (omega (arith, long-ds rest h)) (bits rest h) (omega (arith, long-macs rest h))
-    ∙ omega (arith, long-ds rest h, long-macs rest h, length-dvalue);
+        bucket-some c (s rest h) (omega (arith, long-ds rest h)) (bits rest h) (omega (arith, long-macs rest h))
+        ∙ omega (arith, long-ds rest h, long-macs rest h, length-dvalue);
     some = omega (arith, length-dvalue);
     due = λ rest.
-    and-true (eqb (wordAt (s rest h) 0) c) (eqb (wordAt (s rest h) (8 + wordAt (s rest h) 0)) c)
-    (eq-eqb (wordAt (s rest h) 0) c (first rest h)) (eq-eqb (wordAt (s rest h) (8 + wordAt (s rest h) 0)) c (second rest h));
+        and-true (eqb (wordAt (s rest h) 0) c) (eqb (wordAt (s rest h) (8 + wordAt (s rest h) 0)) c)
+        (eq-eqb (wordAt (s rest h) 0) c (first rest h)) (eq-eqb (wordAt (s rest h) (8 + wordAt (s rest h) 0)) c (second rest h));
   }
 
 -- ---- an option
@@ -226,8 +226,8 @@ pub coded-some : (h : List ℕ) → length h ≡ 16 → Coded Options (someItem 
 unfolding itemLen innerDue someItem
 coded-some h e = record {
   len = λ rest.
-  rw (lt-ltb 0 (suc (length (h ++ rest))) (omega arith), le-leb 17 (suc (length (h ++ rest))) (omega (arith, length-append h rest)))
-  (ap suc (sym e));
+      rw (lt-ltb 0 (suc (length (h ++ rest))) (omega arith), le-leb 17 (suc (length (h ++ rest))) (omega (arith, length-append h rest)))
+      (ap suc (sym e));
   some = omega arith;
   due = λ rest. refl;
 }

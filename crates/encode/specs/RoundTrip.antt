@@ -62,7 +62,7 @@ module _ (K : Kind) (c : ℕ) (g : ℕ → List ℕ) (small : c < 2 ^ 64) (coded
   starts (suc t) h =
       let e = starts t (omega arith) in
       let n : itemLen K (drop (itemAt K m t) m) ≡ length (g t) =
-          ap (λ a. itemLen K (drop a m)) e ∙ ap (itemLen K) (item-front c g rest t h) ∙ coded t h .len (behind c g rest t) in
+      ap (λ a. itemLen K (drop a m)) e ∙ ap (itemLen K) (item-front c g rest t h) ∙ coded t h .len (behind c g rest t) in
       omega (arith, e, n, length-append (cat t g) (g t))
 
   here : (t : ℕ) → t < c → drop (itemAt K m t) m ≡ g t ++ behind c g rest t

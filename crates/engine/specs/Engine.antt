@@ -12,7 +12,7 @@ use lib.ListN.{length}
 use lib.Dec.{ltb}
 use borrow.Author.Tests.{ltb-true, ltb-false}
 use Rattle.lists.specs.All.{true-false}
-use Rattle.algebra.specs.Sum.{neq, same?, Same, same}
+use Rattle.algebra.specs.Sum.{neq, apart?, Same, same}
 use Rattle.engine.specs.Step.{Frame, frame, Session, Loan, Lent, Verdict, Accepted, Refused, Outcome, outcome, Protocol, mask, part}
 use Rattle.engine.specs.Step.{stretch, reasonOf, faultOf, accepted, roundSpec}
 use Rattle.engine.specs.StepLaws.{round-cases, due-of, over-20, other-19, mask-ext, no-fault, round-accepts}
@@ -70,7 +70,7 @@ all-in Q h here = h .0
 all-in Q h (there m) = all-in Q (h .1) m
 
 update-all : {A : Type 0} (Q : ℕ → A → Type 0) (f : ℕ → A) (i : ℕ) (o : A) → ((j : ℕ) → Q j (f j)) → Q i o → (j : ℕ) → Q j (update f i o j)
-update-all Q f i o h k j = go (neq i j) (same? i j)
+update-all Q f i o h k j = go (neq i j) (apart? i j)
   where
     go : (b : Bool) → Same i j b → Q j (cond b (f j) o)
     go true s = h j

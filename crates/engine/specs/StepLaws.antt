@@ -12,7 +12,7 @@ use lib.Dec.{ltb, eqb}
 use borrow.Author.Tests.{ltb-true, ltb-false, eqb-true, eqb-false, eq-eqb, ne-eqb, lt-ltb, le-leb}
 use Rattle.lists.specs.Pick.{pick, pick-else}
 use Rattle.lists.specs.All.{all-of}
-use Rattle.algebra.specs.Sum.{neq, neq-true, same?, Same, apart}
+use Rattle.algebra.specs.Sum.{neq, neq-true, apart?, Same, apart}
 use Rattle.engine.specs.Step.{Frame, Session, Lent, Refused, Outcome, outcome, Fault, Rule, Protocol, other, mask, gone, part}
 use Rattle.engine.specs.Step.{inside, partsIn, sizes, reasonOf, orElse, scan, byParty, formFault, faultOf, ended, refused, faulted}
 use Rattle.engine.specs.Step.{accepted, roundSpec}
@@ -106,7 +106,7 @@ other-is f j l ne = ap₂ _&&_ (neq-true (f .i) j ne) (lt-ltb j (f .n) l)
 -- a claim on every party is shown for another one, and for the rest
 pub other-cases : (f : Frame) (j : ℕ) (Q : Bool → Type 0) → (j < f .n → f .i ≢ j → Q true) → Q false → Q (other f j)
 unfolding other
-other-cases f j Q h z = go (neq (f .i) j) (same? (f .i) j) (ltb j (f .n)) refl
+other-cases f j Q h z = go (neq (f .i) j) (apart? (f .i) j) (ltb j (f .n)) refl
   where
     go : (p : Bool) → Same (f .i) j p → (b : Bool) → ltb j (f .n) ≡ b → Q (p && b)
     go false s b e = z

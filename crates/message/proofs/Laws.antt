@@ -102,8 +102,8 @@ module _ (s : List ℕ) (at due : ℕ) where
   due-both w v e q f =
       let p : wordAt (drop at s) 0 ≡ due = word-here s at ∙ sym e ∙ q in
       let k : wordAt (drop at s) (8 + wordAt (drop at s) 0) ≡ v =
-          word-drop s at (8 + wordAt (drop at s) 0)
-          ∙ ap (wordAt s) (let r : at + (8 + wordAt (drop at s) 0) ≡ at + 8 + due = omega (arith, p) in r) ∙ sym f in
+      word-drop s at (8 + wordAt (drop at s) 0)
+      ∙ ap (wordAt s) (let r : at + (8 + wordAt (drop at s) 0) ≡ at + 8 + due = omega (arith, p) in r) ∙ sym f in
       sym (ap₂ (λ a b. eqb a due && eqb b due) p k ∙ ap (λ (b : Bool). b && eqb v due) (eq-eqb due due refl))
 
   -- the first list and the second's count lie within

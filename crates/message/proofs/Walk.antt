@@ -92,5 +92,5 @@ module _ (m : List ℕ) (due : ℕ) where
         let d : wordAt s 0 ≡ due = eqb-true (wordAt s 0) due (and-first x y p) in
         let v : wordAt s (8 + wordAt s 0) ≡ due = eqb-true (wordAt s (8 + wordAt s 0)) due (and-second x y p) in
         let u : wordAt (drop (8 + wordAt s 0) s) 0 ≡ due =
-            word-drop s (8 + wordAt s 0) 0 ∙ ap (wordAt s) (let r : 8 + wordAt s 0 + 0 ≡ 8 + wordAt s 0 = omega arith in r) ∙ v in
+        word-drop s (8 + wordAt s 0) 0 ∙ ap (wordAt s) (let r : 8 + wordAt s 0 + 0 ≡ 8 + wordAt s 0 = omega arith in r) ∙ v in
         omega (arith, bucket-bytes due s (bucket-held due s h), d, u)

@@ -385,8 +385,8 @@ fixed size c count m h = record {
   fits = omega (arith, starts count (omega arith), at-le (Items size c) m (d .head) count);
   at = starts;
   bits = λ t k l j. let p = items-held size c (drop (itemAt (Items size c) m t) m) (held t l) in
-  subst (λ a. a ≤ 1) (getD-drop (itemAt (Items size c) m t) m k 0 ∙ ap (λ a. getD m (a + k) 0) (starts t (omega arith)))
-  (of-bools (drop (itemAt (Items size c) m t) m) c (p .bits) k j);
+      subst (λ a. a ≤ 1) (getD-drop (itemAt (Items size c) m t) m k 0 ∙ ap (λ a. getD m (a + k) 0) (starts t (omega arith)))
+      (of-bools (drop (itemAt (Items size c) m t) m) c (p .bits) k j);
   list-is = ap (λ n. take n m) (list-some (Items size c) m (w .decodes-is) ∙ ap (itemAt (Items size c) m) (w .count-is) ∙ starts count (omega arith));
 }
   where

@@ -13,7 +13,7 @@ use Rattle.lists.specs.Over.{cat, length-cat}
 use Rattle.lists.specs.Rows.{chunk, chunk-cat, cat-chunk, cat-ext}
 use Rattle.lists.specs.Bytes.{Bytes, bytes-cons, bytes-append, bytes-cat, bytes-replicate}
 use Rattle.algebra.specs.Group.{XorGroup, bits, addb, sel, num, odd-num, num-odd}
-use Rattle.algebra.specs.Sum.{sum, neq, neq-self, neq-true, Same, same, apart, same?}
+use Rattle.algebra.specs.Sum.{sum, neq, neq-self, neq-true, Same, same, apart, apart?}
 use Rattle.block.specs.declared.Block.{Block}
 use Rattle.block.specs.Block.{blockAt, wordAt, bytesOf, le8, zeroOf}
 use Rattle.block.specs.Group.{blocks}
@@ -172,7 +172,7 @@ pub record Agree (n i : ℕ) (x y : Share) : Type 0 where
 module _ (n i : ℕ) where
   pub agree-record : (x y : Share) → Agree n i x y → recordOf n i x ≡ recordOf n i y
   unfolding recordOf entryOf entryBytes
-  agree-record x y h = ap₂ (λ b (l : List ℕ). num b ∷ l) (h .bit) (cat-ext n (entryOf i x) (entryOf i y) (λ k l. go k l (neq i k) (same? i k)))
+  agree-record x y h = ap₂ (λ b (l : List ℕ). num b ∷ l) (h .bit) (cat-ext n (entryOf i x) (entryOf i y) (λ k l. go k l (neq i k) (apart? i k)))
     where
       go : (k : ℕ) → k < n → (b : Bool) → Same i k b
           → pick b (bytesOf (x .mac k) ++ bytesOf (x .key k)) (replicate 32 0) ≡ pick b (bytesOf (y .mac k) ++ bytesOf (y .key k)) (replicate 32 0)
@@ -313,7 +313,7 @@ module _ (n i : ℕ) (s : List ℕ) (at : ℕ) (h : Bytes s) (v : Valid i s at) 
 
   entry-at : (k : ℕ) → k < n → entryOf i (shareAt s at) k ≡ take 32 (drop (at + macOff k) s)
   unfolding entryOf entryBytes shareAt
-  entry-at k l = go (neq i k) (same? i k)
+  entry-at k l = go (neq i k) (apart? i k)
     where
       go : (b : Bool) → Same i k b → pick b (bytesOf (macAt s at k) ++ bytesOf (keyAt s at k)) (replicate 32 0) ≡ take 32 (drop (at + macOff k) s)
       go true e = pair-at k l

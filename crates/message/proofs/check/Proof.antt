@@ -33,10 +33,11 @@ buckets-due-requires : tie.Need-buckets-due-requires
 buckets-due-requires c κs =
     let t = c .before .before .before .before .before in
     let a = t .before .before .before .args in
-    let n = t .before .list-len in
-    (ap (λ (K : Kind). decodes K (now (a .m))) (sym (c .before .kind .given .1))
-    ∙ check-decodes (a .kind) (a .count) (now (a .m)) (n .result) (n .ensures) (t .if1 .left),
-    sym (c .before .before .before .if2 .left) ∙ c .before .before .before .before .load64 .ensures)
+    let n = t .before .list-len in (
+      ap (λ (K : Kind). decodes K (now (a .m))) (sym (c .before .kind .given .1))
+          ∙ check-decodes (a .kind) (a .count) (now (a .m)) (n .result) (n .ensures) (t .if1 .left),
+      sym (c .before .before .before .if2 .left) ∙ c .before .before .before .before .load64 .ensures,
+    )
 
 -- the outer count is the one due
 good : (c : tie.Else2) → let a = c .before .before .before .before .before .args in

@@ -55,10 +55,11 @@ loop-less c = omega (arith, room c)
 loop-again : tie.Need-loop-again Inv-loop μ-loop
 loop-again c =
     let l = c .before .before .before in
-    let a = l .before .before .before .before .args in
-    (search needs,
-    walked-turn (a .kind) (now (a .m)) (l .loop .t) (l .loop .pos) (c .before .item-len .result) (l .loop .inv .1) (c .before .item-len .ensures)
-    (c .if2 .left))
+    let a = l .before .before .before .before .args in (
+      search needs,
+      walked-turn (a .kind) (now (a .m)) (l .loop .t) (l .loop .pos) (c .before .item-len .result) (l .loop .inv .1) (c .before .item-len .ensures)
+          (c .if2 .left),
+    )
 
 returns-3 : tie.Need-returns-3 Inv-loop μ-loop
 returns-3 c =

@@ -1,0 +1,12 @@
+pub mod Area
+pub mod Toss
+pub mod Fabitn
+pub mod Fashare
+pub mod Haand
+pub mod Flaand
+pub mod Buckets
+pub mod Beaver
+pub mod Echo
+pub mod Mail
+pub mod Table
+pub mod Opening

@@ -1,0 +1,99 @@
+-- Opening (document 01, "The call"): what it refuses, and what it leaves.
+use mathlib.Core.Bool.{Bool, true, _&&_}
+use mathlib.Core.List.{List, []}
+use Prim.Native.Nat.{ℕ, zero, suc, _+_, _-_, _*_}
+use lib.ListN.{length, getD, replicate}
+use lib.Dec.{ltb, leb, eqb}
+use Rattle.lists.specs.Pick.{pick}
+use Rattle.lists.specs.All.{allOf}
+use Rattle.lists.specs.Over.{cat}
+use Rattle.algebra.specs.Sum.{neq}
+use Rattle.share.specs.Record.{recordLen, recordsFault}
+use Rattle.plan.specs.Plan.{leaky, bitsCount, msgLen}
+use Rattle.engine.specs.declared.Frame.{Frame}
+use Rattle.engine.specs.declared.Verdict.the-variants.{Accepted, Refused}
+use Rattle.engine.specs.Step.{Outcome, outcome}
+use Rattle.engine.specs.World.{Opening}
+use Rattle.engine.specs.Area.{toOthers}
+use Rattle.rounds.specs.Area.{DELTA, SEED, PAIRS, MASKS, BITS, ALPHA, BETA, SECTIONS, sizeOf, workLen}
+use Rattle.rounds.specs.Toss as Toss
+
+-- all that opening is given
+pub record Args : Type 0 where
+  pub party : Frame
+  pub delta : List ℕ
+  pub seed : List ℕ
+  pub pairs : List ℕ
+  pub bits : List ℕ
+  pub alpha : List ℕ
+  pub beta : List ℕ
+  pub masks : List ℕ
+  pub work : List ℕ
+  pub out : List ℕ
+
+-- ---- what opening refuses
+-- the share lists are as long as they should
+unfoldable pub listsDue : Args → Bool
+listsDue a =
+    eqb (length (a .bits)) (bitsCount (a .party .l) * recordLen (a .party .n))
+    && eqb (length (a .alpha)) (a .party .l * recordLen (a .party .n)) && eqb (length (a .beta)) (a .party .l * recordLen (a .party .n))
+
+-- and all else that is lent
+unfoldable pub buffersDue : Args → Bool
+buffersDue a =
+    eqb (length (a .delta)) 16 && eqb (length (a .seed)) 32 && eqb (length (a .pairs)) (32 * a .party .n)
+    && eqb (length (a .masks)) (a .party .n * leaky (a .party .l)) && eqb (length (a .work)) (workLen (a .party))
+    && eqb (length (a .out)) ((a .party .n - 1) * msgLen (a .party .n) (a .party .l) 1)
+
+-- "mask bytes 0 or 1 (by party, own neither used nor checked)"
+unfoldable pub masksFault : Args → ℕ
+masksFault a =
+    pick (allOf (a .party .n) (λ k. pick (neq (a .party .i) k)
+    (allOf (leaky (a .party .l)) (λ t. leb (getD (a .masks) (k * leaky (a .party .l) + t) 0) 1)) true)) 0 1
+
+-- the first fault of two lists looked at one after the other
+unfoldable pub orFault : ℕ → ℕ → ℕ
+orFault a b = pick (eqb a 0) b a
+
+-- "then lent bytes in order (1 before 4)": bits, alpha, beta, masks
+unfoldable pub bytesFault : Args → ℕ
+bytesFault a =
+    orFault (recordsFault (a .party .n) (a .party .i) (a .bits) (bitsCount (a .party .l)))
+    (orFault (recordsFault (a .party .n) (a .party .i) (a .alpha) (a .party .l))
+    (orFault (recordsFault (a .party .n) (a .party .i) (a .beta) (a .party .l))
+    (masksFault a)))
+
+-- "Opening: 15, 16, 3 for l = 0, 6, 17, then lent bytes in order": the first that it has, or 0
+unfoldable pub reason : Args → ℕ
+reason a =
+    pick (leb 2 (a .party .n) && leb (a .party .n) 8 && ltb (a .party .i) (a .party .n))
+    (pick (leb (a .party .l) 300000)
+    (pick (eqb (a .party .l) 0) 3
+    (pick (listsDue a)
+    (pick (buffersDue a) (bytesFault a)
+    17)
+    6))
+    16)
+    15
+
+-- ---- what it leaves
+-- "It keeps the inputs in the work area"; all else is zero
+unfoldable pub section : Args → ℕ → List ℕ
+section a s =
+    pick (eqb s DELTA) (a .delta) (pick (eqb s SEED) (a .seed) (pick (eqb s PAIRS) (a .pairs) (pick (eqb s MASKS) (a .masks)
+    (pick (eqb s BITS) (a .bits) (pick (eqb s ALPHA) (a .alpha) (pick (eqb s BETA) (a .beta)
+    (replicate (sizeOf (a .party) s) 0)))))))
+
+unfoldable pub area : Args → List ℕ
+area a = cat SECTIONS (section a)
+
+-- round 1 is due; the commitment of the seed is written to all
+unfoldable pub spec : Args → Outcome
+spec a =
+    pick (eqb (reason a) 0)
+    (outcome (record { party = a .party; due = 1 }) Accepted (area a)
+    (toOthers (a .party .n) (a .party .i) (λ r. Toss.commMsg (a .seed) (a .party .i))))
+    (outcome (record { party = a .party; due = 0 }) (Refused (reason a) (a .party .i)) (a .work) (a .out))
+
+abbrev pub opening : Opening Args
+opening = record { spec = spec; reason = reason; party = λ a. a .party .i; work = λ a. a .work; out = λ a. a .out }

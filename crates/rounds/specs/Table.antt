@@ -1,0 +1,132 @@
+-- The rounds of a session (document 01, "The call"): what is done with the messages of each, and how they are made.
+use mathlib.Core.Bool.{Bool, _&&_, _||_}
+use mathlib.Core.List.{List, [], _∷_}
+use Prim.Native.Nat.{ℕ, _+_, _*_}
+use lib.ListN.{length, getD}
+use lib.Dec.{ltb, leb, eqb}
+use Rattle.lists.specs.Pick.{pick}
+use Rattle.lists.specs.Rows.{chunk}
+use Rattle.block.specs.declared.Block.{Block}
+use Rattle.block.specs.Block.{blockAt}
+use Rattle.share.specs.Record.{recordLen}
+use Rattle.permutation.specs.Permutation.{isPerm}
+use Rattle.message.specs.Format.{formOf}
+use Rattle.plan.specs.Plan.{kindOf, countDue, msgLen, leaky, rLen}
+use Rattle.engine.specs.declared.Frame.{Frame}
+use Rattle.engine.specs.Step.{Fault, none?, Loan}
+use Rattle.engine.specs.Plain.{Recv, Send, Table, noLoan}
+use Rattle.rounds.specs.Area.{DELTA, SEED, PAIRS, MASKS, BITS, ALPHA, BETA, COMMS, JOINT, PAIR-COMMS, PAIRWISE, KEY-SUMS, SHARE-COMMS, DMS, LEAKY, ZS, ES, HS, H-COMMS, PERM, DS, TRIPLES, ROUNDS-OWN, sizeOf, at, keep}
+use Rattle.rounds.specs.Echo.{hashVec, echo}
+use Rattle.rounds.specs.Toss as Toss
+use Rattle.rounds.specs.Fabitn as Fabitn
+use Rattle.rounds.specs.Fashare as Fashare
+use Rattle.rounds.specs.Haand as Haand
+use Rattle.rounds.specs.Flaand as Flaand
+use Rattle.rounds.specs.Buckets as Buckets
+use Rattle.rounds.specs.Beaver as Beaver
+
+-- own delta
+unfoldable pub delta : Frame → List ℕ → Block
+delta f w = blockAt (at f DELTA w) 0
+
+-- ---- what is done with the messages `m k` of each round; w is the work area
+abbrev pub Judge : Type 0
+Judge = Frame → List ℕ → (ℕ → List ℕ) → Fault
+
+abbrev pub Keep : Type 0
+Keep = Frame → List ℕ → (ℕ → List ℕ) → List ℕ
+
+-- the content check
+unfoldable pub judge : ℕ → Judge
+judge k f w m =
+    pick (eqb k 3) (Toss.opening f (at f COMMS w) m)
+    (pick (eqb k 5) (Toss.opening f (at f PAIR-COMMS w) m)
+    (pick (eqb k 6) (Fabitn.abits f (delta f w) (at f KEY-SUMS w) m)
+    (pick (eqb k 10) (Fashare.dmFaults f m)
+    (pick (eqb k 12) (Fashare.dibiFaults f (at f BITS w) (at f SHARE-COMMS w) (at f DMS w) m)
+    (pick (eqb k 19) (Flaand.hFaults f (at f HS w) (at f H-COMMS w) m)
+    (pick (eqb k 21) (Buckets.dFaults f (delta f w) (at f BITS w) (at f PERM w) m)
+    (pick (eqb k 22) (Beaver.deFaults f (delta f w) (at f BITS w) (at f PERM w) (at f TRIPLES w) (at f ALPHA w) (at f BETA w) m)
+    none?)))))))
+
+-- what is kept of them
+unfoldable pub kept : ℕ → Keep
+kept k f w m =
+    pick (eqb k 1) (keep f COMMS (Toss.toldRows f m) w)
+    (pick (eqb k 3) (keep f JOINT (Toss.jointSeed f (at f SEED w) m) w)
+    (pick (eqb k 4) (keep f PAIR-COMMS (Toss.toldRows f m) w)
+    (pick (eqb k 5) (keep f PAIRWISE (Toss.pairwiseSeeds f (at f PAIRS w) m) w)
+    (pick (eqb k 8) (keep f SHARE-COMMS (Fashare.commRows f m) w)
+    (pick (eqb k 10) (keep f DMS (Fashare.dmRows f m) w)
+    (pick (eqb k 14) (keep f ZS (Haand.zRows f (at f MASKS w) (at f BITS w) m) w)
+    (pick (eqb k 15) (keep f HS (Flaand.hs f (delta f w) (at f BITS w) (at f LEAKY w) (at f ZS w) m)
+    (keep f ES (Flaand.eRows f m) w))
+    (pick (eqb k 17) (keep f H-COMMS (Flaand.commRows f m) w)
+    (pick (eqb k 21) (keep f DS (Buckets.ds f (at f BITS w) (at f PERM w) m) w)
+    w)))))))))
+
+abbrev pub recv : ℕ → Recv
+recv k = record {
+  form = λ f m. formOf (kindOf (f .l) k) (countDue (f .n) (f .l) k) m;
+  judge = judge k;
+  keep = kept k;
+  digest = λ f m. hashVec (f .l) k m;
+}
+
+-- ---- how the messages of each round are made
+-- 17 or 18 of the r Blocks and the permutation: r is due with the call that writes `fabitn`, the permutation with the one that writes `dvalue`
+unfoldable pub lent : ℕ → ℕ → ℕ → Loan → ℕ
+lent k n l q =
+    pick (eqb k 6) (pick (eqb (length (q .r)) (rLen l) && eqb (length (q .perm)) 0) 0 17)
+    (pick (eqb k 21) (pick (eqb (length (q .r)) 0 && eqb (length (q .perm)) (leaky l)) (pick (isPerm (q .perm)) 0 18) 17)
+    (noLoan q))
+
+-- what is kept when they are made
+unfoldable pub held : ℕ → Frame → Loan → List ℕ → List ℕ
+held k f q w =
+    pick (eqb k 6) (keep f KEY-SUMS (Fabitn.keySums f (q .r) (at f BITS w)) w)
+    (pick (eqb k 14) (keep f LEAKY (Haand.leakyRows f (delta f w) (at f BITS w)) w)
+    (pick (eqb k 21) (keep f PERM (Buckets.permBytes f (q .perm)) w)
+    (pick (eqb k 22) (keep f TRIPLES (Buckets.tripleRows f (delta f w) (at f BITS w) (at f ZS w) (at f ES w) (at f PERM w) (at f DS w)) w)
+    w)))
+
+-- the message of round k to party r
+unfoldable pub written : ℕ → Frame → Loan → List ℕ → ℕ → List ℕ
+written k f q w r =
+    pick (eqb k 1) (Toss.commMsg (at f SEED w) (f .i))
+    (pick (eqb k 3) (Toss.verMsg (at f SEED w))
+    (pick (eqb k 4) (Toss.commMsg (chunk 32 r (at f PAIRS w)) (f .i))
+    (pick (eqb k 5) (Toss.verMsg (chunk 32 r (at f PAIRS w)))
+    (pick (eqb k 6) (Fabitn.abitMsg f (q .r) (at f BITS w) r)
+    (pick (eqb k 8) (Fashare.commMsg f (delta f w) (at f BITS w))
+    (pick (eqb k 10) (Fashare.verMsg f (at f BITS w))
+    (pick (eqb k 12) (Fashare.dibiMsg f (delta f w) (at f BITS w) (at f DMS w))
+    (pick (eqb k 14) (Haand.haandMsg f (delta f w) (at f MASKS w) (at f BITS w) r)
+    (pick (eqb k 15) (Flaand.flaandMsg f (at f BITS w) (at f LEAKY w) (at f ZS w) r)
+    (pick (eqb k 17) (Flaand.commMsg f (at f HS w))
+    (pick (eqb k 19) (Flaand.hashMsg f (at f HS w))
+    (pick (eqb k 21) (Buckets.dvalueMsg f (at f BITS w) (at f PERM w) r)
+    (pick (eqb k 22) (Beaver.faandMsg f (at f BITS w) (at f PERM w) (at f TRIPLES w) (at f ALPHA w) (at f BETA w) r)
+    [])))))))))))))
+
+abbrev pub send : ℕ → Send
+send k = record { len = λ n l. msgLen n l k; lent = lent k; keep = held k; write = written k }
+
+-- ---- the session
+-- n from 2 to 8, i below n, l from 1 to 300,000
+unfoldable pub fine : Frame → Bool
+fine f = leb 2 (f .n) && leb (f .n) 8 && ltb (f .i) (f .n) && leb 1 (f .l) && leb (f .l) 300000
+
+abbrev pub table : Table
+table = record {
+  fine = fine;
+  last = 22;
+  echoes = 2 ∷ 7 ∷ 9 ∷ 11 ∷ 13 ∷ 16 ∷ 18 ∷ 20 ∷ [];
+  count = ROUNDS-OWN;
+  size = sizeOf;
+  recv = recv;
+  send = send;
+  echo = echo;
+  resultLen = λ f. f .l * recordLen (f .n);
+  result = λ f w m. Beaver.results f (at f BITS w) (at f PERM w) (at f TRIPLES w) (at f ALPHA w) (at f BETA w) m;
+}
