@@ -1,0 +1,22 @@
+use mathlib.Core.Path.{_∙_}
+use mathlib.Core.List.{_++_}
+use native.Mathlib.Omega.{arith}
+use denote.Ref.{now}
+use Rattle.lists.specs.Over.{over-put, over-full}
+use Rattle.block.specs.Block.{bytesOf}
+use Rattle.block.specs.Trip.{length-bytesOf}
+use borrow.Author.Needs.{needs}
+use Rattle.share.proofs.put_entry.Statement.{statement}
+use Rattle.share.proofs.put_entry.Tie as tie
+
+returns : tie.Need-returns
+returns c =
+    let s = c .before .before .before .before .before .before .before .before .before in
+    rw (c .before .before .before .before .before .before .store .ensures, c .before .before .store2 .ensures)
+    (over-put (bytesOf (s .args .m .0)) (bytesOf (s .args .k .0)) (now (s .args .out)) 16 16 (length-bytesOf (s .args .m .0))
+    ∙ over-full (bytesOf (s .args .m .0) ++ bytesOf (s .args .k .0)) (now (s .args .out)) 32 (omega arith))
+
+pub put-entry-spec : {M : Type 1} → statement M
+put-entry-spec =
+    tie.close
+    (tie.spec (λ c. search needs) (λ c. search needs) (λ c. search needs) (λ c κs. search needs) (λ c. search needs) (λ c. search needs) (λ c. search needs) (λ c κs. search needs) (λ c. search needs) returns)

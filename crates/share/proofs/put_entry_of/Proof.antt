@@ -1,0 +1,21 @@
+use mathlib.Core.Path.{_∙_, ap₂}
+use mathlib.Core.List.{_++_}
+use borrow.Author.Needs.{needs}
+use Rattle.algebra.specs.Sum.{neq}
+use Rattle.block.specs.declared.Block.{Block}
+use Rattle.block.specs.Block.{bytesOf}
+use Rattle.share.proofs.Laws.{own-entry}
+use Rattle.share.proofs.put_entry_of.Statement.{statement}
+use Rattle.share.proofs.put_entry_of.Tie as tie
+
+returns : tie.Need-returns
+unfolding neq
+returns c =
+    let s = c .before .before .before .before .before .before .before in
+    c .before .before .put-entry .ensures
+    ∙ ap₂ (λ (m k : Block). bytesOf m ++ bytesOf k) (c .before .before .before .before .const-mul .ensures) (c .before .before .before .const-mul2 .ensures)
+    ∙ own-entry (s .args .i) (s .args .of) (s .args .m .0) (s .args .k .0)
+
+pub put-entry-of-spec : {M : Type 1} → statement M
+put-entry-of-spec =
+    tie.close (tie.spec (λ c κs. search needs) (λ c κs. search needs) (λ c κs. search needs) (λ c. search needs) returns)

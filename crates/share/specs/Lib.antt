@@ -1,0 +1,5 @@
+pub mod Record
+pub mod RecordLaws
+pub mod Share
+pub mod ShareLaws
+pub mod Parties

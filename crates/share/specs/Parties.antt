@@ -1,0 +1,72 @@
+-- The records of all parties together: one shared bit, in the words of ../algebra, whose MAC rule speaks of it.
+use mathlib.Core.Path.{_≡_, refl, sym, ap, ap₂, _∙_}
+use mathlib.Core.Bool.{Bool, true, false}
+use mathlib.Core.List.{List}
+use Prim.Native.Nat.{ℕ, zero, suc, _<_}
+use lib.ListN.{take, drop}
+use Rattle.algebra.specs.Group.{XorGroup, bits, sel}
+use Rattle.algebra.specs.Sum.{sum, sum-ext}
+use Rattle.algebra.specs.Share.{Shared, shared, total, Good}
+use Rattle.block.specs.declared.Block.{Block}
+use Rattle.block.specs.Group.{blocks}
+use Rattle.share.specs.Record.{recordLen, bitAt, macAt, keyAt}
+use Rattle.share.specs.Share.{Share, shareAt, shares, recordOf}
+use Rattle.share.specs.ShareLaws.{SmallShare, Agree, read-here}
+
+-- files i is party i's file of shares; each has a record at `at`
+unfoldable pub sharedAt : (ℕ → List ℕ) → ℕ → Shared Block
+sharedAt files at = record { bit = λ i. bitAt (files i) at; mac = λ i. macAt (files i) at; key = λ i. keyAt (files i) at }
+
+-- party i's share of a shared bit
+unfoldable pub shareOf : ℕ → Shared Block → Share
+shareOf i v = record { bit = v .bit i; mac = v .mac i; key = v .key i }
+
+pub share-of-at : (files : ℕ → List ℕ) (at i : ℕ) → shareOf i (sharedAt files at) ≡ shareAt (files i) at
+unfolding shareOf sharedAt shareAt
+share-of-at files at i = refl
+
+-- ---- what the group of shared bits does is, at each party, what the group of shares does
+module _ (i : ℕ) where
+  pub share-of-nil : shareOf i (shared blocks .nil) ≡ shares .nil
+  unfolding shareOf shared shares
+  share-of-nil = refl
+
+  pub share-of-op : (u v : Shared Block) → shareOf i (shared blocks .op u v) ≡ shares .op (shareOf i u) (shareOf i v)
+  unfolding shareOf shared shares
+  share-of-op u v = refl
+
+  pub share-of-sel : (d : Bool) (v : Shared Block) → shareOf i (sel (shared blocks) d v) ≡ sel shares d (shareOf i v)
+  share-of-sel false v = share-of-nil
+  share-of-sel true v = refl
+
+  pub share-of-sum : (m : ℕ) (f : ℕ → Shared Block) → shareOf i (sum (shared blocks) m f) ≡ sum shares m (λ j. shareOf i (f j))
+  unfolding sum
+  share-of-sum zero f = share-of-nil
+  share-of-sum (suc m) f =
+      share-of-op (sum (shared blocks) m f) (f m) ∙ ap (λ (x : Share). shares .op x (shareOf i (f m))) (share-of-sum m f)
+
+-- ---- records that hold a shared bit, each party's its own share
+module _ (n : ℕ) (v : Shared Block) (files : ℕ → List ℕ) (at : ℕ)
+    (agree : (i : ℕ) → i < n → Agree n i (shareAt (files i) at) (shareOf i v)) where
+  pub good-at : (δ : ℕ → Block) → Good blocks n δ v → Good blocks n δ (sharedAt files at)
+  unfolding sharedAt shareAt shareOf
+  good-at δ g i j li lj ne =
+      agree i li .mac j lj ne ∙ g i j li lj ne
+      ∙ ap₂ (λ (k : Block) (b : Bool). blocks .op k (sel blocks b (δ j))) (sym (agree j lj .key i li (λ e. ne (sym e)))) (sym (agree i li .bit))
+
+  pub at-good : (δ : ℕ → Block) → Good blocks n δ (sharedAt files at) → Good blocks n δ v
+  unfolding sharedAt shareAt shareOf
+  at-good δ g i j li lj ne =
+      sym (agree i li .mac j lj ne) ∙ g i j li lj ne
+      ∙ ap₂ (λ (k : Block) (b : Bool). blocks .op k (sel blocks b (δ j))) (agree j lj .key i li (λ e. ne (sym e))) (agree i li .bit)
+
+  pub total-at : total n (sharedAt files at) ≡ total n v
+  unfolding sharedAt shareAt shareOf
+  total-at = sum-ext bits n (λ i. bitAt (files i) at) (v .bit) (λ i l. agree i l .bit)
+
+-- such are the records that were written of it
+pub written-at : (n : ℕ) (v : Shared Block) (files : ℕ → List ℕ) (at : ℕ)
+    → ((i : ℕ) → i < n → take (recordLen n) (drop at (files i)) ≡ recordOf n i (shareOf i v))
+    → ((i : ℕ) → i < n → SmallShare n (shareOf i v))
+    → (i : ℕ) → i < n → Agree n i (shareAt (files i) at) (shareOf i v)
+written-at n v files at here small i l = read-here n i (shareOf i v) (files i) at (here i l) (small i l)

@@ -1,0 +1,333 @@
+-- Laws about shares and the records that hold them.
+use mathlib.Core.Path.{_≡_, refl, sym, ap, ap₂, _∙_, subst}
+use mathlib.Core.Bool.{Bool, true, false}
+use mathlib.Core.Logic.{_≢_}
+use mathlib.Core.List.{List, [], _∷_, _++_, append-nil}
+use Prim.Native.Nat.{ℕ, zero, suc, _+_, _*_, _<_, _≤_}
+use native.Mathlib.Nat.{le-refl}
+use native.Mathlib.Omega.{arith}
+use lib.ListN.{length, getD, take, drop, replicate, length-append}
+use lib.Seq.{take-at, drop-at, drop-drop, drop-cons, take-add}
+use Rattle.lists.specs.Pick.{pick}
+use Rattle.lists.specs.Over.{cat, length-cat}
+use Rattle.lists.specs.Rows.{chunk, chunk-cat, cat-chunk, cat-ext}
+use Rattle.lists.specs.Bytes.{Bytes, bytes-cons, bytes-append, bytes-cat, bytes-replicate}
+use Rattle.algebra.specs.Group.{XorGroup, bits, addb, sel, num, odd-num, num-odd}
+use Rattle.algebra.specs.Sum.{sum, neq, neq-self, neq-true, Same, same, apart, same?}
+use Rattle.block.specs.declared.Block.{Block}
+use Rattle.block.specs.Block.{blockAt, wordAt, bytesOf, le8, zeroOf}
+use Rattle.block.specs.Group.{blocks}
+use Rattle.block.specs.Trip.{Small, small-xor, small-nil, length-bytesOf, bytes-bytesOf, block-bytesOf, block-at, block-drop, block-take, bytesOf-at}
+use Rattle.share.specs.Record.{recordLen, macOff, keyOff, bitAt, macAt, keyAt, recordsFault}
+use Rattle.share.specs.RecordLaws.{Valid, valid-faults, byte-part, bit-part, mac-part, key-part, small-mac, small-key}
+use Rattle.share.specs.Share.{Share, shareAt, shares, entryBytes, entryOf, recordOf}
+
+-- ---- sums of shares, part by part
+module _ (a b : Share) where
+  pub bit-op : (shares .op a b) .bit ≡ addb (a .bit) (b .bit)
+  unfolding shares
+  bit-op = refl
+
+  pub mac-op : (k : ℕ) → (shares .op a b) .mac k ≡ blocks .op (a .mac k) (b .mac k)
+  unfolding shares
+  mac-op k = refl
+
+  pub key-op : (k : ℕ) → (shares .op a b) .key k ≡ blocks .op (a .key k) (b .key k)
+  unfolding shares
+  key-op k = refl
+
+pub bit-sel : (d : Bool) (a : Share) → (sel shares d a) .bit ≡ sel bits d (a .bit)
+unfolding shares
+bit-sel false a = refl
+bit-sel true a = refl
+
+pub mac-sel : (d : Bool) (a : Share) (k : ℕ) → (sel shares d a) .mac k ≡ sel blocks d (a .mac k)
+unfolding shares
+mac-sel false a k = refl
+mac-sel true a k = refl
+
+pub key-sel : (d : Bool) (a : Share) (k : ℕ) → (sel shares d a) .key k ≡ sel blocks d (a .key k)
+unfolding shares
+key-sel false a k = refl
+key-sel true a k = refl
+
+pub bit-sum : (m : ℕ) (f : ℕ → Share) → (sum shares m f) .bit ≡ sum bits m (λ j. f j .bit)
+unfolding sum shares
+bit-sum zero f = refl
+bit-sum (suc m) f = ap (λ (b : Bool). addb b (f m .bit)) (bit-sum m f)
+
+pub mac-sum : (m : ℕ) (f : ℕ → Share) (k : ℕ) → (sum shares m f) .mac k ≡ sum blocks m (λ j. f j .mac k)
+unfolding sum shares
+mac-sum zero f k = refl
+mac-sum (suc m) f k = ap (λ (b : Block). blocks .op b (f m .mac k)) (mac-sum m f k)
+
+pub key-sum : (m : ℕ) (f : ℕ → Share) (k : ℕ) → (sum shares m f) .key k ≡ sum blocks m (λ j. f j .key k)
+unfolding sum shares
+key-sum zero f k = refl
+key-sum (suc m) f k = ap (λ (b : Block). blocks .op b (f m .key k)) (key-sum m f k)
+
+-- ---- what is read
+module _ (s : List ℕ) (at : ℕ) where
+  pub bit-at : (shareAt s at) .bit ≡ bitAt s at
+  unfolding shareAt
+  bit-at = refl
+
+  pub mac-at : (k : ℕ) → (shareAt s at) .mac k ≡ macAt s at k
+  unfolding shareAt
+  mac-at k = refl
+
+  pub key-at : (k : ℕ) → (shareAt s at) .key k ≡ keyAt s at k
+  unfolding shareAt
+  key-at k = refl
+
+-- ---- MACs and keys that fit a Block: kept by sums
+pub record SmallShare (n : ℕ) (x : Share) : Type 0 where
+  pub mac : (k : ℕ) → k < n → Small (x .mac k)
+  pub key : (k : ℕ) → k < n → Small (x .key k)
+
+module _ (n : ℕ) where
+  pub small-share-at : (s : List ℕ) (at : ℕ) → Bytes s → SmallShare n (shareAt s at)
+  unfolding shareAt
+  small-share-at s at h = record { mac = λ k l. small-mac s h at k; key = λ k l. small-key s h at k }
+
+  pub small-share-nil : SmallShare n (shares .nil)
+  unfolding shares
+  small-share-nil = record { mac = λ k l. small-nil; key = λ k l. small-nil }
+
+  pub small-share-op : (a b : Share) → SmallShare n a → SmallShare n b → SmallShare n (shares .op a b)
+  unfolding shares
+  small-share-op a b h g = record {
+    mac = λ k l. small-xor (a .mac k) (b .mac k) (h .mac k l) (g .mac k l);
+    key = λ k l. small-xor (a .key k) (b .key k) (h .key k l) (g .key k l);
+  }
+
+  pub small-share-sel : (d : Bool) (a : Share) → SmallShare n a → SmallShare n (sel shares d a)
+  small-share-sel false a h = small-share-nil
+  small-share-sel true a h = h
+
+  pub small-share-sum : (m : ℕ) (f : ℕ → Share) → ((j : ℕ) → j < m → SmallShare n (f j)) → SmallShare n (sum shares m f)
+  unfolding sum
+  small-share-sum zero f h = small-share-nil
+  small-share-sum (suc m) f h =
+      small-share-op (sum shares m f) (f m) (small-share-sum m f (λ j l. h j (omega arith))) (h m (le-refl (suc m)))
+
+-- ---- entries and records: lengths and bytes
+module _ (i k : ℕ) (m y : Block) where
+  pub entry-other : i ≢ k → entryBytes i k m y ≡ bytesOf m ++ bytesOf y
+  unfolding entryBytes
+  entry-other ne = ap (λ (b : Bool). pick b (bytesOf m ++ bytesOf y) (replicate 32 0)) (neq-true i k ne)
+
+  length-pair : length (bytesOf m ++ bytesOf y) ≡ 32
+  length-pair = length-append (bytesOf m) (bytesOf y) ∙ ap₂ _+_ (length-bytesOf m) (length-bytesOf y)
+
+  pub length-entry : length (entryBytes i k m y) ≡ 32
+  unfolding entryBytes
+  length-entry = go (neq i k)
+    where
+      go : (b : Bool) → length (pick b (bytesOf m ++ bytesOf y) (replicate 32 0)) ≡ 32
+      go true = length-pair
+      go false = refl
+
+  pub bytes-entry : Bytes (entryBytes i k m y)
+  unfolding entryBytes
+  bytes-entry = go (neq i k)
+    where
+      go : (b : Bool) → Bytes (pick b (bytesOf m ++ bytesOf y) (replicate 32 0))
+      go true = bytes-append (bytesOf m) (bytesOf y) (bytes-bytesOf m) (bytes-bytesOf y)
+      go false = bytes-replicate 32 0 (omega arith)
+
+pub entry-own : (i : ℕ) (m y : Block) → entryBytes i i m y ≡ replicate 32 0
+unfolding entryBytes
+entry-own i m y = ap (λ (b : Bool). pick b (bytesOf m ++ bytesOf y) (replicate 32 0)) (neq-self i)
+
+-- an entry of two Blocks that are zero
+pub zero-pair : bytesOf (blocks .nil) ++ bytesOf (blocks .nil) ≡ replicate 32 0
+unfolding bytesOf le8 blocks zeroOf
+zero-pair = refl
+
+pub length-entryOf : (i : ℕ) (x : Share) (k : ℕ) → length (entryOf i x k) ≡ 32
+unfolding entryOf
+length-entryOf i x k = length-entry i k (x .mac k) (x .key k)
+
+module _ (n i : ℕ) (x : Share) where
+  pub length-recordOf : length (recordOf n i x) ≡ recordLen n
+  unfolding recordOf
+  length-recordOf =
+      ap suc (length-cat n 32 (entryOf i x) (λ k h. length-entryOf i x k)) ∙ (let e : suc (n * 32) ≡ recordLen n = omega arith in e)
+
+  num-byte : (b : Bool) → num b < 256
+  num-byte false = omega arith
+  num-byte true = omega arith
+
+  pub bytes-recordOf : Bytes (recordOf n i x)
+  unfolding recordOf entryOf
+  bytes-recordOf = bytes-cons (num (x .bit)) (cat n (entryOf i x)) (num-byte (x .bit)) (bytes-cat n (entryOf i x) (λ k h. bytes-entry i k (x .mac k) (x .key k)))
+
+-- ---- two shares that party i's records among n parties do not tell apart
+pub record Agree (n i : ℕ) (x y : Share) : Type 0 where
+  pub bit : x .bit ≡ y .bit
+  pub mac : (k : ℕ) → k < n → i ≢ k → x .mac k ≡ y .mac k
+  pub key : (k : ℕ) → k < n → i ≢ k → x .key k ≡ y .key k
+
+module _ (n i : ℕ) where
+  pub agree-record : (x y : Share) → Agree n i x y → recordOf n i x ≡ recordOf n i y
+  unfolding recordOf entryOf entryBytes
+  agree-record x y h = ap₂ (λ b (l : List ℕ). num b ∷ l) (h .bit) (cat-ext n (entryOf i x) (entryOf i y) (λ k l. go k l (neq i k) (same? i k)))
+    where
+      go : (k : ℕ) → k < n → (b : Bool) → Same i k b
+          → pick b (bytesOf (x .mac k) ++ bytesOf (x .key k)) (replicate 32 0) ≡ pick b (bytesOf (y .mac k) ++ bytesOf (y .key k)) (replicate 32 0)
+      go k l false e = refl
+      go k l true (apart ne) = ap₂ (λ (m z : Block). bytesOf m ++ bytesOf z) (h .mac k l ne) (h .key k l ne)
+
+  pub agree-op : (a b c d : Share) → Agree n i a c → Agree n i b d → Agree n i (shares .op a b) (shares .op c d)
+  unfolding shares
+  agree-op a b c d h g = record {
+    bit = ap₂ addb (h .bit) (g .bit);
+    mac = λ k l ne. ap₂ (blocks .op) (h .mac k l ne) (g .mac k l ne);
+    key = λ k l ne. ap₂ (blocks .op) (h .key k l ne) (g .key k l ne);
+  }
+
+  pub agree-refl : (x : Share) → Agree n i x x
+  agree-refl x = record { bit = refl; mac = λ k l ne. refl; key = λ k l ne. refl }
+
+  pub agree-sel : (d : Bool) (a b : Share) → Agree n i a b → Agree n i (sel shares d a) (sel shares d b)
+  agree-sel false a b h = agree-refl (shares .nil)
+  agree-sel true a b h = h
+
+-- ---- written, then read
+module _ (n i : ℕ) (x : Share) where
+  entry-part : (k : ℕ) → k < n → take 32 (drop (macOff k) (recordOf n i x)) ≡ entryOf i x k
+  unfolding recordOf chunk
+  entry-part k h =
+      ap (λ a. take 32 (drop a (num (x .bit) ∷ cat n (entryOf i x)))) (let e : macOff k ≡ suc (k * 32) = omega arith in e)
+      ∙ chunk-cat 32 n (entryOf i x) (λ j l. length-entryOf i x j) k h
+
+  part-block : (k o : ℕ) → k < n → o + 16 ≤ 32 → blockAt (recordOf n i x) (macOff k + o) ≡ blockAt (entryOf i x k) o
+  part-block k o h w =
+      sym (block-take (drop (macOff k) (recordOf n i x)) 32 o w ∙ block-drop (recordOf n i x) (macOff k) o)
+      ∙ ap (λ (s : List ℕ). blockAt s o) (entry-part k h)
+
+  entry-mac : (k : ℕ) → k < n → macAt (recordOf n i x) 0 k ≡ blockAt (entryOf i x k) 0
+  unfolding macAt
+  entry-mac k h = ap (blockAt (recordOf n i x)) (let e : 0 + macOff k ≡ macOff k + 0 = omega arith in e) ∙ part-block k 0 h (omega arith)
+
+  entry-key : (k : ℕ) → k < n → keyAt (recordOf n i x) 0 k ≡ blockAt (entryOf i x k) 16
+  unfolding keyAt
+  entry-key k h = ap (blockAt (recordOf n i x)) (let e : 0 + keyOff k ≡ macOff k + 16 = omega arith in e) ∙ part-block k 16 h (omega arith)
+
+-- wherever a record of x stands
+module _ (n i : ℕ) (x : Share) (s : List ℕ) (at : ℕ) (here : take (recordLen n) (drop at s) ≡ recordOf n i x) where
+  pub bit-here : bitAt s at ≡ x .bit
+  unfolding bitAt recordOf
+  bit-here = sym (bit-part n at s) ∙ ap (λ (l : List ℕ). bitAt l 0) here ∙ odd-num (x .bit)
+
+  mac-entry : (k : ℕ) → k < n → macAt s at k ≡ blockAt (entryOf i x k) 0
+  mac-entry k h = sym (mac-part n at s k h) ∙ ap (λ (l : List ℕ). macAt l 0 k) here ∙ entry-mac n i x k h
+
+  key-entry : (k : ℕ) → k < n → keyAt s at k ≡ blockAt (entryOf i x k) 16
+  key-entry k h = sym (key-part n at s k h) ∙ ap (λ (l : List ℕ). keyAt l 0 k) here ∙ entry-key n i x k h
+
+  pub mac-here : (k : ℕ) → k < n → i ≢ k → Small (x .mac k) → macAt s at k ≡ x .mac k
+  unfolding entryOf
+  mac-here k h ne sm =
+      mac-entry k h ∙ ap (λ (l : List ℕ). blockAt l 0) (entry-other i k (x .mac k) (x .key k) ne) ∙ block-bytesOf (x .mac k) (bytesOf (x .key k)) sm
+
+  pub key-here : (k : ℕ) → k < n → i ≢ k → Small (x .key k) → keyAt s at k ≡ x .key k
+  unfolding entryOf
+  key-here k h ne sm =
+      key-entry k h
+      ∙ ap (λ (l : List ℕ). blockAt l 16) (entry-other i k (x .mac k) (x .key k) ne ∙ ap (λ (l : List ℕ). bytesOf (x .mac k) ++ l) (sym (append-nil (bytesOf (x .key k)))))
+      ∙ block-at (bytesOf (x .mac k)) (x .key k) [] 16 (length-bytesOf (x .mac k)) sm
+
+  pub own-mac-here : i < n → macAt s at i ≡ blocks .nil
+  unfolding entryOf blockAt wordAt blocks zeroOf
+  own-mac-here h = mac-entry i h ∙ ap (λ (l : List ℕ). blockAt l 0) (entry-own i (x .mac i) (x .key i))
+
+  pub own-key-here : i < n → keyAt s at i ≡ blocks .nil
+  unfolding entryOf blockAt wordAt blocks zeroOf
+  own-key-here h = key-entry i h ∙ ap (λ (l : List ℕ). blockAt l 16) (entry-own i (x .mac i) (x .key i))
+
+  num-bit : (b : Bool) → num b ≤ 1
+  num-bit false = omega arith
+  num-bit true = omega arith
+
+  -- a written record passes the check
+  pub valid-here : i < n → Valid i s at
+  unfolding recordOf
+  valid-here h = record {
+    bit = rw (sym (byte-part n at s) ∙ ap (λ (l : List ℕ). getD l 0 0) here) (num-bit (x .bit));
+    mac = own-mac-here h;
+    key = own-key-here h;
+  }
+
+  -- and is read as it was written
+  pub read-here : SmallShare n x → Agree n i (shareAt s at) x
+  unfolding shareAt
+  read-here sm = record {
+    bit = bit-here;
+    mac = λ k l ne. mac-here k l ne (sm .mac k l);
+    key = λ k l ne. key-here k l ne (sm .key k l);
+  }
+
+-- a record behind p, with more behind it
+pub record-behind : (n i : ℕ) (x : Share) (p rest : List ℕ) (at : ℕ) → length p ≡ at
+    → take (recordLen n) (drop at (p ++ (recordOf n i x ++ rest))) ≡ recordOf n i x
+record-behind n i x p rest at h =
+    ap (take (recordLen n)) (drop-at p (recordOf n i x ++ rest) at h) ∙ take-at (recordOf n i x) rest (recordLen n) (length-recordOf n i x)
+
+-- record t of a list of records
+pub record-row : (n i count : ℕ) (f : ℕ → Share) (t : ℕ) → t < count
+    → take (recordLen n) (drop (t * recordLen n) (cat count (λ j. recordOf n i (f j)))) ≡ recordOf n i (f t)
+unfolding chunk
+record-row n i count f t h = chunk-cat (recordLen n) count (λ j. recordOf n i (f j)) (λ j l. length-recordOf n i (f j)) t h
+
+pub read-front : (n i : ℕ) (x : Share) (rest : List ℕ) → SmallShare n x → Agree n i (shareAt (recordOf n i x ++ rest) 0) x
+read-front n i x rest = read-here n i x (recordOf n i x ++ rest) 0 (record-behind n i x [] rest 0 refl)
+
+pub read-row : (n i count : ℕ) (f : ℕ → Share) (t : ℕ) → t < count → SmallShare n (f t)
+    → Agree n i (shareAt (cat count (λ j. recordOf n i (f j))) (t * recordLen n)) (f t)
+read-row n i count f t h = read-here n i (f t) (cat count (λ j. recordOf n i (f j))) (t * recordLen n) (record-row n i count f t h)
+
+-- a record that is all there is: what is added to it is added to x
+pub record-add : (n i : ℕ) (x y : Share) → SmallShare n x → recordOf n i (shares .op (shareAt (recordOf n i x) 0) y) ≡ recordOf n i (shares .op x y)
+record-add n i x y sm =
+    agree-record n i (shares .op (shareAt (recordOf n i x) 0) y) (shares .op x y)
+    (agree-op n i (shareAt (recordOf n i x) 0) y x y
+    (subst (λ (l : List ℕ). Agree n i (shareAt l 0) x) (append-nil (recordOf n i x)) (read-front n i x [] sm)) (agree-refl n i y))
+
+-- a list of records that was written passes the check
+pub rows-valid : (n i count : ℕ) (f : ℕ → Share) → i < n → recordsFault n i (cat count (λ j. recordOf n i (f j))) count ≡ 0
+rows-valid n i count f h =
+    valid-faults n i (cat count (λ j. recordOf n i (f j))) count
+    (λ t l. valid-here n i (f t) (cat count (λ j. recordOf n i (f j))) (t * recordLen n) (record-row n i count f t l) h)
+
+-- ---- read, then written: a record that passes the check is copied byte for byte
+module _ (n i : ℕ) (s : List ℕ) (at : ℕ) (h : Bytes s) (v : Valid i s at) (fits : at + recordLen n ≤ length s) where
+  pair-at : (k : ℕ) → k < n → bytesOf (macAt s at k) ++ bytesOf (keyAt s at k) ≡ take 32 (drop (at + macOff k) s)
+  unfolding macAt keyAt
+  pair-at k l =
+      ap₂ _++_ (bytesOf-at s h (at + macOff k) (omega arith))
+      (bytesOf-at s h (at + keyOff k) (omega arith)
+      ∙ ap (take 16) (ap (λ a. drop a s) (let e : at + keyOff k ≡ (at + macOff k) + 16 = omega arith in e) ∙ sym (drop-drop 16 (at + macOff k) s)))
+      ∙ sym (take-add 16 16 (drop (at + macOff k) s))
+
+  entry-at : (k : ℕ) → k < n → entryOf i (shareAt s at) k ≡ take 32 (drop (at + macOff k) s)
+  unfolding entryOf entryBytes shareAt
+  entry-at k l = go (neq i k) (same? i k)
+    where
+      go : (b : Bool) → Same i k b → pick b (bytesOf (macAt s at k) ++ bytesOf (keyAt s at k)) (replicate 32 0) ≡ take 32 (drop (at + macOff k) s)
+      go true e = pair-at k l
+      go false (same e) =
+          sym zero-pair
+          ∙ ap₂ (λ (m y : Block). bytesOf m ++ bytesOf y) (sym (v .mac) ∙ ap (macAt s at) e) (sym (v .key) ∙ ap (keyAt s at) e)
+          ∙ pair-at k l
+
+  pub record-again : recordOf n i (shareAt s at) ≡ take (recordLen n) (drop at s)
+  unfolding recordOf shareAt bitAt chunk
+  record-again =
+      ap₂ (λ b (l : List ℕ). b ∷ l) (num-odd (getD s at 0) (let w : getD s at 0 < 2 = omega (arith, v .bit) in w))
+      (cat-ext n (entryOf i (shareAt s at)) (λ k. chunk 32 k (drop (suc at) s))
+      (λ k l. entry-at k l ∙ ap (take 32) (ap (λ a. drop a s) (let e : at + macOff k ≡ suc at + k * 32 = omega arith in e) ∙ sym (drop-drop (k * 32) (suc at) s)))
+      ∙ cat-chunk 32 n (drop (suc at) s))
+      ∙ ap (take (suc (n * 32))) (sym (drop-cons s at 0 (omega arith)))
+      ∙ ap (λ m. take m (drop at s)) (let e : suc (n * 32) ≡ recordLen n = omega arith in e)

@@ -1,0 +1,214 @@
+// Shares of authenticated bits: the types Delta, Mac and Key with the sums that are allowed, and share records in lent bytes.
+// From src/mpc/data_types.rs of polytune.
+ghost use mathlib.Core.Path.{_≡_};
+ghost use mathlib.Core.List.{_++_};
+ghost use Prim.Native.Nat.{_+_, _*_, _<_, _≤_};
+ghost use lib.ListN.{length};
+ghost use Rattle.algebra.specs.Group.{XorGroup, sel};
+ghost use Rattle.block.specs.Block.{blockAt, bytesOf};
+ghost use Rattle.block.specs.Group.{blocks};
+ghost use Rattle.share.specs.Record.{recordLen, macOff, keyOff, bitAt, macAt, keyAt, ownZero, recordFault, recordsFault};
+ghost use Rattle.share.specs.Share.{shareAt, shares, entryBytes, recordOf};
+use block::Block;
+
+// The global key of one party, which authenticates the others' bits to it.
+pub struct Delta(pub Block);
+
+// A party's MAC of its bit for another party.
+pub struct Mac(pub Block);
+
+// A party's key of another party's bit.
+pub struct Key(pub Block);
+
+impl Delta {
+    // bit times delta
+    pub fn times(self, bit: bool) -> Delta
+        ensures { λ r. ⌜ r .0 ≡ sel blocks bit (self .0) ⌝ }
+    {
+        Delta(self.0.const_mul(bit))
+    }
+}
+
+impl Mac {
+    pub fn xor(self, o: Mac) -> Mac
+        ensures { λ r. ⌜ r .0 ≡ blocks .op (self .0) (o .0) ⌝ }
+    {
+        Mac(self.0.xor(o.0))
+    }
+
+    // a MAC plus a delta is a key
+    pub fn xor_delta(self, d: Delta) -> Key
+        ensures { λ r. ⌜ r .0 ≡ blocks .op (self .0) (d .0) ⌝ }
+    {
+        Key(self.0.xor(d.0))
+    }
+}
+
+impl Key {
+    pub fn xor(self, o: Key) -> Key
+        ensures { λ r. ⌜ r .0 ≡ blocks .op (self .0) (o .0) ⌝ }
+    {
+        Key(self.0.xor(o.0))
+    }
+
+    // a key plus a delta is a MAC
+    pub fn xor_delta(self, d: Delta) -> Mac
+        ensures { λ r. ⌜ r .0 ≡ blocks .op (self .0) (d .0) ⌝ }
+    {
+        Mac(self.0.xor(d.0))
+    }
+}
+
+// The bytes of a record among n parties.
+pub fn record_len(n: usize) -> usize
+    requires { ⌜ n ≤ 8 ⌝ }
+    ensures { λ r. ⌜ r ≡ recordLen n ⌝ }
+{
+    1 + 32 * n
+}
+
+// Where party k's MAC starts in a record.
+pub fn mac_off(k: usize) -> usize
+    requires { ⌜ k < 8 ⌝ }
+    ensures { λ r. ⌜ r ≡ macOff k ⌝ }
+{
+    1 + 32 * k
+}
+
+// Where party k's key starts in a record.
+pub fn key_off(k: usize) -> usize
+    requires { ⌜ k < 8 ⌝ }
+    ensures { λ r. ⌜ r ≡ keyOff k ⌝ }
+{
+    17 + 32 * k
+}
+
+// The MAC for k in the record at `at`.
+pub fn mac_at(s: &[u8], at: usize, k: usize) -> Mac
+    requires { ⌜ (k < 8) × (at + recordLen (k + 1) ≤ length (now s)) ⌝ }
+    ensures { λ r. ⌜ r .0 ≡ macAt (now (s .entry)) at k ⌝ }
+{
+    Mac(block::load(s, at + mac_off(k)))
+}
+
+// The key of k in the record at `at`.
+pub fn key_at(s: &[u8], at: usize, k: usize) -> Key
+    requires { ⌜ (k < 8) × (at + recordLen (k + 1) ≤ length (now s)) ⌝ }
+    ensures { λ r. ⌜ r .0 ≡ keyAt (now (s .entry)) at k ⌝ }
+{
+    Key(block::load(s, at + key_off(k)))
+}
+
+// The bit of the record at `at`.
+pub fn bit_at(s: &[u8], at: usize) -> bool
+    requires { ⌜ at < length (now s) ⌝ }
+    ensures { λ r. ⌜ r ≡ bitAt (now (s .entry)) at ⌝ }
+{
+    block::bit(s, at)
+}
+
+// Whether party i's own entry is zero: all of it is looked at.
+fn own_zero(s: &[u8], at: usize, i: usize) -> bool
+    requires { ⌜ (i < 8) × (at + recordLen (i + 1) ≤ length (now s)) ⌝ }
+    ensures { λ r. ⌜ r ≡ ownZero i (now (s .entry)) at ⌝ }
+{
+    let m = mac_at(s, at, i);
+    let k = key_at(s, at, i);
+    m.0.equals(Block::zero()) & k.0.equals(Block::zero())
+}
+
+// 1 for a bit byte above 1, then 4 for an own entry that isn't zero, else 0.
+pub fn record_fault(s: &[u8], at: usize, i: usize) -> u8
+    requires { ⌜ (i < 8) × (at + recordLen (i + 1) ≤ length (now s)) ⌝ }
+    ensures { λ r. ⌜ r ≡ recordFault i (now (s .entry)) at ⌝ }
+{
+    if 1 < s[at] {
+        return 1;
+    }
+    if own_zero(s, at, i) { 0 } else { 4 }
+}
+
+// The first fault of party i's `count` records among n parties, record by record, else 0.
+pub fn check_records(s: &[u8], n: usize, i: usize, count: usize) -> u8
+    requires { ⌜ (n ≤ 8) × (i < n) ⌝ }
+    requires { ⌜ count * recordLen n ≤ length (now s) ⌝ }
+    ensures { λ r. ⌜ r ≡ recordsFault n i (now (s .entry)) count ⌝ }
+{
+    let len = record_len(n);
+    let mut t = 0;
+    while t < count {
+        let fault = record_fault(s, t * len, i);
+        if fault != 0 {
+            return fault;
+        }
+        t += 1;
+    }
+    0
+}
+
+// Writes an entry: the MAC, then the key.
+pub fn put_entry(out: &mut [u8], m: Mac, k: Key)
+    requires { ⌜ length (now out) ≡ 32 ⌝ }
+    ensures { λ _. ⌜ now (out .exit) ≡ bytesOf (m .0) ++ bytesOf (k .0) ⌝ }
+{
+    block::store(&mut out[0..16], m.0);
+    block::store(&mut out[16..32], k.0);
+}
+
+// Writes the entry of party `of` in a record of party i: zero where it is the own one.
+pub fn put_entry_of(out: &mut [u8], i: usize, of: usize, m: Mac, k: Key)
+    requires { ⌜ length (now out) ≡ 32 ⌝ }
+    ensures { λ _. ⌜ now (out .exit) ≡ entryBytes i of (m .0) (k .0) ⌝ }
+{
+    let other = i != of;
+    put_entry(out, Mac(m.0.const_mul(other)), Key(k.0.const_mul(other)));
+}
+
+// Writes party i's record among n parties: the share in the record at `at` of s.
+pub fn copy_record(out: &mut [u8], s: &[u8], at: usize, n: usize, i: usize)
+    requires { ⌜ (n ≤ 8) × (length (now out) ≡ recordLen n) ⌝ }
+    requires { ⌜ at + recordLen n ≤ length (now s) ⌝ }
+    ensures { λ _. ⌜ now (out .exit) ≡ recordOf n i (shareAt (now (s .entry)) at) ⌝ }
+{
+    let mut k = 0;
+    while k < n {
+        let a = mac_off(k);
+        let e = a + 32;
+        put_entry_of(&mut out[a..e], i, k, mac_at(s, at, k), key_at(s, at, k));
+        k += 1;
+    }
+    out[0] = block::bit_byte(bit_at(s, at));
+}
+
+// Adds d times the entry of party `of` in the record at `at` of s: d decides no branch.
+fn add_entry(out: &mut [u8], s: &[u8], at: usize, i: usize, of: usize, d: bool)
+    requires { ⌜ (length (now out) ≡ 32) × (of < 8) ⌝ }
+    requires { ⌜ at + recordLen (of + 1) ≤ length (now s) ⌝ }
+    ensures { λ _. ⌜ now (out .exit) ≡ entryBytes i of
+        (blocks .op (blockAt (now (out .entry)) 0) (sel blocks d (macAt (now (s .entry)) at of)))
+        (blocks .op (blockAt (now (out .entry)) 16) (sel blocks d (keyAt (now (s .entry)) at of))) ⌝ }
+{
+    let m = Mac(mac_at(s, at, of).0.const_mul(d));
+    let k = Key(key_at(s, at, of).0.const_mul(d));
+    let m2 = Mac(block::load(out, 0)).xor(m);
+    let k2 = Key(block::load(out, 16)).xor(k);
+    put_entry_of(out, i, of, m2, k2);
+}
+
+// Adds d times the record at `at` of s to party i's record `out` among n parties.
+pub fn add_record(out: &mut [u8], s: &[u8], at: usize, n: usize, i: usize, d: bool)
+    requires { ⌜ (n ≤ 8) × (length (now out) ≡ recordLen n) ⌝ }
+    requires { ⌜ at + recordLen n ≤ length (now s) ⌝ }
+    ensures { λ _. ⌜ now (out .exit) ≡ recordOf n i
+        (shares .op (shareAt (now (out .entry)) 0) (sel shares d (shareAt (now (s .entry)) at))) ⌝ }
+{
+    let bit = bit_at(out, 0) ^ (bit_at(s, at) & d);
+    let mut k = 0;
+    while k < n {
+        let a = mac_off(k);
+        let e = a + 32;
+        add_entry(&mut out[a..e], s, at, i, k, d);
+        k += 1;
+    }
+    out[0] = block::bit_byte(bit);
+}
