@@ -68,10 +68,12 @@ unfoldable pub eOpened : Frame → List ℕ → List ℕ → List ℕ → (ℕ �
 eOpened f recs perm beta m j = addb (e f recs perm beta j .bit) (others bits (f .i) (f .n) (λ k. eTold m k j))
 
 -- "result c + d·beta + e·a"
+unfoldable pub finish : Share → Share → Share → Bool → Bool → Share
+finish c beta a d e = shares .op (shares .op c (sel shares d beta)) (sel shares e a)
+
 unfoldable pub resultShare : Frame → List ℕ → List ℕ → List ℕ → List ℕ → List ℕ → (ℕ → List ℕ) → ℕ → Share
 resultShare f recs perm triples alpha beta m j =
-    shares .op (shares .op (c f triples j) (sel shares (dOpened f triples alpha m j) (share f beta j)))
-    (sel shares (eOpened f recs perm beta m j) (a f triples j))
+    finish (c f triples j) (share f beta j) (a f triples j) (dOpened f triples alpha m j) (eOpened f recs perm beta m j)
 
 -- the l result records
 unfoldable pub results : Frame → List ℕ → List ℕ → List ℕ → List ℕ → List ℕ → (ℕ → List ℕ) → List ℕ
