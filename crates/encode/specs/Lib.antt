@@ -1,3 +1,4 @@
 pub mod Encode
 pub mod Coded
 pub mod RoundTrip
+pub mod Fields

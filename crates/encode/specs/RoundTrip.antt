@@ -48,6 +48,12 @@ module _ (c : ℕ) (g : ℕ → List ℕ) (rest : List ℕ) where
           ∙ take-append-le (length (g t)) (drop (length (cat t g)) (cat c g)) rest (rw length-drop (omega arith))
           ∙ cat-part c g t l
 
+  -- items of one length
+  pub encode-item : (size : ℕ) → ((t : ℕ) → t < c → length (g t) ≡ size) → (t : ℕ) → t < c → take size (drop (8 + t * size) (encode c g ++ rest)) ≡ g t
+  encode-item size long t l =
+      ap (λ a. take size (drop (8 + a) (encode c g ++ rest))) (sym (length-cat t size g (λ j k. long j (omega arith))))
+      ∙ ap (take size) (item-front t l) ∙ take-at (g t) (behind t) size (long t l)
+
   pub whole-length : length (encode c g) ≡ 8 + length (cat c g)
   unfolding encode
   whole-length = length-append (le8 c) (cat c g) ∙ ap (λ n. n + length (cat c g)) (length-le8 c)
