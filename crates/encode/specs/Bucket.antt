@@ -25,6 +25,12 @@ counts due l = put (8 + due) 8 (le8 due) (put 0 8 (le8 due) l)
 unfoldable pub dvalueIn : ℕ → ℕ → Bool → Block → List ℕ → List ℕ
 dvalueIn due k d x l = put (16 + due + k * 16) 16 (bytesOf x) (set l (8 + k) (num d))
 
+pub length-dvalueIn : (due k : ℕ) (d : Bool) (x : Block) (l : List ℕ) → length l ≡ 16 + due * 17 → k < due → length (dvalueIn due k d x l) ≡ length l
+unfolding dvalueIn
+length-dvalueIn due k d x l h j =
+    length-put (16 + due + k * 16) 16 (bytesOf x) (set l (8 + k) (num d)) (length-bytesOf x) (omega (arith, length-set l (8 + k) (num d)))
+    ∙ length-set l (8 + k) (num d)
+
 -- both counts and the first j of each list are written
 pub record Filled (due : ℕ) (d : ℕ → Bool) (x : ℕ → Block) (j : ℕ) (l : List ℕ) : Type 0 where
   pub long : length l ≡ 16 + due * 17
