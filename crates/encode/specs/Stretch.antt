@@ -5,6 +5,7 @@ use Prim.Native.Nat.{ℕ, zero, suc, _+_, _-_, _*_, _<_, _≤_}
 use native.Mathlib.Numerals.{add-one}
 use native.Mathlib.Omega.{arith}
 use lib.ListN.{length, drop}
+use lib.Seq.{drop-at}
 use borrow.Rule.Slice.PartMut.{putMid}
 use Rattle.lists.specs.Over.{cat, Written, written-zero, written-turn, written-end, in-chunks, next-chunk}
 use Rattle.block.specs.Block.{le8}
@@ -36,6 +37,15 @@ module _ (c : ℕ) (g : ℕ → List ℕ) where
   pub stretch-count : (l x : List ℕ) → 8 ≤ length l → x ≡ le8 c → Stretch 0 8 l (putMid 0 8 l x)
   stretch-count l x h e =
       written-turn headed 0 0 8 8 l l x (written-zero headed l) e (ap (λ n. 0 + n) (length-le8 c)) h refl
+
+  -- a loop that begins here knows the buffer with the count in it
+  pub stretch-self : (j a : ℕ) (l d : List ℕ) → Stretch j a l d → Stretch j a d d
+  stretch-self j a l d w = record {
+    here = w .here ∙ ap (λ (s : List ℕ). cat (j + 1) headed ++ s) (sym (ap (drop a) (w .here) ∙ drop-at (cat (j + 1) headed) (drop a l) a (w .at)));
+    at = w .at;
+    fits = omega (arith, w .fits, w .same);
+    same = refl;
+  }
 
   -- one more item, from a to e
   pub stretch-turn : (j a e e′ : ℕ) (l d x : List ℕ) → Stretch j a l d → x ≡ g j → a + length (g j) ≡ e → e ≤ length l → e ≡ e′
