@@ -17,6 +17,19 @@ pub fn put_count(out: &mut [u8], count: usize)
     block::store64(out, count as u64);
 }
 
+// A list of bytes: `RNG ver`, or a dm of `fashare ver`.
+pub fn put_bytes(out: &mut [u8], s: &[u8])
+    requires { ⌜ length (now out) ≡ 8 + length (now s) ⌝ }
+    ensures { λ _. ⌜ now (out .exit) ≡ E.dmItem (now (s .entry)) ⌝ }
+{
+    put_count(&mut out[0..8], s.len());
+    let mut t = 0;
+    while t < s.len() {
+        out[8 + t] = s[t];
+        t += 1;
+    }
+}
+
 // (bit, MAC) of `fabitn`, (e, u) of `flaand`.
 pub fn put_bit_block(out: &mut [u8], b: bool, x: Block)
     requires { ⌜ length (now out) ≡ 17 ⌝ }
