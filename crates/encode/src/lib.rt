@@ -82,12 +82,12 @@ pub fn put_dvalue(out: &mut [u8], due: usize, k: usize, d: bool, x: Block)
 }
 
 // An entry of an echo: the hash of a list.
-pub fn put_some(out: &mut [u8], x: Block)
+pub fn put_some(out: &mut [u8], hash: Block)
     requires { ⌜ length (now out) ≡ 17 ⌝ }
-    ensures { λ _. ⌜ now (out .exit) ≡ E.someItem (bytesOf x) ⌝ }
+    ensures { λ _. ⌜ now (out .exit) ≡ E.someItem (bytesOf hash) ⌝ }
 {
     out[0] = 1;
-    block::store(&mut out[1..17], x);
+    block::store(&mut out[1..17], hash);
 }
 
 // An absent entry of an echo.

@@ -18,12 +18,12 @@ returns : tie.Need-returns
 unfolding someItem
 returns c =
     let s = c .before .before .before .before .before in
-    byte-block 1 1 (bytesOf (s .args .x)) _ (now (s .args .out)) (s .pre) refl (c .before .before .store .ensures)
+    byte-block 1 1 (bytesOf (s .args .hash)) _ (now (s .args .out)) (s .pre) refl (c .before .before .store .ensures)
 
 same-length : tie.Need-same-length
 same-length c =
     let s = c .before .before .before .before .before in
-    ap length (returns c) ∙ length-some (bytesOf (s .args .x)) (length-bytesOf (s .args .x)) ∙ sym (s .pre)
+    ap length (returns c) ∙ length-some (bytesOf (s .args .hash)) (length-bytesOf (s .args .hash)) ∙ sym (s .pre)
 
 pub put-some-spec : {M : Type 1} → statement M
 put-some-spec =
