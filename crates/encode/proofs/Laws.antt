@@ -4,7 +4,7 @@ use mathlib.Core.List.{List, [], _∷_, _++_, append-assoc, append-nil}
 use Prim.Native.Nat.{ℕ, suc, _+_, _<_}
 use native.Mathlib.Numerals.{add-one}
 use native.Mathlib.Omega.{arith}
-use lib.ListN.{length, getD, take, drop, set, length-set}
+use lib.ListN.{length, getD, take, set, length-set}
 use lib.Seq.{take-suc, take-suc-set, take-all}
 use borrow.Rule.Slice.PartMut.{putMid}
 use Rattle.lists.specs.Sect.{length-put, get-put-same}
@@ -58,11 +58,11 @@ module _ (s out : List ℕ) where
   copied-turn t h w = record {
     long = length-set out (8 + t) (getD s t 0) ∙ w .long;
     here =
-    ap (λ n. take n (set out (8 + t) (getD s t 0))) (let p : 8 + (t + 1) ≡ suc (8 + t) = omega arith in p)
-    ∙ take-suc-set out (8 + t) (getD s t 0) (omega (arith, w .long))
-    ∙ ap (λ (d : List ℕ). d ++ (getD s t 0 ∷ [])) (w .here)
-    ∙ append-assoc (le8 (length s)) (take t s) (getD s t 0 ∷ [])
-    ∙ ap (λ (d : List ℕ). le8 (length s) ++ d) (sym (take-suc s t 0 h) ∙ ap (λ n. take n s) (sym (add-one t)));
+        ap (λ n. take n (set out (8 + t) (getD s t 0))) (let p : 8 + (t + 1) ≡ suc (8 + t) = omega arith in p)
+        ∙ take-suc-set out (8 + t) (getD s t 0) (omega (arith, w .long))
+        ∙ ap (λ (d : List ℕ). d ++ (getD s t 0 ∷ [])) (w .here)
+        ∙ append-assoc (le8 (length s)) (take t s) (getD s t 0 ∷ [])
+        ∙ ap (λ (d : List ℕ). le8 (length s) ++ d) (sym (take-suc s t 0 h) ∙ ap (λ n. take n s) (sym (add-one t)));
   }
 
   pub copied-end : (t : ℕ) → Copied s out t → t ≡ length s → out ≡ dmItem s

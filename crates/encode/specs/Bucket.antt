@@ -1,15 +1,14 @@
 -- Writing a bucket's d values and MACs into an exact stretch: both counts, then one d and its MAC after another.
-use mathlib.Core.Path.{_≡_, refl, sym, ap, ap₂, _∙_, subst}
+use mathlib.Core.Path.{_≡_, sym, ap, ap₂, _∙_}
 use mathlib.Core.Bool.{Bool}
 use mathlib.Core.List.{List, [], _∷_, _++_, append-assoc, append-nil}
-use Prim.Native.Nat.{ℕ, zero, suc, _+_, _-_, _*_, _<_, _≤_}
-use native.Mathlib.Nat.{zero-mul, suc-mul, add-zero}
+use Prim.Native.Nat.{ℕ, suc, _+_, _-_, _*_, _<_}
 use native.Mathlib.Numerals.{add-one}
 use native.Mathlib.Omega.{arith}
 use lib.ListN.{length, take, drop, set, length-set, length-drop, take-append-drop}
-use lib.Seq.{take-suc-set, take-set-le, drop-set-lt, take-all, take-add, drop-drop}
+use lib.Seq.{take-suc-set, drop-set-lt, take-all, take-add, drop-drop}
 use Rattle.lists.specs.Over.{tab, cat}
-use Rattle.lists.specs.Sect.{get, put, length-put, get-put-same, get-put-before, get-put-after}
+use Rattle.lists.specs.Sect.{get, put, length-put, get-put-same, get-put-before}
 use Rattle.algebra.specs.Group.{num}
 use Rattle.block.specs.declared.Block.{Block}
 use Rattle.block.specs.Block.{le8, bytesOf}
@@ -43,8 +42,8 @@ module _ (due : ℕ) (d : ℕ → Bool) (x : ℕ → Block) where
   filled-start l h = record {
     long = length-put (8 + due) 8 (le8 due) once (length-le8 due) (omega (arith, once-long)) ∙ once-long;
     bits =
-    get-put-before 0 8 (8 + due) 8 (le8 due) once (omega arith) (omega (arith, once-long))
-    ∙ get-put-same 0 8 (le8 due) l (length-le8 due) (omega arith) ∙ sym (append-nil (le8 due));
+        get-put-before 0 8 (8 + due) 8 (le8 due) once (omega arith) (omega (arith, once-long))
+        ∙ get-put-same 0 8 (le8 due) l (length-le8 due) (omega arith) ∙ sym (append-nil (le8 due));
     macs = get-put-same (8 + due) 8 (le8 due) once (length-le8 due) (omega (arith, once-long)) ∙ sym (append-nil (le8 due));
   }
     where

@@ -1,17 +1,17 @@
 -- Every item decodes with its own length, whatever follows it.
-use mathlib.Core.Path.{_≡_, refl, sym, ap, ap₂, _∙_, subst}
-use mathlib.Core.Bool.{Bool, true, false, _&&_}
+use mathlib.Core.Path.{_≡_, refl, sym, ap, ap₂, _∙_}
+use mathlib.Core.Bool.{Bool, true, false}
 use mathlib.Core.List.{List, [], _∷_, _++_, append-assoc}
 use Prim.Native.Nat.{ℕ, zero, suc, _+_, _-_, _*_, _^_, _<_, _≤_}
-use native.Mathlib.Nat.{zero-mul, add-zero, mul-one}
+use native.Mathlib.Nat.{add-zero, mul-one}
 use native.Mathlib.Omega.{arith}
-use lib.ListN.{length, getD, take, drop, length-append, length-drop, List·getD-append}
+use lib.ListN.{length, getD, drop, length-append, List·getD-append}
 use lib.Seq.{drop-at}
 use lib.Dec.{eqb}
 use borrow.Author.Tests.{eq-eqb, lt-ltb, le-leb}
 use Rattle.lists.specs.Over.{cat, length-cat}
 use Rattle.lists.specs.Bytes.{Bytes, bytes-nil, bytes-cons, bytes-append, bytes-cat}
-use Rattle.lists.specs.Rows.{chunk, chunk-cat, getD-chunk}
+use Rattle.lists.specs.Rows.{chunk-cat, getD-chunk}
 use Rattle.algebra.specs.Group.{num}
 use Rattle.block.specs.declared.Block.{Block}
 use Rattle.block.specs.Block.{wordAt, le8, bytesOf}
@@ -119,7 +119,7 @@ pub vec-encode : (size c : ℕ) (g : ℕ → List ℕ) (rest : List ℕ) → c <
 vec-encode size c g rest h l =
     let e = count-encode c g rest h in
     let n : 8 + wordAt (encode c g ++ rest) 0 * size ≤ length (encode c g ++ rest) =
-        rw e (omega (arith, length-append (encode c g) rest, length-encode size c g l)) in
+    rw e (omega (arith, length-append (encode c g) rest, length-encode size c g l)) in
     vec-some size (encode c g ++ rest) n ∙ ap (λ w. 8 + w * size) e
 
 -- ---- a dm
@@ -206,12 +206,12 @@ module _ (c : ℕ) (d : ℕ → Bool) (x : ℕ → Block) where
   unfolding innerDue
   coded-dvalue h = record {
     len = λ rest.
-    bucket-some c (s rest h) (omega (arith, long-ds rest h)) (bits rest h) (omega (arith, long-macs rest h))
-    ∙ omega (arith, long-ds rest h, long-macs rest h, length-dvalue);
+        bucket-some c (s rest h) (omega (arith, long-ds rest h)) (bits rest h) (omega (arith, long-macs rest h))
+        ∙ omega (arith, long-ds rest h, long-macs rest h, length-dvalue);
     some = omega (arith, length-dvalue);
     due = λ rest.
-    and-true (eqb (wordAt (s rest h) 0) c) (eqb (wordAt (s rest h) (8 + wordAt (s rest h) 0)) c)
-    (eq-eqb (wordAt (s rest h) 0) c (first rest h)) (eq-eqb (wordAt (s rest h) (8 + wordAt (s rest h) 0)) c (second rest h));
+        and-true (eqb (wordAt (s rest h) 0) c) (eqb (wordAt (s rest h) (8 + wordAt (s rest h) 0)) c)
+        (eq-eqb (wordAt (s rest h) 0) c (first rest h)) (eq-eqb (wordAt (s rest h) (8 + wordAt (s rest h) 0)) c (second rest h));
   }
 
 -- ---- an option
@@ -227,8 +227,8 @@ pub coded-some : (h : List ℕ) → length h ≡ 16 → Coded Options (someItem 
 unfolding itemLen innerDue someItem
 coded-some h e = record {
   len = λ rest.
-  rw (lt-ltb 0 (suc (length (h ++ rest))) (omega arith), le-leb 17 (suc (length (h ++ rest))) (omega (arith, length-append h rest)))
-  (ap suc (sym e));
+      rw (lt-ltb 0 (suc (length (h ++ rest))) (omega arith), le-leb 17 (suc (length (h ++ rest))) (omega (arith, length-append h rest)))
+      (ap suc (sym e));
   some = omega arith;
   due = λ rest. refl;
 }

@@ -1,24 +1,22 @@
 -- The fields of each kind of item, read back from a message that holds the list. A field's place is given as p, with its equation.
-use mathlib.Core.Path.{_≡_, refl, sym, ap, ap₂, _∙_, subst}
+use mathlib.Core.Path.{_≡_, refl, sym, ap, _∙_}
 use mathlib.Core.Bool.{Bool}
 use mathlib.Core.List.{List, [], _∷_, _++_, append-assoc, append-nil}
 use Prim.Native.Nat.{ℕ, zero, suc, _+_, _-_, _*_, _^_, _<_, _≤_}
-use native.Mathlib.Nat.{add-assoc, zero-add, suc-add}
+use native.Mathlib.Nat.{zero-add, suc-add}
 use native.Mathlib.Omega.{arith}
 use lib.ListN.{length, getD, take, drop, length-append}
 use lib.Seq.{take-at, drop-at, getD-take, getD-drop, take-take, take-all, take-nil, drop-drop, take-length}
-use Rattle.lists.specs.Over.{tab, cat, length-cat}
+use Rattle.lists.specs.Over.{tab, cat}
 use Rattle.lists.specs.Tab.{tab-getD}
-use Rattle.lists.specs.Rows.{chunk, chunk-cat, getD-chunk}
 use Rattle.algebra.specs.Group.{num, odd, odd-num}
 use Rattle.block.specs.declared.Block.{Block}
 use Rattle.block.specs.Block.{wordAt, blockAt, le8, bytesOf}
-use Rattle.block.specs.Trip.{length-le8, length-bytesOf, word-ext, block-ext, block-at, block-here, word-le8, Small}
-use Rattle.message.specs.declared.Kind.{Kind}
+use Rattle.block.specs.Trip.{length-le8, length-bytesOf, word-ext, block-ext, block-at, block-here, Small}
 use Rattle.message.specs.declared.Kind.the-variants.{Items, Dms, Dvalues, Options}
 use Rattle.message.specs.Format.{itemAt}
 use Rattle.encode.specs.Encode.{encode, bitBlock, twoBits, threeHashes, twoBitsTwoBlocks, dmItem, dvalueItem, noneItem, someItem}
-use Rattle.encode.specs.Coded.{length-bitBlock, length-twoBits, length-threeHashes, length-twoBitsTwoBlocks, length-dm, count-dm, ds, macs, length-ds, length-macs, length-dvalue, length-some}
+use Rattle.encode.specs.Coded.{length-bitBlock, length-twoBits, length-threeHashes, length-twoBitsTwoBlocks, length-dm, count-dm, ds, macs, length-ds, length-dvalue, length-some}
 use Rattle.encode.specs.RoundTrip.{Trip, encode-item, even-item}
 
 pub cat-tab : (n : ℕ) (f : ℕ → ℕ) → cat n (λ t. f t ∷ []) ≡ tab n f

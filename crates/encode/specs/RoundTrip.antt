@@ -1,22 +1,22 @@
 -- Reading what was written gives back the value: one law over items of any kind and length.
 use mathlib.Core.Path.{_≡_, refl, sym, ap, ap₂, _∙_, subst}
-use mathlib.Core.Bool.{Bool, true, false}
-use mathlib.Core.List.{List, [], _∷_, _++_, append-assoc, append-nil}
+use mathlib.Core.Bool.{Bool, true}
+use mathlib.Core.List.{List, [], _++_, append-assoc, append-nil}
 use Prim.Native.Nat.{ℕ, zero, suc, _+_, _-_, _*_, _^_, _<_, _≤_}
 use native.Mathlib.Omega.{arith}
-use lib.ListN.{length, getD, take, drop, length-append, length-drop, take-append-drop}
-use lib.Seq.{take-at, drop-at, drop-drop, take-append-le, drop-append-le, drop-append-add}
+use lib.ListN.{length, take, drop, length-append, length-drop, take-append-drop}
+use lib.Seq.{take-at, take-append-le, drop-append-le, drop-append-add}
 use lib.Dec.{leb, eqb}
 use borrow.Author.Tests.{le-leb, eq-eqb}
 use Rattle.lists.specs.Pick.{pick}
 use Rattle.lists.specs.All.{all-of}
 use Rattle.lists.specs.Over.{cat, length-cat}
 use Rattle.lists.specs.Rows.{cat-part, cat-inside}
-use Rattle.block.specs.Block.{wordAt, le8}
+use Rattle.block.specs.Block.{le8}
 use Rattle.block.specs.Trip.{length-le8}
 use Rattle.message.specs.declared.Kind.{Kind}
 use Rattle.message.specs.Format.{itemLen, itemAt, countOf, decodes, listLen, listOf, innerDue, innersDue, formOf}
-use Rattle.message.specs.FormatLaws.{and-true, Decoded, decodes-of, list-some, form-of}
+use Rattle.message.specs.FormatLaws.{and-true, decodes-of, list-some, form-of}
 use Rattle.message.specs.Read.{inside, partOf, readList, verdictOf}
 use Rattle.encode.specs.Encode.{encode}
 use Rattle.encode.specs.Coded.{Coded, count-encode}
@@ -72,7 +72,7 @@ module _ (K : Kind) (c : ℕ) (g : ℕ → List ℕ) (small : c < 2 ^ 64) (coded
   starts (suc t) h =
       let e = starts t (omega arith) in
       let n : itemLen K (drop (itemAt K m t) m) ≡ length (g t) =
-          ap (λ a. itemLen K (drop a m)) e ∙ ap (itemLen K) (item-front c g rest t h) ∙ coded t h .len (behind c g rest t) in
+      ap (λ a. itemLen K (drop a m)) e ∙ ap (itemLen K) (item-front c g rest t h) ∙ coded t h .len (behind c g rest t) in
       omega (arith, e, n, length-append (cat t g) (g t))
 
   here : (t : ℕ) → t < c → drop (itemAt K m t) m ≡ g t ++ behind c g rest t

@@ -10,7 +10,7 @@ use lib.Seq.{getD-drop, drop-drop}
 use lib.Dec.{ltb, leb, eqb}
 use borrow.Author.Tests.{lt-ltb, le-ltb, le-leb, lt-leb, leb-true, leb-false, eq-eqb, ne-eqb}
 use Rattle.lists.specs.Pick.{pick}
-use Rattle.lists.specs.All.{allOf, all-turn, all-zero}
+use Rattle.lists.specs.All.{all-turn, all-zero}
 use Rattle.block.specs.Block.{wordAt}
 use Rattle.block.specs.Trip.{word-drop}
 use Rattle.message.specs.declared.Kind.the-variants.{Items, Dvalues, Options}
@@ -102,8 +102,8 @@ module _ (s : List ℕ) (at due : ℕ) where
   due-both w v e q f =
       let p : wordAt (drop at s) 0 ≡ due = word-here s at ∙ sym e ∙ q in
       let k : wordAt (drop at s) (8 + wordAt (drop at s) 0) ≡ v =
-          word-drop s at (8 + wordAt (drop at s) 0)
-          ∙ ap (wordAt s) (let r : at + (8 + wordAt (drop at s) 0) ≡ at + 8 + due = omega (arith, p) in r) ∙ sym f in
+      word-drop s at (8 + wordAt (drop at s) 0)
+      ∙ ap (wordAt s) (let r : at + (8 + wordAt (drop at s) 0) ≡ at + 8 + due = omega (arith, p) in r) ∙ sym f in
       sym (ap₂ (λ a b. eqb a due && eqb b due) p k ∙ ap (λ (b : Bool). b && eqb v due) (eq-eqb due due refl))
 
   -- the first list and the second's count lie within

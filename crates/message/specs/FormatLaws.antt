@@ -3,15 +3,15 @@ use mathlib.Core.Path.{_≡_, refl, sym, ap, ap₂, _∙_, subst}
 use mathlib.Core.Bool.{Bool, true, false, _&&_}
 use mathlib.Core.List.{List}
 use Prim.Native.Nat.{ℕ, zero, suc, _+_, _-_, _*_, _<_, _≤_}
-use native.Mathlib.Nat.{zero-mul, suc-mul, add-zero}
+use native.Mathlib.Nat.{zero-mul, suc-mul}
 use native.Mathlib.Numerals.{add-one}
 use native.Mathlib.Omega.{arith}
 use lib.ListN.{length, getD, take, drop, length-drop, List·getD-eq-default}
 use lib.Seq.{getD-drop}
 use lib.Dec.{ltb, leb, eqb}
 use borrow.Author.Tests.{lt-ltb, le-ltb, le-leb, lt-leb, eq-eqb, ne-eqb, ltb-true, ltb-false, leb-true, leb-false, eqb-true, eqb-false}
-use Rattle.lists.specs.Pick.{pick, pick-else, pick-then}
-use Rattle.lists.specs.All.{allOf, all-of, of-all, all-false, true-false}
+use Rattle.lists.specs.Pick.{pick, pick-then}
+use Rattle.lists.specs.All.{all-of, of-all, all-false, true-false}
 use Rattle.block.specs.Block.{wordAt}
 use Rattle.message.specs.declared.Kind.{Kind}
 use Rattle.message.specs.declared.Kind.the-variants.{Items, Dms, Dvalues, Options}
@@ -385,8 +385,8 @@ fixed size c count m h = record {
   fits = omega (arith, starts count (omega arith), at-le (Items size c) m (d .head) count);
   at = starts;
   bits = λ t k l j. let p = items-held size c (drop (itemAt (Items size c) m t) m) (held t l) in
-  subst (λ a. a ≤ 1) (getD-drop (itemAt (Items size c) m t) m k 0 ∙ ap (λ a. getD m (a + k) 0) (starts t (omega arith)))
-  (of-bools (drop (itemAt (Items size c) m t) m) c (p .bits) k j);
+      subst (λ a. a ≤ 1) (getD-drop (itemAt (Items size c) m t) m k 0 ∙ ap (λ a. getD m (a + k) 0) (starts t (omega arith)))
+      (of-bools (drop (itemAt (Items size c) m t) m) c (p .bits) k j);
   list-is = ap (λ n. take n m) (list-some (Items size c) m (w .decodes-is) ∙ ap (itemAt (Items size c) m) (w .count-is) ∙ starts count (omega arith));
 }
   where

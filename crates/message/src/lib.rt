@@ -201,13 +201,7 @@ pub fn check(kind: Kind, count: usize, m: &[u8]) -> u8
     match kind {
         Kind::Items(_, _) => 0,
         Kind::Dms => 0,
-        Kind::Dvalues(due) => {
-            if buckets_due(m, count, due) {
-                0
-            } else {
-                6
-            }
-        }
+        Kind::Dvalues(due) => { if buckets_due(m, count, due) { 0 } else { 6 } }
         Kind::Options => 0,
     }
 }
@@ -258,7 +252,14 @@ pub fn read_list(kind: Kind, count: usize, incoming: &[u8], start: usize, len: u
 
 // What is wrong with a message: 14 if it is marked missing, else 17 if it lies outside of the buffer, 13 if it doesn't decode, 6 if a count
 // isn't the one due, else 0. Any mark but 0 says missing.
-pub fn verdict(kind: Kind, count: usize, incoming: &[u8], start: usize, len: usize, missing: u8) -> u8
+pub fn verdict(
+    kind: Kind,
+    count: usize,
+    incoming: &[u8],
+    start: usize,
+    len: usize,
+    missing: u8,
+) -> u8
     ensures { λ r. ⌜ r ≡ R.verdictOf kind count (now (incoming .entry)) start len missing ⌝ }
 {
     if missing != 0 {

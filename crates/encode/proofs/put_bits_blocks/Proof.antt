@@ -20,8 +20,11 @@ part-store-end-2 c =
     let t = c .before .before in
     let b = t .before .before in
     let s = b .before .before .before in
-    omega (arith, block-between (b .before .bit-byte .result) (b .bit-byte2 .result) (bytesOf (s .args .x)) (t .store .last .0) (now (s .args .out))
-    (s .pre) (length-bytesOf (s .args .x)) (t .store .ensures))
+    omega (
+      arith,
+      block-between (b .before .bit-byte .result) (b .bit-byte2 .result) (bytesOf (s .args .x)) (t .store .last .0) (now (s .args .out))
+          (s .pre) (length-bytesOf (s .args .x)) (t .store .ensures),
+    )
 
 returns : tie.Need-returns
 unfolding twoBitsTwoBlocks

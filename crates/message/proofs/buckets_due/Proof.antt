@@ -1,6 +1,6 @@
-use mathlib.Core.Path.{_≡_, sym, ap, _∙_}
+use mathlib.Core.Path.{_≡_, sym}
 use mathlib.Core.Bool.{true}
-use Prim.Native.Nat.{ℕ, _+_, _*_, _-_, _≤_, _<_}
+use Prim.Native.Nat.{_+_, _*_, _-_, _≤_, _<_}
 use native.Mathlib.Omega.{arith}
 use borrow.Author.Needs.{needs}
 use borrow.Author.Tests.{not-true, not-false}
@@ -81,11 +81,14 @@ loop-less c = search needs
 loop-again : tie.Need-loop-again Inv-loop μ-loop
 loop-again c =
     let l = c .before .before .before in
-    let a = l .before .before .args in
-    (search needs,
-    (walked-turn (Dvalues (a .due)) (now (a .m)) (l .loop .k) (l .loop .pos) (16 + a .due + a .due * 16) (l .loop .inv .1 .0) (bytes c) (λ z. omega arith),
-    inners-turn (now (a .m)) (a .due) (l .loop .k) (l .loop .pos) (l .loop .inv .1 .0) (c .before .bucket-due .result) (c .before .bucket-due .ensures)
-    (l .loop .inv .1 .1) (not-false _ (c .if1 .left))))
+    let a = l .before .before .args in (
+      search needs,
+      (
+        walked-turn (Dvalues (a .due)) (now (a .m)) (l .loop .k) (l .loop .pos) (16 + a .due + a .due * 16) (l .loop .inv .1 .0) (bytes c) (λ z. omega arith),
+        inners-turn (now (a .m)) (a .due) (l .loop .k) (l .loop .pos) (l .loop .inv .1 .0) (c .before .bucket-due .result) (c .before .bucket-due .ensures)
+            (l .loop .inv .1 .1) (not-false _ (c .if1 .left)),
+      ),
+    )
 
 returns-2 : tie.Need-returns-2 Inv-loop μ-loop
 returns-2 c =

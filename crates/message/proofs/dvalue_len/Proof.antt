@@ -35,9 +35,12 @@ add-result : tie.Need-add-result
 add-result c =
     let t = c .before .before .before .before in
     let a = t .before .before .before .args in
-    omega (arith, bucket-fits (now (a .s)) (a .at) (a .due) (t .before .vec-len .result) (t .before .vec-len .ensures) (t .if1 .left)
-    (c .before .before .before .bools .result) (c .before .before .before .bools .ensures)
-    (c .before .vec-len2 .result) (c .before .vec-len2 .ensures))
+    omega (
+      arith,
+      bucket-fits (now (a .s)) (a .at) (a .due) (t .before .vec-len .result) (t .before .vec-len .ensures) (t .if1 .left)
+          (c .before .before .before .bools .result) (c .before .before .before .bools .ensures)
+          (c .before .vec-len2 .result) (c .before .vec-len2 .ensures),
+    )
 
 returns-2 : tie.Need-returns-2
 returns-2 c =

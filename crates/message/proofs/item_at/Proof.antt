@@ -1,8 +1,8 @@
 use mathlib.Core.Path.{_≡_, ap, _∙_}
-use Prim.Native.Nat.{_+_, _-_, _≤_, _<_}
+use Prim.Native.Nat.{_-_, _≤_, _<_}
 use native.Mathlib.Omega.{arith}
 use borrow.Author.Needs.{needs}
-use lib.ListN.{length, drop}
+use lib.ListN.{drop}
 use denote.Ref.{now}
 use Rattle.message.specs.Format.{itemAt, itemLen}
 use Rattle.message.specs.FormatLaws.{decoded}
@@ -42,10 +42,11 @@ loop-again c =
     let s = l .before .before in
     let a = s .args in
     let p : 0 < itemLen (a .kind) (drop (l .loop .pos) (now (a .m))) =
-    walked-item (a .kind) (now (a .m)) (l .loop .k) (l .loop .pos) (l .loop .inv .1) (s .pre .0) (omega (arith, c .before .loop-test .taken, s .pre .1)) in
-    (search needs,
-    walked-turn (a .kind) (now (a .m)) (l .loop .k) (l .loop .pos) (c .item-len .result) (l .loop .inv .1) (c .item-len .ensures)
-    (λ z. omega (arith, c .item-len .ensures)))
+    walked-item (a .kind) (now (a .m)) (l .loop .k) (l .loop .pos) (l .loop .inv .1) (s .pre .0) (omega (arith, c .before .loop-test .taken, s .pre .1)) in (
+      search needs,
+      walked-turn (a .kind) (now (a .m)) (l .loop .k) (l .loop .pos) (c .item-len .result) (l .loop .inv .1) (c .item-len .ensures)
+          (λ z. omega (arith, c .item-len .ensures)),
+    )
 
 returns : tie.Need-returns Inv-loop μ-loop
 returns c =

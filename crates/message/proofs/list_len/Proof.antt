@@ -1,10 +1,9 @@
-use mathlib.Core.Path.{_≡_, sym, _∙_}
+use mathlib.Core.Path.{_≡_, _∙_}
 use Prim.Native.Nat.{_+_, _-_, _≤_}
 use native.Mathlib.Omega.{arith}
 use borrow.Author.Needs.{needs}
 use lib.ListN.{length}
 use denote.Ref.{now}
-use Rattle.message.specs.Format.{countOf}
 use Rattle.message.proofs.Walk.{Walked, walked-start, walked-short, walked-room, walked-turn, walked-stop, walked-end}
 use Rattle.message.proofs.list_len.Statement.{statement}
 use Rattle.message.proofs.list_len.Tie as tie
@@ -55,10 +54,11 @@ loop-less c = omega (arith, room c)
 loop-again : tie.Need-loop-again Inv-loop μ-loop
 loop-again c =
     let l = c .before .before .before in
-    let a = l .before .before .before .before .args in
-    (search needs,
-    walked-turn (a .kind) (now (a .m)) (l .loop .t) (l .loop .pos) (c .before .item-len .result) (l .loop .inv .1) (c .before .item-len .ensures)
-    (c .if2 .left))
+    let a = l .before .before .before .before .args in (
+      search needs,
+      walked-turn (a .kind) (now (a .m)) (l .loop .t) (l .loop .pos) (c .before .item-len .result) (l .loop .inv .1) (c .before .item-len .ensures)
+          (c .if2 .left),
+    )
 
 returns-3 : tie.Need-returns-3 Inv-loop μ-loop
 returns-3 c =
