@@ -7,13 +7,13 @@ use native.Mathlib.Omega.{arith}
 use lib.ListN.{length, drop, length-drop}
 use lib.Dec.{ltb, eqb}
 use borrow.Author.Tests.{ltb-true, ltb-false, eqb-true}
-use Rattle.lists.specs.All.{allOf, all-zero, all-turn, all-false}
+use Rattle.lists.specs.All.{all-zero, all-turn, all-false}
 use Rattle.block.specs.Block.{wordAt}
 use Rattle.block.specs.Trip.{word-drop}
 use Rattle.message.specs.declared.Kind.{Kind}
 use Rattle.message.specs.declared.Kind.the-variants.{Dvalues}
 use Rattle.message.specs.Format.{itemLen, itemAt, countOf, decodes, listLen, innerDue, innersDue}
-use Rattle.message.specs.FormatLaws.{and-true, and-first, and-second, item-le, Decoded, at-zero, at-next, decoded, decodes-of, decodes-short, decodes-bad, list-some, list-none, bucket-held, bucket-bytes}
+use Rattle.message.specs.FormatLaws.{and-true, and-first, and-second, item-le, at-zero, at-next, decoded, decodes-of, decodes-short, decodes-bad, list-some, list-none, bucket-held, bucket-bytes}
 
 -- the first t items decode, and item t begins at pos
 pub record Walked (K : Kind) (m : List ℕ) (t pos : ℕ) : Type 0 where

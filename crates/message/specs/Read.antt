@@ -1,6 +1,6 @@
 -- Reading a message where it lies in the incoming buffer: one start and one length, or a mark that says missing.
 use Prim.Native.Nat.{ℕ, _+_}
-use mathlib.Core.Bool.{Bool, true, false, _&&_}
+use mathlib.Core.Bool.{Bool, _&&_}
 use mathlib.Core.List.{List, []}
 use lib.ListN.{length, take, drop}
 use lib.Dec.{leb, eqb}

@@ -1,10 +1,9 @@
-use mathlib.Core.Path.{_≡_, sym, _∙_}
+use mathlib.Core.Path.{_≡_, _∙_}
 use Prim.Native.Nat.{_+_, _-_, _≤_}
 use native.Mathlib.Omega.{arith}
 use borrow.Author.Needs.{needs}
 use lib.ListN.{length}
 use denote.Ref.{now}
-use Rattle.message.specs.Format.{countOf}
 use Rattle.message.proofs.Walk.{Walked, walked-start, walked-short, walked-room, walked-turn, walked-stop, walked-end}
 use Rattle.message.proofs.list_len.Statement.{statement}
 use Rattle.message.proofs.list_len.Tie as tie
