@@ -92,8 +92,9 @@ fn tree(s: &[u8], stride: usize, from: usize, len: usize, t: u64, f: u32) -> [u3
     }
     let k = left_chunks(chunks(len));
     let n = CHUNK_LEN * (k as usize);
+    let rest = len - n;
     let l = tree(s, stride, from, n, t, 0);
-    let r = tree(s, stride, from + n, len - n, t + k, 0);
+    let r = tree(s, stride, from + n, rest, t + k, 0);
     blake3_core::parent(&l, &r, f)
 }
 
