@@ -1,4 +1,5 @@
 mod Rotate
 mod Joins
+mod Order
 mod Rounds
 mod Blocks

@@ -118,24 +118,13 @@ fn permute(m: &[u32; 16]) -> [u32; 16]
     ensures { λ r. ⌜ r ≡ S.permute (now (m .entry)) ⌝ }
 {
     let p = MSG_PERMUTATION;
-    [
-        m[p[0]],
-        m[p[1]],
-        m[p[2]],
-        m[p[3]],
-        m[p[4]],
-        m[p[5]],
-        m[p[6]],
-        m[p[7]],
-        m[p[8]],
-        m[p[9]],
-        m[p[10]],
-        m[p[11]],
-        m[p[12]],
-        m[p[13]],
-        m[p[14]],
-        m[p[15]],
-    ]
+    let mut w = [0u32; 16];
+    let mut i: usize = 0;
+    while i < 16 {
+        w[i] = m[p[i]];
+        i += 1;
+    }
+    w
 }
 
 pub fn low(t: u64) -> u32
