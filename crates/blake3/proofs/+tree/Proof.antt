@@ -13,7 +13,7 @@ use Rattle.blake3.proofs.+tree.Lts-tree as lts
 use Rattle.blake3.proofs.chunks.Reads as chunks-reads
 use Rattle.blake3.proofs.leaf.Reads as leaf-reads
 use Rattle.blake3.proofs.left_chunks.Reads as left-chunks-reads
-use Rattle.blake3_core.proofs.parent.Reads as parent-reads
+use Rattle.blake3_node.proofs.parent.Reads as parent-reads
 use Rattle.blake3.proofs.+tree.{statement}
 use Rattle.blake3.proofs.+tree.Tie.{close}
 

@@ -22,10 +22,12 @@ element-copy-out-w c = inside (c .before .loop .i)
 loop-again : tie.Need-loop-again Inv-loop μ-loop
 loop-again c =
     let l = c .before .before .loop in
-    let m = c .before .before .before .args .m .now in
-    (ap (λ (x : List ℕ). set x (l .i) (getD m (getD MSG-PERMUTATION (l .i) 0) 0)) (l .inv .0)
-    ∙ tab-step (l .i) (λ k. getD m (getD MSG-PERMUTATION k 0) 0) (replicate 16 0) (omega arith),
-    length-set (l .w) (l .i) _ ∙ l .inv .1, omega arith)
+    let m = c .before .before .before .args .m .now in (
+      ap (λ (x : List ℕ). set x (l .i) (getD m (getD MSG-PERMUTATION (l .i) 0) 0)) (l .inv .0)
+          ∙ tab-step (l .i) (λ k. getD m (getD MSG-PERMUTATION k 0) 0) (replicate 16 0) (omega arith),
+      length-set (l .w) (l .i) _ ∙ l .inv .1,
+      omega arith,
+    )
 
 returns : tie.Need-returns Inv-loop μ-loop
 returns c =
