@@ -1,5 +1,5 @@
 // BLAKE3, unkeyed, of any length: the tree over the chunks, and the forms of the hash that the rounds use.
-// From the BLAKE3 specification; the names are those of the authors' reference_impl.rs and, for `hash128`, of src/mpc/faand.rs (`hash_vec`).
+// From the BLAKE3 specification, with the names of the authors' reference_impl.rs; `hash128` is what `hash_vec` keeps of the hash.
 //
 // One tree serves two kinds of list: bytes that lie side by side (stride 1), and the first bytes of items of `stride` bytes behind the 8
 // bytes of a count (echoes 7 and 16), which are gathered chunk by chunk.
