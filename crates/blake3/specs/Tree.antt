@@ -6,7 +6,7 @@ use lib.Dec.{leb, ltb}
 use Rattle.lists.specs.Over.{tab}
 use Rattle.lists.specs.Pick.{pick}
 use Rattle.blake3_core.specs.Word.{byteOf}
-use Rattle.blake3_core.specs.Node.{chunk, parent, CHUNK-LEN, ROOT}
+use Rattle.blake3_node.specs.Node.{chunk, parent, CHUNK-LEN, ROOT}
 
 -- how many chunks n bytes take: at least one
 abbrev pub chunks : ℕ → ℕ

@@ -13,7 +13,7 @@ use lib.Dec.{ltb, leb}
 use borrow.Author.Tests.{le-leb, lt-leb, leb-true, leb-false, ltb-true, ltb-false}
 use Rattle.lists.specs.Pick.{pick}
 use Rattle.lists.specs.Sect.{get}
-use Rattle.blake3_core.specs.Node.{chunk, parent, CHUNK-LEN}
+use Rattle.blake3_node.specs.Node.{chunk, parent, CHUNK-LEN}
 use Rattle.blake3.specs.Tree.{chunks, powerBelow, leftChunks, treeIn, tree}
 
 -- ---- the left subtree

@@ -1,5 +1,5 @@
 // BLAKE3, unkeyed, of any length: the tree over the chunks, and the forms of the hash that the rounds use.
-// From the BLAKE3 specification; the names are those of the authors' reference_impl.rs and, for `hash128`, of src/mpc/faand.rs (`hash_vec`).
+// From the BLAKE3 specification, with the names of the authors' reference_impl.rs; `hash128` is what `hash_vec` keeps of the hash.
 //
 // One tree serves two kinds of list: bytes that lie side by side (stride 1), and the first bytes of items of `stride` bytes behind the 8
 // bytes of a count (echoes 7 and 16), which are gathered chunk by chunk.
@@ -10,15 +10,15 @@ ghost use Rattle.lists.specs.Sect.{get};
 ghost use Rattle.lists.specs.Same.{same?};
 ghost use Rattle.algebra.specs.Group.{odd};
 ghost use Rattle.block.specs.Block.{blockAt, bytesOf};
-ghost use Rattle.blake3_core.specs.Node as N;
+ghost use Rattle.blake3_node.specs.Node as N;
 ghost use Rattle.blake3.specs.Tree as T;
 ghost use Rattle.blake3.specs.TreeLaws.{Largest};
 ghost use Rattle.blake3.specs.Firsts.{firsts};
-use blake3_core::CHUNK_END;
-use blake3_core::CHUNK_LEN;
-use blake3_core::CHUNK_START;
 use blake3_core::IV;
-use blake3_core::ROOT;
+use blake3_node::CHUNK_END;
+use blake3_node::CHUNK_LEN;
+use blake3_node::CHUNK_START;
+use blake3_node::ROOT;
 use block::Block;
 
 // How many chunks n bytes take.
@@ -62,7 +62,7 @@ fn gathered(s: &[u8], stride: usize, from: usize, len: usize, t: u64, f: u32) ->
         b[i] = first(s, stride, from + i);
         i += 1;
     }
-    blake3_core::chunk(&b[..len], t, f)
+    blake3_node::chunk(&b[..len], t, f)
 }
 
 // The len bytes from `from` on of `firsts stride s`, at most a chunk.
@@ -74,7 +74,7 @@ fn leaf(s: &[u8], stride: usize, from: usize, len: usize, t: u64, f: u32) -> [u3
 {
     if stride == 1 {
         let e = from + len;
-        blake3_core::chunk(&s[from..e], t, f)
+        blake3_node::chunk(&s[from..e], t, f)
     } else {
         gathered(s, stride, from, len, t, f)
     }
@@ -92,9 +92,10 @@ fn tree(s: &[u8], stride: usize, from: usize, len: usize, t: u64, f: u32) -> [u3
     }
     let k = left_chunks(chunks(len));
     let n = CHUNK_LEN * (k as usize);
+    let rest = len - n;
     let l = tree(s, stride, from, n, t, 0);
-    let r = tree(s, stride, from + n, len - n, t + k, 0);
-    blake3_core::parent(&l, &r, f)
+    let r = tree(s, stride, from + n, rest, t + k, 0);
+    blake3_node::parent(&l, &r, f)
 }
 
 // Two words as one of 64 bits.

@@ -1,4 +1,3 @@
 mod Rotate
-mod Joins
+mod Order
 mod Rounds
-mod Blocks

@@ -13,7 +13,7 @@ use Rattle.blake3.proofs.+tree.Lts-tree as lts
 use Rattle.blake3.proofs.chunks.Reads as chunks-reads
 use Rattle.blake3.proofs.leaf.Reads as leaf-reads
 use Rattle.blake3.proofs.left_chunks.Reads as left-chunks-reads
-use Rattle.blake3_core.proofs.parent.Reads as parent-reads
+use Rattle.blake3_node.proofs.parent.Reads as parent-reads
 use Rattle.blake3.proofs.+tree.{statement}
 use Rattle.blake3.proofs.+tree.Tie.{close}
 
@@ -64,6 +64,9 @@ module _ (t : ℕ) where
   mul-n : lts.Need-mul-n (Calls t) (At t) reads.Post
   mul-n c = omega (arith, inside (c .before .before .before .before .args .len) (c .left-chunks .result) (omega arith) (part c))
 
+  sub-rest : lts.Need-sub-rest (Calls t) (At t) reads.Post
+  sub-rest c = omega (arith, inside (c .before .before .before .before .args .len) (c .left-chunks .result) (omega arith) (part c))
+
   tree-requires : lts.Need-tree-requires (Calls t) (At t) reads.Post
   tree-requires c κs =
       let b = c .before .before .before .before in
@@ -76,11 +79,6 @@ module _ (t : ℕ) where
   add-tree c =
       let b = c .before .before .before .before .before in
       omega (arith, inside (b .args .len) (c .before .left-chunks .result) (omega arith) (part (c .before)), firsts-fit (b .args .stride) (b .args .s .now) (b .pre .1 .0 .0))
-
-  sub-tree : lts.Need-sub-tree (Calls t) (At t) reads.Post
-  sub-tree c =
-      let b = c .before .before .before .before .before in
-      omega (arith, inside (b .args .len) (c .before .left-chunks .result) (omega arith) (part (c .before)))
 
   add-tree-2 : lts.Need-add-tree-2 (Calls t) (At t) reads.Post
   add-tree-2 c = omega (arith, part (c .before) .below)
@@ -110,5 +108,5 @@ pub +tree-spec : {M : Type 1} → statement M
 +tree-spec =
     close μ-tree
     (λ t.
-    lts.spec (Calls t) (At t) reads.Post (leaf-requires t) (returns t) (chunks-requires t) (left-chunks-requires t) (mul-n t) (tree-requires t)
-    (add-tree t) (sub-tree t) (add-tree-2 t) (tree-requires-2 t) (parent-requires t) (returns-2 t))
+    lts.spec (Calls t) (At t) reads.Post (leaf-requires t) (returns t) (chunks-requires t) (left-chunks-requires t) (mul-n t) (sub-rest t) (tree-requires t)
+    (add-tree t) (add-tree-2 t) (tree-requires-2 t) (parent-requires t) (returns-2 t))

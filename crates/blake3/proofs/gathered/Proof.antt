@@ -7,7 +7,7 @@ use lib.Seq.{take-at, length-take-le}
 use Rattle.lists.specs.Over.{tab, tab-zero, tab-step, length-tab}
 use Rattle.lists.specs.Tab.{take-tab}
 use Rattle.lists.specs.Sect.{get}
-use Rattle.blake3_core.specs.Node.{chunk}
+use Rattle.blake3_node.specs.Node.{chunk}
 use Rattle.blake3.specs.Firsts.{firsts}
 use Rattle.blake3.specs.FirstLaws.{firsts-fit}
 use Rattle.blake3.proofs.gathered.Statement.{statement}

@@ -2,7 +2,7 @@ use mathlib.Core.Path.{ap, _∙_}
 use mathlib.Core.List.{List}
 use Prim.Native.Nat.{ℕ}
 use native.Mathlib.Omega.{arith}
-use Rattle.blake3_core.specs.Node.{chunk}
+use Rattle.blake3_node.specs.Node.{chunk}
 use Rattle.blake3.specs.FirstLaws.{firsts-fit, plain-part}
 use borrow.Author.Needs.{needs}
 use Rattle.blake3.proofs.leaf.Statement.{statement}

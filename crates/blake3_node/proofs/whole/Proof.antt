@@ -1,8 +1,8 @@
 use mathlib.Core.Path.{ap₂, refl}
 use mathlib.Core.List.{_∷_}
 use borrow.Author.Needs.{needs}
-use Rattle.blake3_core.proofs.whole.Statement.{statement}
-use Rattle.blake3_core.proofs.whole.Tie as tie
+use Rattle.blake3_node.proofs.whole.Statement.{statement}
+use Rattle.blake3_node.proofs.whole.Tie as tie
 
 returns : tie.Need-returns
 returns c =

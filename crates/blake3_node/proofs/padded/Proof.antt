@@ -4,9 +4,9 @@ use Prim.Native.Nat.{_-_, _≤_}
 use native.Mathlib.Omega.{arith}
 use lib.ListN.{length, take, drop, replicate, length-set}
 use Rattle.lists.specs.Over.{copy-turn}
-use Rattle.blake3_core.proofs.Blocks.{padded-words}
-use Rattle.blake3_core.proofs.padded.Statement.{statement}
-use Rattle.blake3_core.proofs.padded.Tie as tie
+use Rattle.blake3_node.proofs.Blocks.{padded-words}
+use Rattle.blake3_node.proofs.padded.Statement.{statement}
+use Rattle.blake3_node.proofs.padded.Tie as tie
 
 abbrev Inv-loop : tie.InvT-loop
 Inv-loop s b₀ i₀ b i = (b ≡ take i s ++ drop i (replicate 64 0)) × (length b ≡ 64) × (i ≤ length s)

@@ -6,9 +6,9 @@ use native.Mathlib.Numerals.{add-one}
 use native.Mathlib.Nat.{le-of-eq}
 use lib.ListN.{length, getD, take, drop, replicate, length-drop}
 use lib.Seq.{take-all, getD-drop}
 use Rattle.blake3_core.specs.Word.{word}
 use Rattle.blake3_core.specs.Compress.{compress}
-use Rattle.blake3_core.specs.Node.{after, blockWords, startFlag, chunk}
+use Rattle.blake3_node.specs.Node.{after, blockWords, startFlag, chunk}
 
 -- a part from a place to the end, as the borrow checker has it
 pub tail : (s : List ℕ) (k : ℕ) → take (length s - k) (drop k s) ≡ drop k s

@@ -1,11 +1,11 @@
 use mathlib.Core.Path.{ap, _∙_}
 use mathlib.Core.List.{List}
 use Prim.Native.Nat.{ℕ, _+_}
 use Rattle.blake3_core.specs.Compress.{compress, IV}
-use Rattle.blake3_core.specs.Node as N
+use Rattle.blake3_node.specs.Node as N
 use borrow.Author.Needs.{needs}
-use Rattle.blake3_core.proofs.parent.Statement.{statement}
-use Rattle.blake3_core.proofs.parent.Tie as tie
+use Rattle.blake3_node.proofs.parent.Statement.{statement}
+use Rattle.blake3_node.proofs.parent.Tie as tie
 
 returns : tie.Need-returns
 unfolding N.parent

@@ -1,6 +1,6 @@
-use Rattle.blake3_core.proofs.Joins as laws
-use Rattle.blake3_core.proofs.joined.Statement.{statement}
-use Rattle.blake3_core.proofs.joined.Tie as tie
+use Rattle.blake3_node.proofs.Joins as laws
+use Rattle.blake3_node.proofs.joined.Statement.{statement}
+use Rattle.blake3_node.proofs.joined.Tie as tie
 
 returns : tie.Need-returns
 returns c =

@@ -4,10 +4,10 @@ use Prim.Native.Nat.{_*_, _-_, _≤_}
 use native.Mathlib.Omega.{arith}
 use borrow.Author.Needs.{needs}
 use lib.ListN.{length}
-use Rattle.blake3_core.specs.Node as N
-use Rattle.blake3_core.proofs.Blocks.{next, last}
-use Rattle.blake3_core.proofs.chunk.Statement.{statement}
-use Rattle.blake3_core.proofs.chunk.Tie as tie
+use Rattle.blake3_node.specs.Node as N
+use Rattle.blake3_node.proofs.Blocks.{next, last}
+use Rattle.blake3_node.proofs.chunk.Statement.{statement}
+use Rattle.blake3_node.proofs.chunk.Tie as tie
 
 abbrev Inv-loop : tie.InvT-loop
 Inv-loop s t f h₀ d₀ k₀ h d k = (h ≡ N.after k s t) × (d ≡ N.startFlag k) × (64 * k ≤ length s - 1) × (d ≤ 1)

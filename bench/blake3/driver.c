@@ -1,0 +1,36 @@
+// Hashes LEN bytes (byte k is k mod 251) once by the function that the build chose, and writes the hash.
+// `run` counts the instructions inside `once`.
+#include <stddef.h>
+#include <stdint.h>
+#include <stdio.h>
+#include <stdlib.h>
+
+#ifdef OURS
+void nuz_blake3(const uint8_t *s, size_t n, uint8_t out[32]);
+__attribute__((noinline)) void once(const uint8_t *s, size_t n, uint8_t *out) { nuz_blake3(s, n, out); }
+#elif defined(OURS_BLOCK)
+void nuz_blake3_block(uint64_t low, uint64_t high, uint8_t out[32]);
+__attribute__((noinline)) void once(const uint8_t *s, size_t n, uint8_t *out) {
+    (void)n;
+    nuz_blake3_block(((const uint64_t *)s)[0], ((const uint64_t *)s)[1], out);
+}
+#else
+#include "blake3.h"
+__attribute__((noinline)) void once(const uint8_t *s, size_t n, uint8_t *out) {
+    blake3_hasher h;
+    blake3_hasher_init(&h);
+    blake3_hasher_update(&h, s, n);
+    blake3_hasher_finalize(&h, out, 32);
+}
+#endif
+
+int main(int argc, char **argv) {
+    size_t n = argc > 1 ? strtoul(argv[1], 0, 10) : 0;
+    uint8_t *s = malloc(n + 16), out[32];
+    if (!s) return 1;
+    for (size_t k = 0; k < n; k++) s[k] = (uint8_t)(k % 251);
+    once(s, n, out);
+    for (int k = 0; k < 32; k++) printf("%02x", out[k]);
+    puts("");
+    return 0;
+}
