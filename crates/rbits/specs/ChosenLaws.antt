@@ -18,7 +18,7 @@ use Rattle.block.specs.declared.Block.{Block}
 use Rattle.block.specs.Block.{wordAt, blockAt, xorOf, zeroOf}
 use Rattle.block.specs.Group.{blocks}
 use Rattle.rbits.specs.Chosen.{chosen, blockSum, wordsOf}
-use Rattle.rbits.specs.Tables.{wordOr, tables, lookup, lookup2, rWord, rWords, pairAt, addedAt}
+use Rattle.rbits.specs.Tables.{recordWord, tables, lookup, lookup2, rWord, rWords, pairAt, addedAt}
 use Rattle.rbits.specs.DigitLaws.{word-digit}
 use Rattle.rbits.specs.TableLaws.{picked, lookup-tables, sum-groups, sum-turn}
 
@@ -81,22 +81,22 @@ words-zero (suc n) =
 -- ---- a group of 64 records
 module _ (s : List ℕ) (stride at : ℕ) (r : List ℕ) (row count : ℕ) where
   -- the Block of record t, and nothing past the last record
-  abbrev pub blockOr : ℕ → Block
-  blockOr t = record { 0 = wordOr s stride at count t; 1 = wordOr s stride (at + 8) count t }
+  abbrev pub recordBlock : ℕ → Block
+  recordBlock t = record { 0 = recordWord s stride at count t; 1 = recordWord s stride (at + 8) count t }
 
   abbrev pub term : ℕ → ℕ → Block
-  term j t = sel blocks (chosen r row j t) (blockOr t)
+  term j t = sel blocks (chosen r row j t) (recordBlock t)
 
   -- the first g groups
   unfoldable pub groups : ℕ → ℕ → Block
   groups g j = sum blocks g (λ h. sum blocks 64 (λ e. term j (h * 64 + e)))
 
-  block-in : (t : ℕ) → t < count → blockOr t ≡ blockAt s (t * stride + at)
-  unfolding wordOr blockAt
+  block-in : (t : ℕ) → t < count → recordBlock t ≡ blockAt s (t * stride + at)
+  unfolding recordWord blockAt
   block-in t h = rw (lt-ltb t count h, sym (add-assoc (t * stride) at 8))
 
-  block-out : (t : ℕ) → count ≤ t → blockOr t ≡ blocks .nil
-  unfolding wordOr blocks zeroOf
+  block-out : (t : ℕ) → count ≤ t → recordBlock t ≡ blocks .nil
+  unfolding recordWord blocks zeroOf
   block-out t h = rw (le-ltb t count h)
 
   pub groups-all : (g j : ℕ) → count ≤ g * 64 → groups g j ≡ blockSum s stride at r row count j
@@ -108,23 +108,23 @@ module _ (s : List ℕ) (stride at : ℕ) (r : List ℕ) (row count : ℕ) where
 
   -- what word g of string j chooses in the tables
   chosen-group : (g j : ℕ) → Bytes r → j * row + g * 8 + 8 ≤ length r
-      → lookup2 (tables (λ e. wordOr s stride at count (g * 64 + e))) (tables (λ e. wordOr s stride (at + 8) count (g * 64 + e))) (rWord r row g j)
+      → lookup2 (tables (λ e. recordWord s stride at count (g * 64 + e))) (tables (λ e. recordWord s stride (at + 8) count (g * 64 + e))) (rWord r row g j)
       ≡ sum blocks 64 (λ e. term j (g * 64 + e))
   chosen-group g j hr h =
       let w : ℕ = rWord r row g j in
-      let low : lookup (tables (λ e. wordOr s stride at count (g * 64 + e))) w ≡ sum numbers 64 (λ e. term j (g * 64 + e) .0) =
-      lookup-tables (λ e. wordOr s stride at count (g * 64 + e)) w
+      let low : lookup (tables (λ e. recordWord s stride at count (g * 64 + e))) w ≡ sum numbers 64 (λ e. term j (g * 64 + e) .0) =
+      lookup-tables (λ e. recordWord s stride at count (g * 64 + e)) w
       ∙ sum-ext numbers 64 _ _
-      (λ e l. ap (λ b. sel numbers b (wordOr s stride at count (g * 64 + e))) (chosen-digit r row j g e hr h l) ∙ sym (sel-low (chosen r row j (g * 64 + e)) (blockOr (g * 64 + e)))) in
-      let high : lookup (tables (λ e. wordOr s stride (at + 8) count (g * 64 + e))) w ≡ sum numbers 64 (λ e. term j (g * 64 + e) .1) =
-      lookup-tables (λ e. wordOr s stride (at + 8) count (g * 64 + e)) w
+      (λ e l. ap (λ b. sel numbers b (recordWord s stride at count (g * 64 + e))) (chosen-digit r row j g e hr h l) ∙ sym (sel-low (chosen r row j (g * 64 + e)) (recordBlock (g * 64 + e)))) in
+      let high : lookup (tables (λ e. recordWord s stride (at + 8) count (g * 64 + e))) w ≡ sum numbers 64 (λ e. term j (g * 64 + e) .1) =
+      lookup-tables (λ e. recordWord s stride (at + 8) count (g * 64 + e)) w
       ∙ sum-ext numbers 64 _ _
-      (λ e l. ap (λ b. sel numbers b (wordOr s stride (at + 8) count (g * 64 + e))) (chosen-digit r row j g e hr h l) ∙ sym (sel-high (chosen r row j (g * 64 + e)) (blockOr (g * 64 + e)))) in
+      (λ e l. ap (λ b. sel numbers b (recordWord s stride (at + 8) count (g * 64 + e))) (chosen-digit r row j g e hr h l) ∙ sym (sel-high (chosen r row j (g * 64 + e)) (recordBlock (g * 64 + e)))) in
       (λ i. record { 0 = low i; 1 = high i }) ∙ sym (sum-words 64 (λ e. term j (g * 64 + e)))
 
   -- a turn of the loop over the groups
   pub groups-turn : (g : ℕ) (acc low high ws acc′ : List ℕ) → Bytes r → 120 * row ≤ length r → g * 8 + 8 ≤ row → acc ≡ wordsOf 120 (groups g)
-      → ws ≡ rWords r row g → low ≡ tables (λ e. wordOr s stride at count (g * 64 + e)) → high ≡ tables (λ e. wordOr s stride (at + 8) count (g * 64 + e))
+      → ws ≡ rWords r row g → low ≡ tables (λ e. recordWord s stride at count (g * 64 + e)) → high ≡ tables (λ e. recordWord s stride (at + 8) count (g * 64 + e))
       → acc′ ≡ wordsOf 120 (addedAt acc low high ws) → acc′ ≡ wordsOf 120 (groups (g + 1))
   unfolding groups rWords
   groups-turn g acc low high ws acc′ hr hl hg ha hw hlo hhi e =

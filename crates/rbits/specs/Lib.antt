@@ -4,3 +4,4 @@ pub mod DigitLaws
 pub mod TableLaws
 pub mod LoopLaws
 pub mod ChosenLaws
+pub mod BitLaws

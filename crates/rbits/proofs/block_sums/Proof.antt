@@ -38,8 +38,8 @@ loop-again c =
       h .fill2 .kept .0 ∙ l .loop .inv .3,
       r .r-words .kept .0 ∙ l .loop .inv .4,
       groups-turn (now (a .s)) (a .stride) (a .at) (now (a .r)) (a .row) (a .count) (l .loop .g) (l .loop .acc) _ _ _ _
-      (λ i. l .before .shared-slice-known2 .given i .fits) (s .pre .1 .strings) (omega arith) (l .loop .inv .5)
-      (r .r-words .ensures) (w .fill .ensures) (h .fill2 .ensures) (d .add-chosen .ensures),
+          (λ i. l .before .shared-slice-known2 .given i .fits) (s .pre .1 .strings) (omega arith) (l .loop .inv .5)
+          (r .r-words .ensures) (w .fill .ensures) (h .fill2 .ensures) (d .add-chosen .ensures),
     )
 
 returns : tie.Need-returns Inv-loop μ-loop
