@@ -1,28 +1,27 @@
--- Sums of bits: bits packed as digits, masked by words, XORed, and summed up by the parity of the count of ones.
+-- Sums of bits: the bits of 64 records as the digits of a word, masked by words of the strings, added digit by digit, and the digits summed at the end.
 use mathlib.Core.Path.{_≡_, refl, sym, ap, ap₂, _∙_}
 use mathlib.Core.Bool.{Bool, true, false}
 use mathlib.Core.List.{List}
-use Prim.Native.Nat.{ℕ, zero, suc, _+_, _-_, _*_, _/_, _%_, _^_, _<_, _≤_, min}
-use native.Mathlib.Nat.{le-refl, mod-lt, zero-lt-suc, pow-suc, div-one, zero-div, lt-of-le-of-lt, lt-of-lt-of-le}
-use native.Mathlib.Numerals.{one-add, add-one}
+use Prim.Native.Nat.{ℕ, zero, suc, _+_, _*_, _/_, _%_, _^_, _<_, _≤_}
+use native.Mathlib.Nat.{pow-suc, lt-of-le-of-lt, lt-of-lt-of-le}
+use native.Mathlib.Numerals.{add-one}
 use native.Mathlib.Omega.{arith}
 use lib.ListN.{length, getD, replicate}
 use lib.Dec.{ltb}
-use lib.Bits.{bitXor, bitAnd, xor-add-and, xor-shr, and-shr, and-step, and-le-r}
-use lib.Arith.{lt-one}
-use lib.Count.{ones, ones-step}
-use lib.Pow.{pow-pos, pow-mono, shr-shr, shr-lt, high, low, shl-exact}
+use lib.Bits.{bitXor, bitAnd, and-le-r}
+use lib.Count.{ones}
+use lib.Pow.{pow-mono, high, low, shl-exact}
 use borrow.Author.Tests.{lt-ltb, le-ltb, ltb-true, ltb-false}
 use Rattle.lists.specs.Over.{tab, getD-tab, in-record}
 use Rattle.lists.specs.Rows.{tab-ext}
 use Rattle.lists.specs.Bytes.{Bytes}
-use Rattle.algebra.specs.Group.{numbers, bits, addb, bitOf, sel, odd, num, odd-xor, odd-num, num-odd, sel-nil}
-use Rattle.algebra.specs.Sum.{sum, sum-ext, sum-swap, sum-cons, sum-lt}
+use Rattle.algebra.specs.Group.{numbers, bits, sel, odd, num, odd-num, sel-nil}
+use Rattle.algebra.specs.Sum.{sum, sum-ext, sum-swap, sum-lt}
 use Rattle.rbits.specs.Chosen.{chosen, bitSum}
 use Rattle.rbits.specs.Tables.{rWord, recordBit, packed, maskedAt}
-use Rattle.rbits.specs.DigitLaws.{odd-mod, mod-digit}
-use Rattle.rbits.specs.TableLaws.{sum-groups, sum-turn}
-use Rattle.rbits.specs.ChosenLaws.{chosen-digit, sum-past}
+use Rattle.rbits.specs.SumLaws.{sum-turn, sum-groups, sum-past}
+use Rattle.rbits.specs.DigitLaws.{mod-digit, and-digit, sum-digit, parity}
+use Rattle.rbits.specs.ChosenLaws.{chosen-digit}
 
 -- ---- packed bits
 pub packed-lt : (n : ℕ) (f : ℕ → Bool) → packed n f < 2 ^ n
@@ -61,54 +60,6 @@ packed-turn n f d w h hd hw =
     small : (b : Bool) → num b < 2
     small false = omega arith
     small true = omega arith
-
--- ---- digits of XOR, AND and a sum
-odd-even : (x y : ℕ) → odd (x + y * 2) ≡ odd x
-unfolding odd
-odd-even x y = ap bitOf (let e : (x + y * 2) % 2 ≡ x % 2 = omega arith in e)
-
-odd-add : (a b : ℕ) → odd (a + b) ≡ addb (odd a) (odd b)
-odd-add a b = ap odd (sym (xor-add-and a b)) ∙ odd-even (bitXor a b) (bitAnd a b) ∙ odd-xor a b
-
-bitOf-min : (x y : ℕ) → x < 2 → y < 2 → bitOf (min x y) ≡ sel bits (bitOf x) (bitOf y)
-bitOf-min zero y hx hy = ap bitOf (let e : min 0 y ≡ 0 = omega arith in e)
-bitOf-min (suc zero) zero hx hy = refl
-bitOf-min (suc zero) (suc zero) hx hy = refl
-bitOf-min (suc zero) (suc (suc y)) hx hy = absurd (omega arith)
-bitOf-min (suc (suc x)) y hx hy = absurd (omega arith)
-
-odd-and : (a b : ℕ) → odd (bitAnd a b) ≡ sel bits (odd a) (odd b)
-unfolding odd
-odd-and a b =
-    let d : ℕ = bitAnd (a / 2) (b / 2) in
-    let m : ℕ = min (a % 2) (b % 2) in
-    let e : (d * 2 + m) % 2 ≡ m = omega arith in
-    ap (λ x. bitOf (x % 2)) (and-step a b) ∙ ap bitOf e ∙ bitOf-min (a % 2) (b % 2) (omega arith) (omega arith)
-
-pub and-digit : (a b e : ℕ) → odd (bitAnd a b / 2 ^ e) ≡ sel bits (odd (a / 2 ^ e)) (odd (b / 2 ^ e))
-and-digit a b e = ap odd (and-shr a b e) ∙ odd-and (a / 2 ^ e) (b / 2 ^ e)
-
-pub sum-digit : (n : ℕ) (f : ℕ → ℕ) (e : ℕ) → odd (sum numbers n f / 2 ^ e) ≡ sum bits n (λ t. odd (f t / 2 ^ e))
-unfolding sum odd
-sum-digit zero f e = ap odd (zero-div (2 ^ e))
-sum-digit (suc n) f e =
-    ap odd (xor-shr (sum numbers n f) (f n) e) ∙ odd-xor (sum numbers n f / 2 ^ e) (f n / 2 ^ e)
-    ∙ ap (λ b. addb b (odd (f n / 2 ^ e))) (sum-digit n f e)
-
--- ---- the parity of the count of ones is the sum of the digits
-pub parity : (k x : ℕ) → x < 2 ^ k → odd (ones x) ≡ sum bits k (λ e. odd (x / 2 ^ e))
-unfolding ones odd sum
-parity zero x h = ap (λ n. odd (ones n)) (lt-one h)
-parity (suc k) x h =
-    ap odd (ones-step x) ∙ odd-add (x % 2) (ones (x / 2))
-    ∙ ap₂ addb (odd-mod x 0 ∙ ap odd (sym (div-one x)))
-    (parity k (x / 2) (shr-lt k 1 (rw (add-one k) h))
-    ∙ sum-ext bits k (λ e. odd (x / 2 / 2 ^ e)) (λ e. odd (x / 2 ^ suc e)) (λ e l. ap odd (shr-shr x 1 e ∙ ap (λ n. x / 2 ^ n) (one-add e))))
-    ∙ sym (sum-cons bits k (λ e. odd (x / 2 ^ e)))
-
--- the lowest digit, as a number
-pub num-mod : (x : ℕ) → x % 2 ≡ num (odd x)
-num-mod x = sym (ap num (sym (odd-mod x 0)) ∙ num-odd (x % 2) (mod-lt x (zero-lt-suc 1)))
 
 -- ---- groups of 64 records
 module _ (s : List ℕ) (stride : ℕ) (r : List ℕ) (row count : ℕ) where

@@ -1,5 +1,6 @@
 pub mod Chosen
 pub mod Tables
+pub mod SumLaws
 pub mod DigitLaws
 pub mod TableLaws
 pub mod LoopLaws

@@ -1,18 +1,18 @@
 -- What the code computes on the way: words of records, and tables of the sums of every choice of four words.
-use Prim.Native.Nat.{ℕ, zero, suc, _+_, _*_, _/_, _%_, _^_, _≤_}
-use mathlib.Core.Path.{_≡_}
+use Prim.Native.Nat.{ℕ, zero, suc, _+_, _*_, _/_, _%_, _^_}
 use mathlib.Core.Bool.{Bool, false}
 use mathlib.Core.List.{List, [], _∷_, _++_, map}
-use lib.ListN.{length, getD}
+use lib.ListN.{getD}
 use lib.Bits.{bitXor, bitAnd}
 use lib.Dec.{ltb}
 use Rattle.lists.specs.Over.{tab, cat}
 use Rattle.lists.specs.Pick.{pick}
-use Rattle.algebra.specs.Group.{numbers, bits, sel, odd, num}
+use Rattle.algebra.specs.Group.{numbers, odd, num}
 use Rattle.algebra.specs.Sum.{sum}
 use Rattle.block.specs.declared.Block.{Block}
 use Rattle.block.specs.Block.{wordAt}
 use Rattle.block.specs.Group.{blocks}
+use Rattle.rbits.specs.Chosen.{pairAt}
 
 -- the word at `at` of record t; 0 past the last record
 unfoldable pub recordWord : List ℕ → ℕ → ℕ → ℕ → ℕ → ℕ
@@ -47,10 +47,6 @@ rWords r row g = tab 120 (rWord r row g)
 -- the two columns' words that w chooses, as a Block
 abbrev pub lookup2 : List ℕ → List ℕ → ℕ → Block
 lookup2 low high w = record { 0 = lookup low w; 1 = lookup high w }
-
--- Block j of an array of words
-abbrev pub pairAt : List ℕ → ℕ → Block
-pairAt a j = record { 0 = getD a (j * 2) 0; 1 = getD a (j * 2 + 1) 0 }
 
 -- Block j, with what string j's word chooses added
 abbrev pub addedAt : List ℕ → List ℕ → List ℕ → List ℕ → ℕ → Block

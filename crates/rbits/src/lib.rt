@@ -145,13 +145,13 @@ pub fn block_sums(
     acc
 }
 
-// The bit of record t as 0 or 1, and 0 past the last record.
-fn digit(s: &[u8], stride: usize, count: usize, t: usize) -> u64
+// The bit of record i as 0 or 1, and 0 past the last record.
+fn digit(s: &[u8], stride: usize, count: usize, i: usize) -> u64
     requires { ⌜ (1 ≤ stride) × (count * stride ≤ length (now s)) ⌝ }
-    ensures { λ r. ⌜ r ≡ num (recordBit (now (s .entry)) stride count t) ⌝ }
+    ensures { λ r. ⌜ r ≡ num (recordBit (now (s .entry)) stride count i) ⌝ }
 {
-    if t < count {
-        (s[t * stride] % 2) as u64
+    if i < count {
+        (s[i * stride] % 2) as u64
     } else {
         0
     }

@@ -8,7 +8,7 @@ use denote.Ref.{now}
 use borrow.Author.Needs.{needs}
 use Rattle.algebra.specs.Group.{odd, num}
 use Rattle.rbits.specs.LoopLaws.{Filled, filled-zero, filled-turn, filled-end}
-use Rattle.rbits.specs.BitLaws.{num-mod}
+use Rattle.rbits.specs.DigitLaws.{num-mod}
 use Rattle.rbits.proofs.parities.Statement.{statement}
 use Rattle.rbits.proofs.parities.Tie as tie
 
