@@ -23,6 +23,7 @@ unfoldable pub sums : ℕ → (ℕ → ℕ) → List ℕ
 sums zero f = 0 ∷ []
 sums (suc n) f = sums n f ++ map (λ x. bitXor x (f n)) (sums n f)
 
+-- of four words
 unfoldable pub sums4 : ℕ → ℕ → ℕ → ℕ → List ℕ
 sums4 a b c d = sums 4 (λ e. getD (a ∷ b ∷ c ∷ d ∷ []) e 0)
 
