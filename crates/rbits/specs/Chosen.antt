@@ -4,8 +4,8 @@ use mathlib.Core.Path.{_≡_}
 use mathlib.Core.Bool.{Bool}
 use mathlib.Core.List.{List, [], _∷_}
 use lib.ListN.{length, getD}
-use Rattle.lists.specs.Over.{tab, cat}
-use Rattle.algebra.specs.Group.{bits, sel, odd, num}
+use Rattle.lists.specs.Over.{cat}
+use Rattle.algebra.specs.Group.{bits, sel, odd}
 use Rattle.algebra.specs.Sum.{sum}
 use Rattle.block.specs.declared.Block.{Block}
 use Rattle.block.specs.Block.{blockAt}
@@ -26,6 +26,10 @@ bitSum s stride r row count j = sum bits count (λ t. sel bits (chosen r row j t
 -- n Blocks as words: of each the low word, then the high one
 unfoldable pub wordsOf : ℕ → (ℕ → Block) → List ℕ
 wordsOf n f = cat n (λ j. f j .0 ∷ f j .1 ∷ [])
+
+-- Block j of such words
+abbrev pub pairAt : List ℕ → ℕ → Block
+pairAt a j = record { 0 = getD a (j * 2) 0; 1 = getD a (j * 2 + 1) 0 }
 
 -- what the code asks of its arguments: whole records and 120 whole strings are lent, each of whole words and long enough for `count` elements
 pub record Lent (s : List ℕ) (stride count : ℕ) (r : List ℕ) (row : ℕ) : Type 0 where

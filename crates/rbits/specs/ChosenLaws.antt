@@ -2,25 +2,24 @@
 use mathlib.Core.Path.{_≡_, refl, sym, ap, ap₂, _∙_}
 use mathlib.Core.Bool.{Bool, true, false}
 use mathlib.Core.List.{List, [], _∷_, _++_}
-use Prim.Native.Nat.{ℕ, zero, suc, _+_, _-_, _*_, _/_, _%_, _^_, _<_, _≤_}
-use native.Mathlib.Nat.{le-refl, add-zero, add-assoc, suc-mul}
+use Prim.Native.Nat.{ℕ, zero, suc, _+_, _*_, _/_, _%_, _^_, _<_, _≤_}
+use native.Mathlib.Nat.{add-zero, add-assoc, suc-mul}
 use native.Mathlib.Omega.{arith}
 use lib.ListN.{length, getD, replicate, replicate-append-replicate}
-use lib.Dec.{ltb}
 use borrow.Author.Tests.{lt-ltb, le-ltb}
-use Rattle.lists.specs.Pick.{pick}
-use Rattle.lists.specs.Over.{tab, cat, getD-tab, in-record}
+use Rattle.lists.specs.Over.{cat, getD-tab, in-record}
 use Rattle.lists.specs.Rows.{cat-ext, chunk-cat, getD-chunk}
 use Rattle.lists.specs.Bytes.{Bytes}
-use Rattle.algebra.specs.Group.{XorGroup, numbers, bits, sel, odd, unit-r, sel-nil}
-use Rattle.algebra.specs.Sum.{sum, sum-ext, sum-nil, sum-split}
+use Rattle.algebra.specs.Group.{numbers, sel, odd, sel-nil}
+use Rattle.algebra.specs.Sum.{sum, sum-ext}
 use Rattle.block.specs.declared.Block.{Block}
-use Rattle.block.specs.Block.{wordAt, blockAt, xorOf, zeroOf}
+use Rattle.block.specs.Block.{blockAt, xorOf, zeroOf}
 use Rattle.block.specs.Group.{blocks}
-use Rattle.rbits.specs.Chosen.{chosen, blockSum, wordsOf}
-use Rattle.rbits.specs.Tables.{wordOr, tables, lookup, lookup2, rWord, rWords, pairAt, addedAt}
+use Rattle.rbits.specs.Chosen.{chosen, blockSum, wordsOf, pairAt}
+use Rattle.rbits.specs.Tables.{recordWord, tables, lookup, lookup2, rWord, rWords, addedAt}
+use Rattle.rbits.specs.SumLaws.{sum-turn, sum-groups, sum-past}
 use Rattle.rbits.specs.DigitLaws.{word-digit}
-use Rattle.rbits.specs.TableLaws.{picked, lookup-tables, sum-groups, sum-turn}
+use Rattle.rbits.specs.TableLaws.{lookup-tables}
 
 -- ---- digit e of word g of string j says whether it chooses element 64g + e
 pub chosen-digit : (r : List ℕ) (row j g e : ℕ) → Bytes r → j * row + g * 8 + 8 ≤ length r → e < 64 → odd (rWord r row g j / 2 ^ e) ≡ chosen r row j (g * 64 + e)
@@ -31,29 +30,16 @@ chosen-digit r row j g e hr h l =
     let d : e % 8 ≡ t % 8 = omega arith in
     word-digit r (j * row + g * 8) e hr h l ∙ ap₂ (λ i k. odd (getD r i 0 / 2 ^ k)) q d
 
--- ---- the terms past the end of a sum are nothing
-pub sum-past : {A : Type 0} (G : XorGroup A) (n m : ℕ) (f : ℕ → A) → n ≤ m → ((t : ℕ) → n ≤ t → f t ≡ G .nil) → sum G m f ≡ sum G n f
-sum-past G n m f h z =
-    let q : n + (m - n) ≡ m = omega arith in
-    ap (λ k. sum G k f) (sym q) ∙ sum-split G n (m - n) f
-    ∙ ap (G .op (sum G n f)) (sum-ext G (m - n) (λ i. f (n + i)) (λ i. G .nil) (λ i l. z (n + i) (omega arith)) ∙ sum-nil G (m - n))
-    ∙ unit-r G (sum G n f)
-
 -- ---- Blocks, word by word
-pub sum-words : (n : ℕ) (f : ℕ → Block) → sum blocks n f ≡ record { 0 = sum numbers n (λ t. f t .0); 1 = sum numbers n (λ t. f t .1) }
+sel-words : (b : Bool) (x y : ℕ) → sel blocks b (record { 0 = x; 1 = y }) ≡ record { 0 = sel numbers b x; 1 = sel numbers b y }
+unfolding blocks zeroOf
+sel-words false x y = refl
+sel-words true x y = refl
+
+sum-words : (n : ℕ) (f g : ℕ → ℕ) → sum blocks n (λ t. record { 0 = f t; 1 = g t }) ≡ record { 0 = sum numbers n f; 1 = sum numbers n g }
 unfolding sum blocks xorOf zeroOf
-sum-words zero f = refl
-sum-words (suc n) f = ap (λ (x : Block). xorOf x (f n)) (sum-words n f)
-
-sel-low : (b : Bool) (x : Block) → (sel blocks b x) .0 ≡ sel numbers b (x .0)
-unfolding blocks zeroOf
-sel-low false x = refl
-sel-low true x = refl
-
-sel-high : (b : Bool) (x : Block) → (sel blocks b x) .1 ≡ sel numbers b (x .1)
-unfolding blocks zeroOf
-sel-high false x = refl
-sel-high true x = refl
+sum-words zero f g = refl
+sum-words (suc n) f g = ap (λ (x : Block). xorOf x (record { 0 = f n; 1 = g n })) (sum-words n f g)
 
 -- ---- arrays of words
 pub words-ext : (n : ℕ) (f g : ℕ → Block) → ((j : ℕ) → j < n → f j ≡ g j) → wordsOf n f ≡ wordsOf n g
@@ -81,22 +67,22 @@ words-zero (suc n) =
 -- ---- a group of 64 records
 module _ (s : List ℕ) (stride at : ℕ) (r : List ℕ) (row count : ℕ) where
   -- the Block of record t, and nothing past the last record
-  abbrev pub blockOr : ℕ → Block
-  blockOr t = record { 0 = wordOr s stride at count t; 1 = wordOr s stride (at + 8) count t }
+  abbrev pub recordBlock : ℕ → Block
+  recordBlock t = record { 0 = recordWord s stride at count t; 1 = recordWord s stride (at + 8) count t }
 
   abbrev pub term : ℕ → ℕ → Block
-  term j t = sel blocks (chosen r row j t) (blockOr t)
+  term j t = sel blocks (chosen r row j t) (recordBlock t)
 
   -- the first g groups
   unfoldable pub groups : ℕ → ℕ → Block
   groups g j = sum blocks g (λ h. sum blocks 64 (λ e. term j (h * 64 + e)))
 
-  block-in : (t : ℕ) → t < count → blockOr t ≡ blockAt s (t * stride + at)
-  unfolding wordOr blockAt
+  block-in : (t : ℕ) → t < count → recordBlock t ≡ blockAt s (t * stride + at)
+  unfolding recordWord blockAt
   block-in t h = rw (lt-ltb t count h, sym (add-assoc (t * stride) at 8))
 
-  block-out : (t : ℕ) → count ≤ t → blockOr t ≡ blocks .nil
-  unfolding wordOr blocks zeroOf
+  block-out : (t : ℕ) → count ≤ t → recordBlock t ≡ blocks .nil
+  unfolding recordWord blocks zeroOf
   block-out t h = rw (le-ltb t count h)
 
   pub groups-all : (g j : ℕ) → count ≤ g * 64 → groups g j ≡ blockSum s stride at r row count j
@@ -108,23 +94,20 @@ module _ (s : List ℕ) (stride at : ℕ) (r : List ℕ) (row count : ℕ) where
 
   -- what word g of string j chooses in the tables
   chosen-group : (g j : ℕ) → Bytes r → j * row + g * 8 + 8 ≤ length r
-      → lookup2 (tables (λ e. wordOr s stride at count (g * 64 + e))) (tables (λ e. wordOr s stride (at + 8) count (g * 64 + e))) (rWord r row g j)
+      → lookup2 (tables (λ e. recordWord s stride at count (g * 64 + e))) (tables (λ e. recordWord s stride (at + 8) count (g * 64 + e))) (rWord r row g j)
       ≡ sum blocks 64 (λ e. term j (g * 64 + e))
   chosen-group g j hr h =
-      let w : ℕ = rWord r row g j in
-      let low : lookup (tables (λ e. wordOr s stride at count (g * 64 + e))) w ≡ sum numbers 64 (λ e. term j (g * 64 + e) .0) =
-      lookup-tables (λ e. wordOr s stride at count (g * 64 + e)) w
-      ∙ sum-ext numbers 64 _ _
-      (λ e l. ap (λ b. sel numbers b (wordOr s stride at count (g * 64 + e))) (chosen-digit r row j g e hr h l) ∙ sym (sel-low (chosen r row j (g * 64 + e)) (blockOr (g * 64 + e)))) in
-      let high : lookup (tables (λ e. wordOr s stride (at + 8) count (g * 64 + e))) w ≡ sum numbers 64 (λ e. term j (g * 64 + e) .1) =
-      lookup-tables (λ e. wordOr s stride (at + 8) count (g * 64 + e)) w
-      ∙ sum-ext numbers 64 _ _
-      (λ e l. ap (λ b. sel numbers b (wordOr s stride (at + 8) count (g * 64 + e))) (chosen-digit r row j g e hr h l) ∙ sym (sel-high (chosen r row j (g * 64 + e)) (blockOr (g * 64 + e)))) in
-      (λ i. record { 0 = low i; 1 = high i }) ∙ sym (sum-words 64 (λ e. term j (g * 64 + e)))
+      let word : ℕ → ℕ → ℕ = λ a e. recordWord s stride a count (g * 64 + e) in
+      let taken : ℕ → ℕ → ℕ = λ a e. sel numbers (chosen r row j (g * 64 + e)) (word a e) in
+      let column : (a : ℕ) → lookup (tables (word a)) (rWord r row g j) ≡ sum numbers 64 (taken a) =
+      λ a. lookup-tables (word a) (rWord r row g j)
+      ∙ sum-ext numbers 64 _ (taken a) (λ e l. ap (λ b. sel numbers b (word a e)) (chosen-digit r row j g e hr h l)) in
+      (λ i. record { 0 = column at i; 1 = column (at + 8) i }) ∙ sym (sum-words 64 (taken at) (taken (at + 8)))
+      ∙ sum-ext blocks 64 _ (λ e. term j (g * 64 + e)) (λ e l. sym (sel-words (chosen r row j (g * 64 + e)) (word at e) (word (at + 8) e)))
 
   -- a turn of the loop over the groups
   pub groups-turn : (g : ℕ) (acc low high ws acc′ : List ℕ) → Bytes r → 120 * row ≤ length r → g * 8 + 8 ≤ row → acc ≡ wordsOf 120 (groups g)
-      → ws ≡ rWords r row g → low ≡ tables (λ e. wordOr s stride at count (g * 64 + e)) → high ≡ tables (λ e. wordOr s stride (at + 8) count (g * 64 + e))
+      → ws ≡ rWords r row g → low ≡ tables (λ e. recordWord s stride at count (g * 64 + e)) → high ≡ tables (λ e. recordWord s stride (at + 8) count (g * 64 + e))
       → acc′ ≡ wordsOf 120 (addedAt acc low high ws) → acc′ ≡ wordsOf 120 (groups (g + 1))
   unfolding groups rWords
   groups-turn g acc low high ws acc′ hr hl hg ha hw hlo hhi e =

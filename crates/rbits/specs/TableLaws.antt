@@ -1,10 +1,9 @@
 -- The tables of sums: entry c of `sums n f` has word e where digit e of c is 1, for every n; and what is looked up in the tables of 64 words.
 use mathlib.Core.Path.{_≡_, refl, sym, ap, ap₂, _∙_}
 use mathlib.Core.Bool.{Bool, true, false}
-use mathlib.Core.List.{List, [], _∷_, _++_, map}
+use mathlib.Core.List.{List, _++_, map}
 use Prim.Native.Nat.{ℕ, zero, suc, _+_, _-_, _*_, _/_, _%_, _^_, _<_, _≤_}
-use native.Mathlib.Nat.{add-zero, add-assoc, zero-mul, suc-mul, pow-suc, div-eq-of-lt, mod-lt}
-use native.Mathlib.Numerals.{add-one}
+use native.Mathlib.Nat.{add-zero, add-assoc, pow-suc, div-eq-of-lt, mod-lt}
 use native.Mathlib.Omega.{arith}
 use lib.ListN.{length, getD, length-append, length-map, List·getD-append, List·getD-map}
 use lib.Seq.{getD-append-add}
@@ -15,9 +14,10 @@ use borrow.Author.Tests.{ltb-true, ltb-false}
 use Rattle.lists.specs.Over.{cat}
 use Rattle.lists.specs.Rows.{chunk-cat, getD-chunk}
 use Rattle.algebra.specs.Xor.{xor-assoc}
-use Rattle.algebra.specs.Group.{XorGroup, numbers, sel, odd, unit-r}
-use Rattle.algebra.specs.Sum.{sum, sum-ext, sum-split}
+use Rattle.algebra.specs.Group.{numbers, sel, odd}
+use Rattle.algebra.specs.Sum.{sum, sum-ext}
 use Rattle.rbits.specs.Tables.{sums, sums4, tables, entry, lookup}
+use Rattle.rbits.specs.SumLaws.{sum-turn, sum-groups}
 use Rattle.rbits.specs.DigitLaws.{mod-digit, part-digit}
 
 pub length-sums : (n : ℕ) (f : ℕ → ℕ) → length (sums n f) ≡ 2 ^ n
@@ -27,14 +27,6 @@ length-sums (suc n) f =
     length-append (sums n f) (map (λ x. bitXor x (f n)) (sums n f))
     ∙ ap (λ k. length (sums n f) + k) (length-map (sums n f) (λ x. bitXor x (f n)))
     ∙ (let q : length (sums n f) ≡ 2 ^ n = length-sums n f in omega (arith, pow-suc 2 n))
-
--- a sum of sums is one sum
-pub sum-groups : {A : Type 0} (G : XorGroup A) (n m : ℕ) (f : ℕ → A) → sum G n (λ k. sum G m (λ e. f (k * m + e))) ≡ sum G (n * m) f
-unfolding sum
-sum-groups G zero m f = ap (λ k. sum G k f) (sym (zero-mul m))
-sum-groups G (suc n) m f =
-    ap (λ x. G .op x (sum G m (λ e. f (n * m + e)))) (sum-groups G n m f) ∙ sym (sum-split G (n * m) m f)
-    ∙ ap (λ k. sum G k f) (sym (suc-mul n m))
 
 -- the words that c chooses
 abbrev pub picked : ℕ → (ℕ → ℕ) → ℕ → ℕ
@@ -93,11 +85,7 @@ lookup-tables f w = sum-ext numbers 16 (entry (tables f) w) (λ k. sum numbers 4
         ∙ sums-at 4 (λ e. f (k * 4 + e)) c 0 l
         ∙ sum-ext numbers 4 _ (λ e. F (k * 4 + e)) (λ e v. ap (λ b. sel numbers b (f (k * 4 + e))) (part-digit w (k * 4) 4 e v))
 
--- a loop's turns
-pub sum-turn : {A : Type 0} (G : XorGroup A) (n : ℕ) (f : ℕ → A) → sum G (n + 1) f ≡ G .op (sum G n f) (f n)
-unfolding sum
-sum-turn G n f = rw (add-one n) refl
-
+-- a turn of `choose`
 pub lookup-turn : (t : List ℕ) (w k a : ℕ) → a ≡ sum numbers k (entry t w)
     → bitXor a (getD t (k * 16 + bitAnd (w / 2 ^ (k * 4)) 15) 0) ≡ sum numbers (k + 1) (entry t w)
 lookup-turn t w k a h =

@@ -6,15 +6,16 @@ ghost use mathlib.Core.Path.{_≡_};
 ghost use Prim.Native.Nat.{_+_, _*_, _^_, _≤_, _<_};
 ghost use lib.ListN.{length, getD};
 ghost use Rattle.lists.specs.Over.{tab};
-ghost use Rattle.algebra.specs.Group.{num};
+ghost use lib.Count.{ones};
+ghost use Rattle.algebra.specs.Group.{odd, num};
 ghost use Rattle.rbits.specs.Chosen.{blockSum, bitSum, wordsOf, Lent};
-ghost use Rattle.rbits.specs.Tables.{wordOr, sums4, tables, lookup2, addedAt, rWords};
+ghost use Rattle.rbits.specs.Tables.{recordWord, sums4, tables, lookup2, addedAt, rWords, recordBit, packed, maskedAt};
 use block::Block;
 
 // The word at `at` of record t, and 0 past the last record: so the last group has 64 records too.
 fn word(s: &[u8], stride: usize, at: usize, count: usize, t: usize) -> u64
     requires { ⌜ (at + 8 ≤ stride) × (count * stride ≤ length (now s)) ⌝ }
-    ensures { λ r. ⌜ r ≡ wordOr (now (s .entry)) stride at count t ⌝ }
+    ensures { λ r. ⌜ r ≡ recordWord (now (s .entry)) stride at count t ⌝ }
 {
     if t < count {
         block::load64(s, t * stride + at)
@@ -51,7 +52,7 @@ fn fill(out: &mut [u64], s: &[u8], stride: usize, at: usize, count: usize, first
     requires { ⌜ length (now out) ≡ 256 ⌝ }
     requires { ⌜ (at + 8 ≤ stride) × (count * stride ≤ length (now s)) ⌝ }
     requires { ⌜ first + 64 < 2 ^ 64 ⌝ }
-    ensures { λ _. ⌜ now (out .exit) ≡ tables (λ e. wordOr (now (s .entry)) stride at count (first + e)) ⌝ }
+    ensures { λ _. ⌜ now (out .exit) ≡ tables (λ e. recordWord (now (s .entry)) stride at count (first + e)) ⌝ }
 {
     let mut k = 0;
     while k < 16 {
@@ -142,4 +143,73 @@ pub fn block_sums(
         g += 1;
     }
     acc
+}
+
+// The bit of record i as 0 or 1, and 0 past the last record.
+fn digit(s: &[u8], stride: usize, count: usize, i: usize) -> u64
+    requires { ⌜ (1 ≤ stride) × (count * stride ≤ length (now s)) ⌝ }
+    ensures { λ r. ⌜ r ≡ num (recordBit (now (s .entry)) stride count i) ⌝ }
+{
+    if i < count {
+        (s[i * stride] % 2) as u64
+    } else {
+        0
+    }
+}
+
+// The bits of the 64 records from `first` on, as the digits of a word.
+fn pack(s: &[u8], stride: usize, count: usize, first: usize) -> u64
+    requires { ⌜ (1 ≤ stride) × (count * stride ≤ length (now s)) ⌝ }
+    requires { ⌜ first + 64 < 2 ^ 64 ⌝ }
+    ensures { λ r. ⌜ r ≡ packed 64 (λ e. recordBit (now (s .entry)) stride count (first + e)) ⌝ }
+{
+    let mut w = 0;
+    let mut e = 0;
+    while e < 64 {
+        w = (digit(s, stride, count, first + e) << e) + w;
+        e += 1;
+    }
+    w
+}
+
+// Adds to each string's word the bits of b that its word g chooses, by mask: each digit is summed by itself.
+fn add_bits(acc: &mut [u64], r: &[u8], row: usize, g: usize, b: u64)
+    requires { ⌜ length (now acc) ≡ 120 ⌝ }
+    requires { ⌜ (120 * row ≤ length (now r)) × (g * 8 + 8 ≤ row) ⌝ }
+    ensures { λ _. ⌜ now (acc .exit) ≡ tab 120 (maskedAt (now (acc .entry)) (now (r .entry)) row g b) ⌝ }
+{
+    let mut j = 0;
+    while j < 120 {
+        acc[j] = acc[j] ^ (block::load64(r, j * row + g * 8) & b);
+        j += 1;
+    }
+}
+
+// The sum of each word's digits.
+fn parities(acc: &[u64; 120]) -> [u8; 120]
+    ensures { λ o. ⌜ o ≡ tab 120 (λ j. num (odd (ones (getD (now (acc .entry)) j 0)))) ⌝ }
+{
+    let mut out = [0u8; 120];
+    let mut j = 0;
+    while j < 120 {
+        out[j] = (u64::count_ones(acc[j]) % 2) as u8;
+        j += 1;
+    }
+    out
+}
+
+// For each string the sum of the bits of the records that it chooses, as 0 or 1.
+pub fn bit_sums(s: &[u8], stride: usize, count: usize, r: &[u8], row: usize) -> [u8; 120]
+    requires { ⌜ 1 ≤ stride ⌝ }
+    requires { ⌜ Lent (now s) stride count (now r) row ⌝ }
+    ensures { λ o. ⌜ o ≡ tab 120 (λ j. num (bitSum (now (s .entry)) stride (now (r .entry)) row count j)) ⌝ }
+{
+    let mut acc = [0u64; 120];
+    let mut g = 0;
+    while g * 64 < count {
+        let b = pack(s, stride, count, g * 64);
+        add_bits(&mut acc, r, row, g, b);
+        g += 1;
+    }
+    parities(&acc)
 }

@@ -1,8 +1,7 @@
 -- The loop's invariant: the sums of the first j strings have what is chosen added.
-use mathlib.Core.Path.{_≡_, refl, ap, ap₂, _∙_}
-use Prim.Native.Nat.{ℕ, _+_, _*_, _-_, _≤_}
+use Prim.Native.Nat.{_*_, _-_, _≤_}
 use native.Mathlib.Omega.{arith}
-use lib.ListN.{length, length-set}
+use lib.ListN.{length-set}
 use denote.Ref.{now}
 use borrow.Author.Needs.{needs}
 use Rattle.lists.specs.Over.{Written, written-zero, written-end}
@@ -25,8 +24,11 @@ loop-again : tie.Need-loop-again Inv-loop μ-loop
 loop-again c =
     let b = c .before .before .before .before in
     let l = b .before .before .before in
-    let a = l .before .before .args in
-    (omega arith, added-turn (now (a .acc)) (now (a .low)) (now (a .high)) (now (a .ws)) (l .loop .acc) (l .loop .j) (b .choose .result) (l .loop .inv .1) (b .choose .ensures) (omega arith))
+    let a = l .before .before .args in (
+      omega arith,
+      added-turn (now (a .acc)) (now (a .low)) (now (a .high)) (now (a .ws)) (l .loop .acc) (l .loop .j) (b .choose .result)
+          (l .loop .inv .1) (b .choose .ensures) (omega arith),
+    )
 
 same-length : tie.Need-same-length Inv-loop μ-loop
 same-length c = c .before .loop .inv .1 .same

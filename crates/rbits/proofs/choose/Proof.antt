@@ -1,10 +1,9 @@
 -- The loop's invariant: a and b are the sums of the first k entries.
-use mathlib.Core.Path.{_≡_, refl, ap, sym, _∙_}
+use mathlib.Core.Path.{_≡_, refl, ap, _∙_}
 use Prim.Native.Nat.{_+_, _*_, _-_, _/_, _^_, _≤_, _<_}
 use native.Mathlib.Omega.{arith}
 use lib.Bits.{bitAnd, mask-lt}
 use denote.Ref.{now}
-use borrow.Author.Needs.{needs}
 use Rattle.algebra.specs.Group.{numbers}
 use Rattle.algebra.specs.Sum.{sum}
 use Rattle.rbits.specs.Tables.{entry, lookup}

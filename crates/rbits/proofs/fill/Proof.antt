@@ -1,19 +1,19 @@
 -- The loop's invariant: the first k tables are written.
-use mathlib.Core.Path.{_≡_, refl, ap, _∙_}
+use mathlib.Core.Path.{_≡_, _∙_}
+use mathlib.Core.List.{List}
 use Prim.Native.Nat.{ℕ, _+_, _*_, _-_, _≤_}
 use native.Mathlib.Omega.{arith}
-use lib.ListN.{length}
 use denote.Ref.{now}
 use borrow.Author.Needs.{needs}
 use Rattle.lists.specs.Over.{Written, written-zero, written-turn, written-end}
-use Rattle.rbits.specs.Tables.{wordOr, sums, tables}
+use Rattle.rbits.specs.Tables.{recordWord, sums, tables}
 use Rattle.rbits.specs.TableLaws.{sums4-at, length-sums}
 use Rattle.rbits.proofs.fill.Statement.{statement}
 use Rattle.rbits.proofs.fill.Tie as tie
 
 abbrev Inv-loop : tie.InvT-loop
 Inv-loop out₀ s stride at count first k₀ out k =
-    (k ≤ 16) × Written (λ k. sums 4 (λ e. wordOr s stride at count (first + (k * 4 + e)))) k (k * 16) out₀ out
+    (k ≤ 16) × Written (λ k. sums 4 (λ e. recordWord s stride at count (first + (k * 4 + e)))) k (k * 16) out₀ out
 
 abbrev μ-loop : tie.MeasureT-loop
 μ-loop out₀ s stride at count first k₀ out k = 16 - k
@@ -27,10 +27,15 @@ loop-again c =
     let l = c .before .before .before .before .before .before .before .before .before in
     let a = l .before .before .before .args in
     let k = l .loop .k in
-    let f : ℕ → ℕ = wordOr (now (a .s)) (a .stride) (a .at) (a .count) in
-    let four = sums4-at f (a .first) k _ _ _ _ (d .before .before .before .before .word .ensures) (d .before .before .before .word2 .ensures) (d .before .before .word3 .ensures) (d .before .word4 .ensures) in (
+    let f : ℕ → ℕ = recordWord (now (a .s)) (a .stride) (a .at) (a .count) in
+    let g : ℕ → List ℕ = λ k. sums 4 (λ e. f (a .first + (k * 4 + e))) in
+    let four : d .put-sums .last .0 ≡ g k =
+    d .put-sums .ensures
+    ∙ sums4-at f (a .first) k _ _ _ _ (d .before .before .before .before .word .ensures) (d .before .before .before .word2 .ensures)
+    (d .before .before .word3 .ensures) (d .before .word4 .ensures) in (
       omega arith,
-      written-turn (λ k. sums 4 (λ e. f (a .first + (k * 4 + e)))) k (k * 16) (k * 16 + 16) ((k + 1) * 16) (now (a .out)) (l .loop .out) (d .put-sums .last .0) (l .loop .inv .1) (d .put-sums .ensures ∙ four) (omega (arith, length-sums 4 (λ e. f (a .first + (k * 4 + e))))) (omega arith) (omega arith),
+      written-turn g k (k * 16) (k * 16 + 16) ((k + 1) * 16) (now (a .out)) (l .loop .out) (d .put-sums .last .0) (l .loop .inv .1) four
+          (omega (arith, length-sums 4 (λ e. f (a .first + (k * 4 + e))))) (omega arith) (omega arith),
     )
 
 same-length : tie.Need-same-length Inv-loop μ-loop

@@ -1,12 +1,12 @@
 -- A record's word lies within; past the last record it is 0.
-use mathlib.Core.Path.{_∙_, ap, sym}
+use mathlib.Core.Path.{_∙_}
 use Prim.Native.Nat.{_+_, _*_, _≤_}
 use native.Mathlib.Omega.{arith}
 use lib.ListN.{length}
 use denote.Ref.{now}
 use borrow.Author.Tests.{lt-ltb, le-ltb}
 use Rattle.lists.specs.Over.{in-record}
-use Rattle.rbits.specs.Tables.{wordOr}
+use Rattle.rbits.specs.Tables.{recordWord}
 use Rattle.rbits.proofs.word.Statement.{statement}
 use Rattle.rbits.proofs.word.Tie as tie
 
@@ -17,11 +17,11 @@ within c =
     in-record (a .t) (a .count) (a .stride) (a .at) 8 (length (now (a .s))) (c .if1 .taken) (p .0) (p .1)
 
 returns : tie.Need-returns
-unfolding wordOr
+unfolding recordWord
 returns c = c .load64 .ensures ∙ simp (lt-ltb _ _ (c .before .if1 .taken))
 
 returns-2 : tie.Need-returns-2
-unfolding wordOr
+unfolding recordWord
 returns-2 c = simp (le-ltb _ _ (c .if1 .left))
 
 pub word-spec : {M : Type 1} → statement M
