@@ -1,1 +1,3 @@
 pub mod Script
+pub mod Inputs
+pub mod Base
