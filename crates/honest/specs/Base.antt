@@ -9,35 +9,37 @@
 --    `by-none` of engine/StepLaws, `first-none` here show that a check passes.
 --  * a message that is a list: `list-form`, `list-len` from Coded items (encode/Coded), `trip-whole` of encode/RoundTrip for what is read of it.
 use mathlib.Core.Path.{_≡_, refl, sym, ap, ap₂, _∙_, subst}
-use mathlib.Core.Bool.{Bool, true, false}
+use mathlib.Core.Bool.{true}
 use mathlib.Core.Logic.{_≢_}
 use mathlib.Core.List.{List, [], _∷_}
-use Prim.Native.Nat.{ℕ, zero, suc, _+_, _*_, _^_, _<_, _≤_}
+use Prim.Native.Nat.{ℕ, zero, suc, _*_, _^_, _<_}
 use native.Mathlib.Nat.{le-refl}
 use native.Mathlib.Omega.{arith}
-use lib.ListN.{length, getD, replicate, length-replicate}
-use lib.Dec.{leb, ltb, eqb}
-use borrow.Author.Tests.{le-leb, ltb-true, eqb-true}
+use lib.ListN.{length, replicate, length-replicate, length-take}
+use lib.Dec.{leb, ltb}
+use borrow.Author.Tests.{le-leb, ltb-true}
 use Rattle.lists.specs.Pick.{pick}
-use Rattle.lists.specs.All.{allOf}
-use Rattle.lists.specs.Over.{cat, length-cat}
+use Rattle.lists.specs.Over.{length-cat}
 use Rattle.lists.specs.Rows.{chunk, chunk-cat, cat-ext}
-use Rattle.block.specs.declared.Block.{Block}
+use Rattle.lists.specs.Bytes.{Bytes}
 use Rattle.block.specs.Block.{blockAt}
+use Rattle.blake3.specs.Tree.{digest, hash}
+use Rattle.blake3.specs.ByteLaws.{length-bytes, bytes-bytes}
 use Rattle.message.specs.declared.Kind.{Kind}
 use Rattle.message.specs.declared.Kind.the-variants.{Items}
 use Rattle.message.specs.Format.{formOf}
 use Rattle.encode.specs.Encode.{encode}
 use Rattle.encode.specs.Coded.{Coded, length-encode}
-use Rattle.encode.specs.RoundTrip.{Trip, trip-whole}
+use Rattle.encode.specs.RoundTrip.{trip-whole}
 use Rattle.plan.specs.Plan.{listLen}
 use Rattle.engine.specs.declared.Frame.{Frame}
-use Rattle.engine.specs.Step.{frame, Fault, none?, other, orElse, scan, byParty}
+use Rattle.engine.specs.Step.{frame, Fault, other, orElse, scan, byParty}
 use Rattle.engine.specs.StepLaws.{other-is, other-cases, or-none}
-use Rattle.engine.specs.Area.{sec, putSec, mem, Every}
-use Rattle.engine.specs.Sheet.{Store, Known, putAll, filled, Fills, staysTest, fills-by}
+use Rattle.engine.specs.Area.{putSec}
+use Rattle.engine.specs.Sheet.{Store, Known, putAll, filled, staysTest, fills-by}
 use Rattle.engine.specs.Honest.{storeOf}
 use Rattle.rounds.specs.Area.{DELTA, SEED, PAIRS, MASKS, BITS, ALPHA, BETA, COMMS, JOINT, PAIR-COMMS, PAIRWISE, KEY-SUMS, SHARE-COMMS, DMS, LEAKY, ZS, ES, HS, H-COMMS, PERM, DS, TRIPLES, sizeOf, at, keep, rows, firstOf}
+use Rattle.rounds.specs.Echo.{hashVec}
 use Rattle.rounds.specs.Opening.{Args}
 use Rattle.rounds.specs.Table.{table, delta}
 use Rattle.honest.specs.Script as S
@@ -85,6 +87,20 @@ unfolding firstOf
 first-none zero g e = refl
 first-none (suc c) g e =
     ap (λ (x : Fault). x .code) (or-none (firstOf c g) (g c) (first-none c g (λ j l. e j (omega arith)))) ∙ e c (le-refl (suc c))
+
+-- ---- hashes
+pub length-hash : (s : List ℕ) → length (hash s) ≡ 32
+unfolding hash
+length-hash s = length-bytes (digest s)
+
+pub bytes-hash : (s : List ℕ) → Bytes (hash s)
+unfolding hash
+bytes-hash s = bytes-bytes (digest s)
+
+-- what an echo carries of a list
+pub length-hashVec : (l k : ℕ) (m : List ℕ) → length (hashVec l k m) ≡ 16
+unfolding hashVec
+length-hashVec l k m = length-take 16 (hash _) ∙ rw (length-hash _) refl
 
 -- ---- a message that is a list
 pub list-form : (K : Kind) (c : ℕ) (g : ℕ → List ℕ) → c < 2 ^ 64 → ((t : ℕ) → t < c → Coded K (g t)) → formOf K c (encode c g) ≡ 0
