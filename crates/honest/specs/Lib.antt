@@ -2,3 +2,4 @@ pub mod Script
 pub mod Inputs
 pub mod Base
 pub mod Toss
+pub mod Echo
