@@ -1,5 +1,6 @@
 -- What every round's proof of an honest run needs. How to use it, for round k in a section `module _ (n l : ℕ) (args : ℕ → Args)
--- (strings order : List ℕ) (I : Inputs n l args strings order) where`:
+-- (strings order : List ℕ) (X : Boxes n l args) where`; rounds 21 and 22, which need the permutation, take `(I : Inputs n l args order)`
+-- (both of Inputs.antt; Toss.antt is an example):
 --  * `Table.judge k`, `kept k`, `held k`, `written k` and Script's `sent`, `since`, `holds` are chains of tests on a number: at a numeral they
 --    compute under `unfolding judge kept held written sent since holds` (and `kindOf countDue` of Plan for form and length).
 --  * a section of a Known work area: `bits-at n l args strings order K : at (frame n l i) BITS w ≡ args i .bits`. For a section that a round fills

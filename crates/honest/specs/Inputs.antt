@@ -17,7 +17,7 @@ use Rattle.share.specs.Share.{shareAt}
 use Rattle.share.specs.ShareLaws.{SmallShare, small-share-at}
 use Rattle.share.specs.Parties.{sharedAt}
 use Rattle.permutation.specs.Permutation.{isPerm}
-use Rattle.plan.specs.Plan.{InRange, leaky, bitsCount, rLen}
+use Rattle.plan.specs.Plan.{InRange, leaky, bitsCount}
 use Rattle.engine.specs.Step.{frame}
 use Rattle.rounds.specs.Opening.{Args}
 
@@ -55,28 +55,31 @@ alphasOf n args t = sharedAt (λ b. args b .alpha) (t * recordLen n)
 abbrev pub betasOf : ℕ → (ℕ → Args) → ℕ → Shared Block
 betasOf n args t = sharedAt (λ b. args b .beta) (t * recordLen n)
 
--- n boxes with one l, box b opened with args b, and the r strings and the permutation that all are lent. "The MAC rule between boxes j and k,
--- both ways and at each position: j's MAC for k equals k's key for j, plus the delta k was opened with where j's bit is 1."
-pub record Inputs (n l : ℕ) (args : ℕ → Args) (strings order : List ℕ) : Type 0 where
+-- n boxes with one l, box b opened with args b. "The MAC rule between boxes j and k, both ways and at each position: j's MAC for k equals k's
+-- key for j, plus the delta k was opened with where j's bit is 1."
+pub record Boxes (n l : ℕ) (args : ℕ → Args) : Type 0 where
   pub range : InRange n l
   pub own : (b : ℕ) → b < n → Own n l b (args b)
   pub bits-mac : (t : ℕ) → t < bitsCount l → Good blocks n (deltas args) (bitsOf n args t)
   pub alpha-mac : (t : ℕ) → t < l → Good blocks n (deltas args) (alphasOf n args t)
   pub beta-mac : (t : ℕ) → t < l → Good blocks n (deltas args) (betasOf n args t)
-  pub strings-len : length strings ≡ rLen l
+
+-- and the permutation that all are lent is one; of the r strings nothing is asked
+pub record Inputs (n l : ℕ) (args : ℕ → Args) (order : List ℕ) : Type 0 where
+  pub boxes : Boxes n l args
   pub order-len : length order ≡ leaky l
   pub order-perm : isPerm order ≡ true
 
 -- ---- what is read of them fits a Block
-module _ (n l : ℕ) (args : ℕ → Args) (strings order : List ℕ) (I : Inputs n l args strings order) (b : ℕ) (lb : b < n) where
+module _ (n l : ℕ) (args : ℕ → Args) (X : Boxes n l args) (b : ℕ) (lb : b < n) where
   pub small-delta : Small (deltas args b)
-  small-delta = small-at (args b .delta) (I .own b lb .delta-bytes) 0
+  small-delta = small-at (args b .delta) (X .own b lb .delta-bytes) 0
 
   pub small-bits : (at : ℕ) → SmallShare n (shareAt (args b .bits) at)
-  small-bits at = small-share-at n (args b .bits) at (I .own b lb .bits-bytes)
+  small-bits at = small-share-at n (args b .bits) at (X .own b lb .bits-bytes)
 
   pub small-alpha : (at : ℕ) → SmallShare n (shareAt (args b .alpha) at)
-  small-alpha at = small-share-at n (args b .alpha) at (I .own b lb .alpha-bytes)
+  small-alpha at = small-share-at n (args b .alpha) at (X .own b lb .alpha-bytes)
 
   pub small-beta : (at : ℕ) → SmallShare n (shareAt (args b .beta) at)
-  small-beta at = small-share-at n (args b .beta) at (I .own b lb .beta-bytes)
+  small-beta at = small-share-at n (args b .beta) at (X .own b lb .beta-bytes)

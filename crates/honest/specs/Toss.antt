@@ -36,7 +36,7 @@ use Rattle.rounds.specs.Opening.{Args}
 use Rattle.rounds.specs.Table.{table, judge, kept, held, written}
 use Rattle.rounds.specs.Toss.{commitment, commMsg, verMsg, told, toldRows, opening, jointSeed, pairwiseSeeds}
 use Rattle.honest.specs.Script as S
-use Rattle.honest.specs.Inputs.{Inputs}
+use Rattle.honest.specs.Inputs.{Boxes}
 use Rattle.honest.specs.Base.{rows-ext, length-rows, chunk-rows, length-hash, length-hashVec, list-form, list-len, Fit, seed-at, pairs-at, comms-at, pair-comms-at, keep-none, keep-one}
 
 -- ---- a message with a commitment, and one with a seed
@@ -134,7 +134,7 @@ module _ (f : Frame) where
         (ap (λ (y : List ℕ). commitment y k) (e k l ne) ∙ sym (told-is k l ne)
         ∙ sym (chunk-rows f 32 _ (λ k l ne. ap length (told-is k l ne) ∙ length-commitment (x k) k) k l ne)))
 
-module _ (n l : ℕ) (args : ℕ → Args) (strings order : List ℕ) (I : Inputs n l args strings order) where
+module _ (n l : ℕ) (args : ℕ → Args) (strings order : List ℕ) (X : Boxes n l args) where
   abbrev run : Script
   run = S.script n l args strings order
 
@@ -174,7 +174,7 @@ module _ (n l : ℕ) (args : ℕ → Args) (strings order : List ℕ) (I : Input
   fit-joint = (omega arith, λ i li. length-joint (frame n l i) (args i .seed) _)
 
   told-seed : (j : ℕ) → j < n → (m : List ℕ) → m ≡ verMsg (args j .seed) → told m ≡ args j .seed
-  told-seed j lj m e = ap told e ∙ told-ver (args j .seed) (I .own j lj .seed-len)
+  told-seed j lj m e = ap told e ∙ told-ver (args j .seed) (X .own j lj .seed-len)
 
   pub recv-3 : RecvAt table run n l 3
   unfolding plainAfter isEcho mem staysTest allOf S.since S.holds S.sent S.sent1 S.sent3 S.comms S.joint judge kept
@@ -231,11 +231,11 @@ module _ (n l : ℕ) (args : ℕ → Args) (strings order : List ℕ) (I : Input
 
   fit-pairwise : Fit n l args strings order PAIRWISE
   unfolding S.holds S.pairwise sizeOf sizes
-  fit-pairwise = (omega arith, λ i li. length-pairwise (frame n l i) (args i .pairs) _ (I .own i li .pairs-len))
+  fit-pairwise = (omega arith, λ i li. length-pairwise (frame n l i) (args i .pairs) _ (X .own i li .pairs-len))
 
   told-pair : (i j : ℕ) → i < n → j < n → (m : List ℕ) → m ≡ verMsg (pair j i) → told m ≡ pair j i
   told-pair i j li lj m e =
-      ap told e ∙ told-ver (pair j i) (length-chunk 32 n i (args j .pairs) li (omega (arith, I .own j lj .pairs-len)))
+      ap told e ∙ told-ver (pair j i) (length-chunk 32 n i (args j .pairs) li (omega (arith, X .own j lj .pairs-len)))
 
   pub recv-5 : RecvAt table run n l 5
   unfolding plainAfter isEcho mem staysTest allOf S.since S.holds S.sent S.sent4 S.sent5 S.pairComms S.pairwise judge kept msgLen countDue kindOf
