@@ -3,3 +3,4 @@ pub mod Inputs
 pub mod Base
 pub mod Toss
 pub mod Echo
+pub mod Opening
