@@ -4,3 +4,4 @@ pub mod Base
 pub mod Toss
 pub mod Echo
 pub mod Opening
+pub mod Supply

@@ -2,6 +2,7 @@
 -- script says.
 use mathlib.Core.Path.{_≡_, refl, sym, ap, ap₂, _∙_, subst}
 use mathlib.Core.Bool.{Bool, true, false, _&&_, _||_}
+use mathlib.Core.Logic.{_≢_}
 use mathlib.Core.List.{List, [], _∷_}
 use Prim.Native.Nat.{ℕ, suc, _+_, _-_, _*_, _<_, _≤_}
 use native.Mathlib.Omega.{arith}
@@ -18,7 +19,7 @@ use Rattle.permutation.specs.PermutationLaws.{perm-of}
 use Rattle.plan.specs.Plan.{InRange, leaky, bitsCount, rLen, msgLen}
 use Rattle.engine.specs.declared.Frame.{Frame}
 use Rattle.engine.specs.declared.Verdict.the-variants.{Accepted, Refused}
-use Rattle.engine.specs.Step.{frame, Loan, outcome}
+use Rattle.engine.specs.Step.{frame, Loan, Outcome, outcome}
 use Rattle.engine.specs.World.{sessionOf}
 use Rattle.engine.specs.Area.{toOthers, mem, Every, every-mem}
 use Rattle.engine.specs.Sheet.{Known, known-lay}
@@ -260,40 +261,51 @@ module _ (l : ℕ) (strings order : List ℕ) (q : Loan) where
       go false ea false eb h = none-lent q h
 
 -- ---- what opening owes
-module _ (n l : ℕ) (args : ℕ → Args) (strings order : List ℕ) (X : Boxes n l args) where
-  own-lend : (b : ℕ) → b < n → (work out : List ℕ) → Own n l b (lend (args b) work out)
-  own-lend b lb work out =
-      let o = X .own b lb in
-      search
+-- accepted
+spec-takes : (a : Args) (f : Frame) → a .party ≡ f → reason a ≡ 0
+    → spec a ≡ outcome (record { party = f; due = 1 }) Accepted (area a) (toOthers (f .n) (f .i) (λ r. Toss.commMsg (a .seed) (f .i)))
+unfolding spec
+spec-takes a f p z =
+    let left : Frame → Outcome = λ f.
+    outcome (record { party = f; due = 1 }) Accepted (area a) (toOthers (f .n) (f .i) (λ r. Toss.commMsg (a .seed) (f .i))) in
+    rw (eq-eqb (reason a) 0 z) (ap left p)
 
-  -- it accepts, and the buffers' old content is not seen
-  takes-lent : (b : ℕ) → b < n → (work out : List ℕ) → length work ≡ workLen (frame n l b) → length out ≡ (n - 1) * msgLen n l 1
-      → (reason (lend (args b) work out) ≡ 0)
-      × (spec (lend (args b) work out)
-      ≡ outcome (sessionOf n l b 1) Accepted (area (args b)) (toOthers n b (λ r. Toss.commMsg (args b .seed) b)))
-  unfolding spec area section
-  takes-lent b lb work out hw ho =
-      let a : Args = lend (args b) work out in
-      let p : args b .party ≡ frame n l b = X .own b lb .party in
-      let z : reason a ≡ 0 =
-      no-reason a (subst (λ (f : Frame). InRange (f .n) (f .l)) (sym p) (X .range)) (subst (λ (f : Frame). f .i < f .n) (sym p) lb)
-      (own-frame n l b a (own-lend b lb work out)) (hw ∙ ap workLen (sym p)) (ho ∙ ap (λ (f : Frame). (f .n - 1) * msgLen (f .n) (f .l) 1) (sym p)) in (
-        z,
-        ap (λ b. pick b (outcome (record { party = a .party; due = 1 }) Accepted (area a) (toOthers (a .party .n) (a .party .i) (λ r. Toss.commMsg (a .seed) (a .party .i))))
-            (outcome (record { party = a .party; due = 0 }) (Refused (reason a) (a .party .i)) (a .work) (a .out))) (eq-eqb (reason a) 0 z)
-            ∙ ap (λ (f : Frame). outcome (record { party = f; due = 1 }) Accepted (area a) (toOthers (f .n) (f .i) (λ r. Toss.commMsg (a .seed) (f .i)))) p,
-      )
+spec-refuses : (a : Args) → reason a ≢ 0
+    → spec a ≡ outcome (spec a .session) (Refused (reason a) (a .party .i)) (a .work) (a .out)
+unfolding spec
+spec-refuses a ne = rw (ne-eqb (reason a) 0 ne) refl
+
+module _ (n l : ℕ) (args : ℕ → Args) (strings order : List ℕ) (X : Boxes n l args) where
+  -- what box b's opening writes: the commitment of its seed
+  abbrev pub firstOut : ℕ → List ℕ
+  firstOut b = toOthers n b (λ r. Toss.commMsg (args b .seed) b)
+
+  own-lend : (b : ℕ) → b < n → (work out : List ℕ) → Own n l b (lend (args b) work out)
+  own-lend b lb work out = let o = X .own b lb in search
+
+  no-reason-lend : (b : ℕ) → b < n → (work out : List ℕ) → length work ≡ workLen (frame n l b) → length out ≡ (n - 1) * msgLen n l 1
+      → reason (lend (args b) work out) ≡ 0
+  no-reason-lend b lb work out hw ho =
+      let p : frame n l b ≡ args b .party = sym (X .own b lb .party) in
+      no-reason (lend (args b) work out) (subst (λ (f : Frame). InRange (f .n) (f .l)) p (X .range)) (subst (λ (f : Frame). f .i < f .n) p lb)
+      (own-frame n l b (lend (args b) work out) (own-lend b lb work out)) (hw ∙ ap workLen p)
+      (ho ∙ ap (λ (f : Frame). (f .n - 1) * msgLen (f .n) (f .l) 1) p)
+
+  -- it accepts its own inputs, and what the buffers held is not seen
+  takes-given : (b : ℕ) (a : Args) → b < n → Given n l args b a
+      → (reason a ≡ 0) × (spec a ≡ outcome (sessionOf n l b 1) Accepted (area (args b)) (firstOut b))
+  unfolding area section
+  takes-given b a lb g =
+      let z : reason (lend (args b) (a .work) (a .out)) ≡ 0 = no-reason-lend b lb (a .work) (a .out) (g .work-len) (g .out-len) in
+      rw (g .inputs-are) (z, spec-takes (lend (args b) (a .work) (a .out)) (frame n l b) (X .own b lb .party) z)
 
   pub honest-opening : (W : Lawful table n l)
       → HonestOpening table (S.script n l args strings (orderFor l order)) n l opening (Agree strings order) (Given n l args) W
-  unfolding spec S.sent S.sent1
+  unfolding S.sent S.sent1
   honest-opening W = record {
-    first = record { work = λ b. area (args b); out = λ b. toOthers n b (λ r. Toss.commMsg (args b .seed) b) };
-    refuses = λ a ne. rw (ne-eqb (reason a) 0 ne) refl;
-    takes = λ b a lb g.
-        subst (λ (x : Args). (reason x ≡ 0)
-        × (spec x ≡ outcome (sessionOf n l b 1) Accepted (area (args b)) (toOthers n b (λ r. Toss.commMsg (args b .seed) b))))
-        (sym (g .inputs-are)) (takes-lent b lb (a .work) (a .out) (g .work-len) (g .out-len));
+    first = record { work = λ b. area (args b); out = firstOut };
+    refuses = spec-refuses;
+    takes = takes-given;
     keeps = known-opened n l args strings (orderFor l order) X;
     writes = λ j lj. refl;
     agrees = λ j q h g. agrees l strings order q n j h g;
