@@ -38,7 +38,7 @@ use Rattle.engine.specs.Step.{frame, Fault, other, orElse, scan, byParty}
 use Rattle.engine.specs.StepLaws.{other-is, other-cases, or-none}
 use Rattle.engine.specs.Area.{putSec}
 use Rattle.engine.specs.Sheet.{Store, Known, putAll, filled, staysTest, fills-by}
-use Rattle.engine.specs.Honest.{storeOf}
+use Rattle.engine.specs.Honest.{before, due, storeOf}
 use Rattle.rounds.specs.Area.{DELTA, SEED, PAIRS, MASKS, BITS, ALPHA, BETA, COMMS, JOINT, PAIR-COMMS, PAIRWISE, KEY-SUMS, SHARE-COMMS, DMS, LEAKY, ZS, ES, HS, H-COMMS, PERM, DS, TRIPLES, sizeOf, at, keep, rows, firstOf}
 use Rattle.rounds.specs.Echo.{hashVec}
 use Rattle.rounds.specs.Opening.{Args}
@@ -154,63 +154,63 @@ module _ (n l : ℕ) (args : ℕ → Args) (strings order : List ℕ) where
     beta-at = has-at BETA K refl (le-leb 0 t (omega arith))
 
     -- what a round fills, from then on
-    pub comms-at : leb 6 t ≡ true → at (frame n l i) COMMS w ≡ S.comms n l args strings order i
+    pub comms-at : leb (before 3) t ≡ true → at (frame n l i) COMMS w ≡ S.comms n l args strings order i
     unfolding S.holds S.since
     comms-at r = has-at COMMS K refl r
 
-    pub joint-at : leb 8 t ≡ true → at (frame n l i) JOINT w ≡ S.joint n l args strings order i
+    pub joint-at : leb (before 4) t ≡ true → at (frame n l i) JOINT w ≡ S.joint n l args strings order i
     unfolding S.holds S.since
     joint-at r = has-at JOINT K refl r
 
-    pub pair-comms-at : leb 10 t ≡ true → at (frame n l i) PAIR-COMMS w ≡ S.pairComms n l args strings order i
+    pub pair-comms-at : leb (before 5) t ≡ true → at (frame n l i) PAIR-COMMS w ≡ S.pairComms n l args strings order i
     unfolding S.holds S.since
     pair-comms-at r = has-at PAIR-COMMS K refl r
 
-    pub pairwise-at : leb 12 t ≡ true → at (frame n l i) PAIRWISE w ≡ S.pairwise n l args strings order i
+    pub pairwise-at : leb (before 6) t ≡ true → at (frame n l i) PAIRWISE w ≡ S.pairwise n l args strings order i
     unfolding S.holds S.since
     pairwise-at r = has-at PAIRWISE K refl r
 
-    pub key-sums-at : leb 13 t ≡ true → at (frame n l i) KEY-SUMS w ≡ S.keySums n l args strings order i
+    pub key-sums-at : leb (due 6) t ≡ true → at (frame n l i) KEY-SUMS w ≡ S.keySums n l args strings order i
     unfolding S.holds S.since
     key-sums-at r = has-at KEY-SUMS K refl r
 
-    pub share-comms-at : leb 20 t ≡ true → at (frame n l i) SHARE-COMMS w ≡ S.shareComms n l args strings order i
+    pub share-comms-at : leb (before 10) t ≡ true → at (frame n l i) SHARE-COMMS w ≡ S.shareComms n l args strings order i
     unfolding S.holds S.since
     share-comms-at r = has-at SHARE-COMMS K refl r
 
-    pub dms-at : leb 24 t ≡ true → at (frame n l i) DMS w ≡ S.dms n l args strings order i
+    pub dms-at : leb (before 12) t ≡ true → at (frame n l i) DMS w ≡ S.dms n l args strings order i
     unfolding S.holds S.since
     dms-at r = has-at DMS K refl r
 
-    pub leaky-at : leb 29 t ≡ true → at (frame n l i) LEAKY w ≡ S.leakyRows n l args strings order i
+    pub leaky-at : leb (due 14) t ≡ true → at (frame n l i) LEAKY w ≡ S.leakyRows n l args strings order i
     unfolding S.holds S.since
     leaky-at r = has-at LEAKY K refl r
 
-    pub zs-at : leb 30 t ≡ true → at (frame n l i) ZS w ≡ S.zRows n l args strings order i
+    pub zs-at : leb (before 15) t ≡ true → at (frame n l i) ZS w ≡ S.zRows n l args strings order i
     unfolding S.holds S.since
     zs-at r = has-at ZS K refl r
 
-    pub es-at : leb 34 t ≡ true → at (frame n l i) ES w ≡ S.es n l args strings order i
+    pub es-at : leb (before 17) t ≡ true → at (frame n l i) ES w ≡ S.es n l args strings order i
     unfolding S.holds S.since
     es-at r = has-at ES K refl r
 
-    pub hs-at : leb 34 t ≡ true → at (frame n l i) HS w ≡ S.hs n l args strings order i
+    pub hs-at : leb (before 17) t ≡ true → at (frame n l i) HS w ≡ S.hs n l args strings order i
     unfolding S.holds S.since
     hs-at r = has-at HS K refl r
 
-    pub h-comms-at : leb 38 t ≡ true → at (frame n l i) H-COMMS w ≡ S.hComms n l args strings order i
+    pub h-comms-at : leb (before 19) t ≡ true → at (frame n l i) H-COMMS w ≡ S.hComms n l args strings order i
     unfolding S.holds S.since
     h-comms-at r = has-at H-COMMS K refl r
 
-    pub perm-at : leb 43 t ≡ true → at (frame n l i) PERM w ≡ S.perms n l args strings order i
+    pub perm-at : leb (due 21) t ≡ true → at (frame n l i) PERM w ≡ S.perms n l args strings order i
     unfolding S.holds S.since
     perm-at r = has-at PERM K refl r
 
-    pub ds-at : leb 44 t ≡ true → at (frame n l i) DS w ≡ S.ds n l args strings order i
+    pub ds-at : leb (before 22) t ≡ true → at (frame n l i) DS w ≡ S.ds n l args strings order i
     unfolding S.holds S.since
     ds-at r = has-at DS K refl r
 
-    pub triples-at : leb 45 t ≡ true → at (frame n l i) TRIPLES w ≡ S.tripleRows n l args strings order i
+    pub triples-at : leb (due 22) t ≡ true → at (frame n l i) TRIPLES w ≡ S.tripleRows n l args strings order i
     unfolding S.holds S.since
     triples-at r = has-at TRIPLES K refl r
 

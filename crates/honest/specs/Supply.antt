@@ -65,7 +65,7 @@ zero-valid i c at = record { bit = rw (zero-at c at) (omega arith); mac = zero-b
 
 zero-good : (n : ℕ) (δ : ℕ → Block) (c at : ℕ) → Good blocks n δ (sharedAt (λ b. zeros c) at)
 unfolding sharedAt bitAt macAt keyAt odd
-zero-good n δ c at i j li lj ne = rw (zero-at c at, zero-block c, zero-block c) (sym (blocks .unit (blocks .nil)))
+zero-good n δ c at i j li lj ne = simp (zero-at, zero-block) (sym (blocks .unit (blocks .nil)))
 
 pub zero-boxes : (n l : ℕ) → InRange n l → Boxes n l (zeroArgs n l)
 zero-boxes n l r = record {
