@@ -1,0 +1,312 @@
+-- Opening in an honest run: the inputs of demand 3 have no reason to be refused, what has one changes nothing, and what opening leaves is what the
+-- script says.
+use mathlib.Core.Path.{_≡_, refl, sym, ap, ap₂, _∙_, subst}
+use mathlib.Core.Bool.{Bool, true, false, _&&_, _||_}
+use mathlib.Core.Logic.{_≢_}
+use mathlib.Core.List.{List, [], _∷_}
+use Prim.Native.Nat.{ℕ, suc, _+_, _-_, _*_, _<_, _≤_}
+use native.Mathlib.Omega.{arith}
+use lib.ListN.{length, getD, replicate, length-replicate}
+use lib.Dec.{ltb, leb, eqb}
+use borrow.Author.Tests.{ltb-true, ltb-false, lt-ltb, le-leb, eq-eqb, ne-eqb, eqb-true}
+use Rattle.lists.specs.Pick.{pick}
+use Rattle.lists.specs.All.{allOf, all-of, of-all}
+use Rattle.lists.specs.Over.{tab, length-tab, getD-tab}
+use Rattle.algebra.specs.Sum.{neq, Same, apart, apart?}
+use Rattle.share.specs.RecordLaws.{valid-faults}
+use Rattle.permutation.specs.Permutation.{isPerm}
+use Rattle.permutation.specs.PermutationLaws.{perm-of}
+use Rattle.plan.specs.Plan.{InRange, leaky, bitsCount, rLen, msgLen}
+use Rattle.engine.specs.declared.Frame.{Frame}
+use Rattle.engine.specs.declared.Verdict.the-variants.{Accepted, Refused}
+use Rattle.engine.specs.Step.{frame, Loan, Outcome, outcome}
+use Rattle.engine.specs.World.{sessionOf}
+use Rattle.engine.specs.Area.{toOthers, mem, Every, every-mem}
+use Rattle.engine.specs.Sheet.{Known, known-lay}
+use Rattle.engine.specs.Plain.{noLoan}
+use Rattle.engine.specs.Honest.{Lawful, due}
+use Rattle.engine.specs.PlainSession.{none-lent, HonestOpening}
+use Rattle.rounds.specs.Area.{DELTA, SEED, PAIRS, MASKS, BITS, ALPHA, BETA, MARKS, sizes, sizeOf, workLen}
+use Rattle.rounds.specs.Opening.{Args, listsDue, buffersDue, masksFault, orFault, bytesFault, reason, section, area, spec, opening}
+use Rattle.rounds.specs.Table.{table, lent}
+use Rattle.rounds.specs.Toss as Toss
+use Rattle.honest.specs.Script as S
+use Rattle.honest.specs.Inputs.{Own, Boxes, Inputs}
+use Rattle.honest.specs.Base.{Run}
+
+-- ---- no reason to refuse
+module _ (a : Args) (r : InRange (a .party .n) (a .party .l)) (li : a .party .i < a .party .n) (o : Own (a .party .n) (a .party .l) (a .party .i) a) where
+  lists-due : listsDue a ≡ true
+  unfolding listsDue
+  lists-due = rw (eq-eqb _ _ (o .bits-len), eq-eqb _ _ (o .alpha-len), eq-eqb _ _ (o .beta-len)) refl
+
+  buffers-due : length (a .work) ≡ workLen (a .party) → length (a .out) ≡ (a .party .n - 1) * msgLen (a .party .n) (a .party .l) 1
+      → buffersDue a ≡ true
+  unfolding buffersDue
+  buffers-due hw ho =
+      rw (
+        eq-eqb _ _ (o .delta-len),
+        eq-eqb _ _ (o .seed-len),
+        eq-eqb _ _ (o .pairs-len),
+        eq-eqb _ _ (o .masks-len),
+        eq-eqb _ _ hw,
+        eq-eqb _ _ ho,
+      ) refl
+
+  masks-none : masksFault a ≡ 0
+  unfolding masksFault
+  masks-none = rw (all-of (a .party .n) _ (λ k lk. go k lk (neq (a .party .i) k) (apart? (a .party .i) k))) refl
+    where
+      go : (k : ℕ) → k < a .party .n → (b : Bool) → Same (a .party .i) k b
+          → pick b (allOf (leaky (a .party .l)) (λ t. leb (getD (a .masks) (k * leaky (a .party .l) + t) 0) 1)) true ≡ true
+      go k lk false s = refl
+      go k lk true (apart ne) = all-of (leaky (a .party .l)) _ (λ t lt. le-leb _ 1 (o .mask-bits k t lk ne lt))
+
+  bytes-none : bytesFault a ≡ 0
+  unfolding bytesFault orFault
+  bytes-none =
+      rw (
+        valid-faults (a .party .n) (a .party .i) (a .bits) (bitsCount (a .party .l)) (o .bits-valid),
+        valid-faults (a .party .n) (a .party .i) (a .alpha) (a .party .l) (o .alpha-valid),
+        valid-faults (a .party .n) (a .party .i) (a .beta) (a .party .l) (o .beta-valid),
+        masks-none,
+      ) refl
+
+  pub no-reason : length (a .work) ≡ workLen (a .party) → length (a .out) ≡ (a .party .n - 1) * msgLen (a .party .n) (a .party .l) 1
+      → reason a ≡ 0
+  unfolding reason
+  no-reason hw ho =
+      rw (
+        le-leb 2 (a .party .n) (r .two),
+        le-leb (a .party .n) 8 (r .eight),
+        lt-ltb (a .party .i) (a .party .n) li,
+        le-leb (a .party .l) 300000 (r .most),
+        ne-eqb (a .party .l) 0 (omega (arith, r .one)),
+        lists-due,
+        buffers-due hw ho,
+      ) bytes-none
+
+-- ---- the work area that it lays out
+abbrev inputs : List ℕ
+inputs = DELTA ∷ SEED ∷ PAIRS ∷ MASKS ∷ BITS ∷ ALPHA ∷ BETA ∷ []
+
+-- a claim on the sections that hold inputs
+first-seven : (Q : ℕ → Type 0) → Every Q inputs → (s : ℕ) → s < 7 → Q s
+unfolding allOf mem
+first-seven Q h s l = every-mem Q inputs h s (of-all 7 (λ s. mem s inputs) refl s l)
+
+-- all else is zero
+section-zero : (a : Args) (s : ℕ) → 7 ≤ s → section a s ≡ replicate (sizeOf (a .party) s) 0
+unfolding section
+section-zero a s h =
+    rw (
+      ne-eqb s 0 (omega arith),
+      ne-eqb s 1 (omega arith),
+      ne-eqb s 2 (omega arith),
+      ne-eqb s 3 (omega arith),
+      ne-eqb s 4 (omega arith),
+      ne-eqb s 5 (omega arith),
+      ne-eqb s 6 (omega arith),
+    ) refl
+
+section-len : (a : Args) → Own (a .party .n) (a .party .l) (a .party .i) a → (s : ℕ) → length (section a s) ≡ sizeOf (a .party) s
+unfolding section sizeOf sizes
+section-len a o s = go (ltb s 7) refl
+  where
+    go : (b : Bool) → ltb s 7 ≡ b → length (section a s) ≡ sizeOf (a .party) s
+    go true e =
+        first-seven (λ s. length (section a s) ≡ sizeOf (a .party) s)
+        (o .delta-len, (o .seed-len, (o .pairs-len, (o .masks-len, (o .bits-len, (o .alpha-len, (o .beta-len, tt)))))))
+        s (ltb-true s 7 e)
+    go false e = ap length (section-zero a s (ltb-false s 7 e)) ∙ length-replicate {A = ℕ} (sizeOf (a .party) s) 0
+
+-- in the words of its frame
+pub own-frame : (n l b : ℕ) (a : Args) → Own n l b a → Own (a .party .n) (a .party .l) (a .party .i) a
+own-frame n l b a o = subst (λ (f : Frame). Own (f .n) (f .l) (f .i) a) (sym (o .party)) o
+
+module _ (n l : ℕ) (args : ℕ → Args) (strings order : List ℕ) (X : Boxes n l args) where
+  -- what is ready when round 1 is due is an input; MARKS never holds anything else than zeros
+  early : allOf 23 (λ s. pick (leb (S.since n l args strings order s) 3) (ltb s 7 || eqb s MARKS) true) ≡ true
+  unfolding allOf S.since
+  early = refl
+
+  val-first : (i : ℕ) → i < n → (s : ℕ) → s < 23 → leb (S.since n l args strings order s) 3 ≡ true
+      → section (args i) s ≡ S.holds n l args strings order i s
+  unfolding section S.holds
+  val-first i li s ls r = go (ltb s 7) refl
+    where
+      mark : ltb s 7 ≡ false → s ≡ MARKS
+      mark e =
+          eqb-true s MARKS
+          (sym (ap (λ b. b || eqb s MARKS) e)
+          ∙ sym (ap (λ b. pick b (ltb s 7 || eqb s MARKS) true) r) ∙ of-all 23 _ early s ls)
+
+      go : (b : Bool) → ltb s 7 ≡ b → section (args i) s ≡ S.holds n l args strings order i s
+      go true e =
+          first-seven (λ s. section (args i) s ≡ S.holds n l args strings order i s)
+          (refl, (refl, (refl, (refl, (refl, (refl, (refl, tt))))))) s (ltb-true s 7 e)
+      go false e =
+          subst (λ s. section (args i) s ≡ S.holds n l args strings order i s) (sym (mark e))
+          (ap (λ (f : Frame). replicate (sizeOf f MARKS) 0) (X .own i li .party))
+
+  pub known-opened : (i : ℕ) → i < n → Known n l (Run n l args strings order) (due 1) i (area (args i))
+  unfolding area
+  known-opened i li =
+      known-lay n l (Run n l args strings order) (omega arith) (due 1) i (section (args i))
+      (λ s ls. section-len (args i) (own-frame n l i (args i) (X .own i li)) s ∙ ap (λ (f : Frame). sizeOf f s) (X .own i li .party))
+      (val-first i li)
+
+-- ---- what demand 3 asks of a call of opening, and of the r Blocks and the permutation
+-- "work areas and buffers hold anything": the inputs of a with another work area and outgoing buffer
+abbrev pub lend : Args → List ℕ → List ℕ → Args
+lend a work out = record {
+  party = a .party;
+  delta = a .delta;
+  seed = a .seed;
+  pairs = a .pairs;
+  bits = a .bits;
+  alpha = a .alpha;
+  beta = a .beta;
+  masks = a .masks;
+  work = work;
+  out = out;
+}
+
+-- a is box b's opening: its inputs, and lent buffers of due length
+pub record Given (n l : ℕ) (args : ℕ → Args) (b : ℕ) (a : Args) : Type 0 where
+  pub inputs-are : a ≡ lend (args b) (a .work) (a .out)
+  pub work-len : length (a .work) ≡ workLen (frame n l b)
+  pub out-len : length (a .out) ≡ (n - 1) * msgLen n l 1
+
+-- "its r Blocks and permutation, where due, equal the other boxes'": they are due with the calls that write rounds 6 and 21
+pub record Agree (strings order : List ℕ) (j : ℕ) (q : Loan) : Type 0 where
+  pub r-is : j ≡ 6 → q .r ≡ strings
+  pub perm-is : j ≡ 21 → q .perm ≡ order
+
+-- Where the list that all boxes are lent is no permutation, none accepts it (18): the script then runs with some other one.
+unfoldable pub orderFor : ℕ → List ℕ → List ℕ
+orderFor l p = pick (eqb (length p) (leaky l) && isPerm p) p (tab (leaky l) (λ t. t))
+
+pub inputs-for : (n l : ℕ) (args : ℕ → Args) (order : List ℕ) → Boxes n l args → Inputs n l args (orderFor l order)
+unfolding orderFor
+inputs-for n l args order X = go (eqb (length order) (leaky l)) refl (isPerm order) refl
+  where
+    same-order : List ℕ
+    same-order = tab (leaky l) (λ t. t)
+
+    long : length same-order ≡ leaky l
+    long = length-tab (leaky l) (λ t. t)
+
+    at : (t : ℕ) → t < length same-order → getD same-order t 0 ≡ t
+    at t h = getD-tab (leaky l) t (λ t. t) 0 (omega (arith, long))
+
+    perm : isPerm same-order ≡ true
+    perm = perm-of same-order (λ t h. rw (at t h) h) (λ u t h k e. omega (arith, at u (omega arith), at t k))
+
+    other : Inputs n l args same-order
+    other = record { boxes = X; order-len = long; order-perm = perm }
+
+    go : (a : Bool) → eqb (length order) (leaky l) ≡ a → (b : Bool) → isPerm order ≡ b → Inputs n l args (pick (a && b) order same-order)
+    go true ea true eb = record { boxes = X; order-len = eqb-true _ _ ea; order-perm = eb }
+    go true ea false eb = other
+    go false ea b eb = other
+
+-- ---- the loans: what passes 17 and 18 and agrees is what the script lends
+empty : (x : List ℕ) → eqb (length x) 0 ≡ true → x ≡ []
+empty [] h = refl
+empty (a ∷ x) h = absurd (let e : suc (length x) ≡ 0 = eqb-true _ _ h in omega arith)
+
+abbrev loan : List ℕ → List ℕ → Loan
+loan r perm = record { r = r; perm = perm }
+
+module _ (l : ℕ) (strings order : List ℕ) (q : Loan) where
+  -- the r Blocks
+  agrees-r : _≡_ {A = ℕ} (pick (eqb (length (q .r)) (rLen l) && eqb (length (q .perm)) 0) 0 17) 0 → q .r ≡ strings → q ≡ loan strings []
+  agrees-r h e = go (eqb (length (q .r)) (rLen l)) (eqb (length (q .perm)) 0) refl h
+    where
+      go : (a b : Bool) → eqb (length (q .perm)) 0 ≡ b → _≡_ {A = ℕ} (pick (a && b) 0 17) 0 → q ≡ loan strings []
+      go true true eb h = ap₂ loan e (empty (q .perm) eb)
+      go true false eb h = absurd (omega arith)
+      go false b eb h = absurd (omega arith)
+
+  -- the permutation
+  agrees-perm : _≡_ {A = ℕ} (pick (eqb (length (q .r)) 0 && eqb (length (q .perm)) (leaky l)) (pick (isPerm (q .perm)) 0 18) 17) 0
+      → q .perm ≡ order → q ≡ loan [] (orderFor l order)
+  unfolding orderFor
+  agrees-perm h e = go (eqb (length (q .r)) 0) refl (eqb (length (q .perm)) (leaky l)) refl (isPerm (q .perm)) refl h
+    where
+      go : (a : Bool) → eqb (length (q .r)) 0 ≡ a → (b : Bool) → eqb (length (q .perm)) (leaky l) ≡ b → (c : Bool) → isPerm (q .perm) ≡ c
+          → _≡_ {A = ℕ} (pick (a && b) (pick c 0 18) 17) 0
+          → q ≡ loan [] (pick (eqb (length order) (leaky l) && isPerm order) order (tab (leaky l) (λ t. t)))
+      go true ea true eb true ec h =
+          ap₂ loan (empty (q .r) ea)
+          (e ∙ ap (λ b. pick b order (tab (leaky l) (λ t. t)))
+          (sym (ap (λ (p : List ℕ). eqb (length p) (leaky l) && isPerm p) (sym e) ∙ ap₂ _&&_ eb ec)))
+      go true ea true eb false ec h = absurd (omega arith)
+      go true ea false eb c ec h = absurd (omega arith)
+      go false ea b eb c ec h = absurd (omega arith)
+
+  pub agrees : (n j : ℕ) → lent j n l q ≡ 0 → Agree strings order j q
+      → q ≡ loan (pick (eqb j 6) strings []) (pick (eqb j 21) (orderFor l order) [])
+  unfolding lent
+  agrees n j h g = go (eqb j 6) refl (eqb j 21) refl h
+    where
+      go : (a : Bool) → eqb j 6 ≡ a → (b : Bool) → eqb j 21 ≡ b
+          → pick a (pick (eqb (length (q .r)) (rLen l) && eqb (length (q .perm)) 0) 0 17)
+          (pick b (pick (eqb (length (q .r)) 0 && eqb (length (q .perm)) (leaky l)) (pick (isPerm (q .perm)) 0 18) 17) (noLoan q)) ≡ 0
+          → q ≡ loan (pick a strings []) (pick b (orderFor l order) [])
+      go true ea true eb h = absurd (omega (arith, eqb-true j 6 ea, eqb-true j 21 eb))
+      go true ea false eb h = agrees-r h (g .r-is (eqb-true j 6 ea))
+      go false ea true eb h = agrees-perm h (g .perm-is (eqb-true j 21 eb))
+      go false ea false eb h = none-lent q h
+
+-- ---- what opening owes
+-- accepted
+spec-takes : (a : Args) (f : Frame) → a .party ≡ f → reason a ≡ 0
+    → spec a ≡ outcome (record { party = f; due = 1 }) Accepted (area a) (toOthers (f .n) (f .i) (λ r. Toss.commMsg (a .seed) (f .i)))
+unfolding spec
+spec-takes a f p z =
+    let left : Frame → Outcome = λ f.
+    outcome (record { party = f; due = 1 }) Accepted (area a) (toOthers (f .n) (f .i) (λ r. Toss.commMsg (a .seed) (f .i))) in
+    rw (eq-eqb (reason a) 0 z) (ap left p)
+
+spec-refuses : (a : Args) → reason a ≢ 0
+    → spec a ≡ outcome (spec a .session) (Refused (reason a) (a .party .i)) (a .work) (a .out)
+unfolding spec
+spec-refuses a ne = rw (ne-eqb (reason a) 0 ne) refl
+
+module _ (n l : ℕ) (args : ℕ → Args) (strings order : List ℕ) (X : Boxes n l args) where
+  -- what box b's opening writes: the commitment of its seed
+  abbrev pub firstOut : ℕ → List ℕ
+  firstOut b = toOthers n b (λ r. Toss.commMsg (args b .seed) b)
+
+  own-lend : (b : ℕ) → b < n → (work out : List ℕ) → Own n l b (lend (args b) work out)
+  own-lend b lb work out = let o = X .own b lb in search
+
+  no-reason-lend : (b : ℕ) → b < n → (work out : List ℕ) → length work ≡ workLen (frame n l b) → length out ≡ (n - 1) * msgLen n l 1
+      → reason (lend (args b) work out) ≡ 0
+  no-reason-lend b lb work out hw ho =
+      let p : frame n l b ≡ args b .party = sym (X .own b lb .party) in
+      no-reason (lend (args b) work out) (subst (λ (f : Frame). InRange (f .n) (f .l)) p (X .range)) (subst (λ (f : Frame). f .i < f .n) p lb)
+      (own-frame n l b (lend (args b) work out) (own-lend b lb work out)) (hw ∙ ap workLen p)
+      (ho ∙ ap (λ (f : Frame). (f .n - 1) * msgLen (f .n) (f .l) 1) p)
+
+  -- it accepts its own inputs, and what the buffers held is not seen
+  takes-given : (b : ℕ) (a : Args) → b < n → Given n l args b a
+      → (reason a ≡ 0) × (spec a ≡ outcome (sessionOf n l b 1) Accepted (area (args b)) (firstOut b))
+  unfolding area section
+  takes-given b a lb g =
+      let z : reason (lend (args b) (a .work) (a .out)) ≡ 0 = no-reason-lend b lb (a .work) (a .out) (g .work-len) (g .out-len) in
+      rw (g .inputs-are) (z, spec-takes (lend (args b) (a .work) (a .out)) (frame n l b) (X .own b lb .party) z)
+
+  pub honest-opening : (W : Lawful table n l)
+      → HonestOpening table (S.script n l args strings (orderFor l order)) n l opening (Agree strings order) (Given n l args) W
+  unfolding S.sent S.sent1
+  honest-opening W = record {
+    first = record { work = λ b. area (args b); out = firstOut };
+    refuses = spec-refuses;
+    takes = takes-given;
+    keeps = known-opened n l args strings (orderFor l order) X;
+    writes = λ j lj. refl;
+    agrees = λ j q h g. agrees l strings order q n j h g;
+  }
