@@ -4,3 +4,6 @@ pub mod Base
 pub mod Toss
 pub mod Echo
 pub mod Opening
+pub mod Firsts
+pub mod Cells
+pub mod Fabitn
