@@ -7,3 +7,4 @@ pub mod Opening
 pub mod Firsts
 pub mod Cells
 pub mod Fabitn
+pub mod Fashare
