@@ -15,7 +15,7 @@ use Rattle.block.specs.Block.{wordAt}
 use Rattle.block.specs.Trip.{word-drop}
 use Rattle.message.specs.declared.Kind.the-variants.{Items, Dvalues, Options}
 use Rattle.message.specs.Format.{bools, vecLen, itemLen, innerDue}
-use Rattle.message.specs.FormatLaws.{and-true, first-false, bools-false, bools-past, Held, vec-some, vec-none, vec-held, vec-le, items-some, items-short, items-not, bucket-some, bucket-short, bucket-not, bucket-bare, bucket-held}
+use Rattle.message.specs.FormatLaws.{word-at, and-true, first-false, bools-false, bools-past, Held, vec-some, vec-none, vec-held, vec-le, items-some, items-short, items-not, bucket-some, bucket-short, bucket-not, bucket-bare, bucket-held}
 
 -- ---- bools
 pub bools-none : (s : List ℕ) → bools 0 s ≡ true
@@ -33,16 +33,13 @@ module _ (s : List ℕ) (at k : ℕ) where
   bools-stop c l h = sym (bools-false (drop at s) c k l (let e : getD (drop at s) k 0 ≡ getD s (at + k) 0 = getD-drop at s k 0 in omega arith))
 
 -- ---- a count, and what is left for its items
-pub word-here : (s : List ℕ) (at : ℕ) → wordAt (drop at s) 0 ≡ wordAt s at
-word-here s at = word-drop s at 0 ∙ ap (wordAt s) (add-zero at)
-
 module _ (s : List ℕ) (at size : ℕ) (h : 0 < size) where
   pub vec-short : length s - at < 8 → 0 ≡ vecLen size (drop at s)
   vec-short l = sym (vec-none size (drop at s) (omega (arith, length-drop at s)))
 
   pub vec-over : (w : ℕ) → w ≡ wordAt s at → (length s - at - 8) / size < w → 0 ≡ vecLen size (drop at s)
   vec-over w e l =
-      let k : length s - at - 8 < wordAt (drop at s) 0 * size = rw (word-here s at, ← e) (div-lt-iff-lt-mul h .0 l) in
+      let k : length s - at - 8 < wordAt (drop at s) 0 * size = rw (word-at s at, ← e) (div-lt-iff-lt-mul h .0 l) in
       sym (vec-none size (drop at s) (omega (arith, length-drop at s)))
 
   pub vec-room : (w : ℕ) → w ≤ (length s - at - 8) / size → w * size ≤ length s - at - 8
@@ -50,7 +47,7 @@ module _ (s : List ℕ) (at size : ℕ) (h : 0 < size) where
 
   pub vec-whole : (w : ℕ) → w ≡ wordAt s at → 8 ≤ length s - at → w ≤ (length s - at - 8) / size → 8 + w * size ≡ vecLen size (drop at s)
   vec-whole w e l r =
-      let q : wordAt (drop at s) 0 ≡ w = word-here s at ∙ sym e in
+      let q : wordAt (drop at s) 0 ≡ w = word-at s at ∙ sym e in
       sym (vec-some size (drop at s) (rw q (omega (arith, vec-room w r, length-drop at s))) ∙ ap (λ n. 8 + n * size) q)
 
 -- ---- an option, by what is left and its first byte
@@ -95,12 +92,12 @@ module _ (s : List ℕ) (at due : ℕ) where
   pub due-not : (w : ℕ) → w ≡ wordAt s at → (w ≡ due → ⊥) → false ≡ innerDue (Dvalues due) (drop at s)
   unfolding innerDue
   due-not w e n =
-      sym (first-false (eqb (wordAt (drop at s) 0) due) _ (ne-eqb (wordAt (drop at s) 0) due (λ q. n (e ∙ sym (word-here s at) ∙ q))))
+      sym (first-false (eqb (wordAt (drop at s) 0) due) _ (ne-eqb (wordAt (drop at s) 0) due (λ q. n (e ∙ sym (word-at s at) ∙ q))))
 
   pub due-both : (w v : ℕ) → w ≡ wordAt s at → w ≡ due → v ≡ wordAt s (at + 8 + due) → eqb v due ≡ innerDue (Dvalues due) (drop at s)
   unfolding innerDue
   due-both w v e q f =
-      let p : wordAt (drop at s) 0 ≡ due = word-here s at ∙ sym e ∙ q in
+      let p : wordAt (drop at s) 0 ≡ due = word-at s at ∙ sym e ∙ q in
       let k : wordAt (drop at s) (8 + wordAt (drop at s) 0) ≡ v =
       word-drop s at (8 + wordAt (drop at s) 0)
       ∙ ap (wordAt s) (let r : at + (8 + wordAt (drop at s) 0) ≡ at + 8 + due = omega (arith, p) in r) ∙ sym f in
@@ -110,7 +107,7 @@ module _ (s : List ℕ) (at due : ℕ) where
   pub bucket-head : 0 < itemLen (Dvalues due) (drop at s) → at + 8 + wordAt s at + 8 ≤ length s
   bucket-head h =
       let w = bucket-held due (drop at s) h in
-      omega (arith, w .ds .fits, w .macs .fits, length-drop at s, length-drop (8 + wordAt (drop at s) 0) (drop at s), word-here s at)
+      omega (arith, w .ds .fits, w .macs .fits, length-drop at s, length-drop (8 + wordAt (drop at s) 0) (drop at s), word-at s at)
 
 -- ---- an item of a fixed size: bools are looked for as far as the message goes
 module _ (s : List ℕ) (at size count : ℕ) where

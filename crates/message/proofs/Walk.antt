@@ -9,11 +9,10 @@ use lib.Dec.{ltb, eqb}
 use borrow.Author.Tests.{ltb-true, ltb-false, eqb-true}
 use Rattle.lists.specs.All.{all-zero, all-turn, all-false}
 use Rattle.block.specs.Block.{wordAt}
-use Rattle.block.specs.Trip.{word-drop}
 use Rattle.message.specs.declared.Kind.{Kind}
 use Rattle.message.specs.declared.Kind.the-variants.{Dvalues}
 use Rattle.message.specs.Format.{itemLen, itemAt, countOf, decodes, listLen, innerDue, innersDue}
-use Rattle.message.specs.FormatLaws.{and-true, and-first, and-second, item-le, at-zero, at-next, decoded, decodes-of, decodes-short, decodes-bad, list-some, list-none, bucket-held, bucket-bytes}
+use Rattle.message.specs.FormatLaws.{word-at, and-true, and-first, and-second, item-le, at-zero, at-next, decoded, decodes-of, decodes-short, decodes-bad, list-some, list-none, bucket-held, bucket-bytes}
 
 -- the first t items decode, and item t begins at pos
 pub record Walked (K : Kind) (m : List ℕ) (t pos : ℕ) : Type 0 where
@@ -91,6 +90,5 @@ module _ (m : List ℕ) (due : ℕ) where
         let y = eqb (wordAt s (8 + wordAt s 0)) due in
         let d : wordAt s 0 ≡ due = eqb-true (wordAt s 0) due (and-first x y p) in
         let v : wordAt s (8 + wordAt s 0) ≡ due = eqb-true (wordAt s (8 + wordAt s 0)) due (and-second x y p) in
-        let u : wordAt (drop (8 + wordAt s 0) s) 0 ≡ due =
-        word-drop s (8 + wordAt s 0) 0 ∙ ap (wordAt s) (let r : 8 + wordAt s 0 + 0 ≡ 8 + wordAt s 0 = omega arith in r) ∙ v in
+        let u : wordAt (drop (8 + wordAt s 0) s) 0 ≡ due = word-at s (8 + wordAt s 0) ∙ v in
         omega (arith, bucket-bytes due s (bucket-held due s h), d, u)

@@ -2,8 +2,9 @@
 use mathlib.Core.Path.{_≡_, refl, sym, ap, ap₂, _∙_, subst}
 use mathlib.Core.Bool.{Bool, true, false, _&&_}
 use mathlib.Core.List.{List}
+use mathlib.Core.Logic.{_⊎_, inl, inr}
 use Prim.Native.Nat.{ℕ, zero, suc, _+_, _-_, _*_, _<_, _≤_}
-use native.Mathlib.Nat.{zero-mul, suc-mul}
+use native.Mathlib.Nat.{zero-mul, suc-mul, add-zero}
 use native.Mathlib.Numerals.{add-one}
 use native.Mathlib.Omega.{arith}
 use lib.ListN.{length, getD, take, drop, length-drop, List·getD-eq-default}
@@ -13,6 +14,7 @@ use borrow.Author.Tests.{lt-ltb, le-ltb, le-leb, lt-leb, eq-eqb, ne-eqb, ltb-tru
 use Rattle.lists.specs.Pick.{pick, pick-then}
 use Rattle.lists.specs.All.{all-of, of-all, all-false, true-false}
 use Rattle.block.specs.Block.{wordAt}
+use Rattle.block.specs.Trip.{word-drop}
 use Rattle.message.specs.declared.Kind.{Kind}
 use Rattle.message.specs.declared.Kind.the-variants.{Items, Dms, Dvalues, Options}
 use Rattle.message.specs.Format.{bools, vecLen, bothLen, itemLen, itemAt, countOf, decodes, listLen, listOf, innerDue, innersDue, formOf}
@@ -361,14 +363,16 @@ unfolding innersDue innerDue
 inners-options count m = all-of count (λ t. innerDue Options (drop (itemAt Options m t) m)) (λ t l. refl)
 
 -- ---- items of a fixed size
-module _ (size c : ℕ) (m : List ℕ) where
-  pub fixed-at : (t : ℕ) → ((j : ℕ) → j < t → 0 < itemLen (Items size c) (drop (itemAt (Items size c) m j) m)) → itemAt (Items size c) m t ≡ 8 + t * size
-  unfolding itemAt
-  fixed-at zero h = rw (zero-mul size)
-  fixed-at (suc t) h =
-      let e = fixed-at t (λ j k. h j (omega arith)) in
-      let w = items-held size c (drop (itemAt (Items size c) m t) m) (h t (omega arith)) in
-      omega (arith, e, w .is, suc-mul t size)
+pub level-at : (K : Kind) (m : List ℕ) (size t : ℕ) → ((j : ℕ) → j < t → itemLen K (drop (itemAt K m j) m) ≡ size) → itemAt K m t ≡ 8 + t * size
+unfolding itemAt
+level-at K m size zero h = rw (zero-mul size)
+level-at K m size (suc t) h =
+    let e = level-at K m size t (λ j k. h j (omega arith)) in
+    omega (arith, e, h t (omega arith), suc-mul t size)
+
+pub fixed-at : (size c : ℕ) (m : List ℕ) (t : ℕ) → ((j : ℕ) → j < t → 0 < itemLen (Items size c) (drop (itemAt (Items size c) m j) m))
+    → itemAt (Items size c) m t ≡ 8 + t * size
+fixed-at size c m t h = level-at (Items size c) m size t (λ j k. items-held size c (drop (itemAt (Items size c) m j) m) (h j k) .is)
 
 -- a list of `count` items of `size` bytes, the first c of each bools
 pub record Fixed (size c count : ℕ) (m : List ℕ) : Type 0 where
@@ -401,3 +405,107 @@ fixed size c count m h = record {
 
     starts : (t : ℕ) → t ≤ count → itemAt (Items size c) m t ≡ 8 + t * size
     starts t l = fixed-at size c m t (λ j k. held j (omega arith))
+
+-- ---- an item of a message of the right form
+module _ (K : Kind) (count : ℕ) (m : List ℕ) (h : formOf K count m ≡ 0) where
+  pub formed-at : (t : ℕ) → itemAt K m t ≤ length m
+  formed-at t = at-le K m (decoded K m (formed K count m h .decodes-is) .head) t
+
+  pub formed-item : (t : ℕ) → t < count → 0 < itemLen K (drop (itemAt K m t) m)
+  formed-item t l =
+      let w = formed K count m h in
+      decoded K m (w .decodes-is) .item t (omega (arith, w .count-is))
+
+-- a word where an item begins
+pub word-at : (s : List ℕ) (a : ℕ) → wordAt (drop a s) 0 ≡ wordAt s a
+word-at s a = word-drop s a 0 ∙ ap (wordAt s) (add-zero a)
+
+-- a dm at a: its length, and room for it
+pub record Dm (m : List ℕ) (a : ℕ) : Type 0 where
+  pub fits : a + 8 + wordAt m a ≤ length m
+  pub is : itemLen Dms (drop a m) ≡ 8 + wordAt m a
+
+pub dm-held : (m : List ℕ) (a : ℕ) → a ≤ length m → 0 < itemLen Dms (drop a m) → Dm m a
+unfolding itemLen
+dm-held m a l h =
+    let w = vec-held 1 (drop a m) h in
+    record { fits = omega (arith, w .fits, word-at m a, length-drop a m); is = omega (arith, w .is, word-at m a) }
+
+-- an option at a: absent, or present with room for a Block
+pub record Entry (m : List ℕ) (a : ℕ) : Type 0 where
+  pub tag : a < length m
+  pub either : ((getD m a 0 ≡ 0) × (itemLen Options (drop a m) ≡ 1))
+      ⊎ ((getD m a 0 ≡ 1) × ((itemLen Options (drop a m) ≡ 17) × (a + 17 ≤ length m)))
+
+pub entry-held : (m : List ℕ) (a : ℕ) → 0 < itemLen Options (drop a m) → Entry m a
+unfolding itemLen
+entry-held m a h = go (ltb 0 (length s)) refl (eqb (getD s 0 0) 0) refl (eqb (getD s 0 0) 1) refl (leb 17 (length s)) refl h
+  where
+    s : List ℕ
+    s = drop a m
+
+    byte : getD s 0 0 ≡ getD m a 0
+    byte = getD-drop a m 0 0 ∙ ap (λ k. getD m k 0) (add-zero a)
+
+    go : (b : Bool) → ltb 0 (length s) ≡ b → (z : Bool) → eqb (getD s 0 0) 0 ≡ z → (u : Bool) → eqb (getD s 0 0) 1 ≡ u
+        → (r : Bool) → leb 17 (length s) ≡ r → 0 < pick b (pick z 1 (pick (u && r) 17 0)) 0 → Entry m a
+    go true e true f u g r i h = record {
+      tag = omega (arith, ltb-true 0 (length s) e, length-drop a m);
+      either = inl (sym byte ∙ eqb-true (getD s 0 0) 0 f, rw (e, f) refl);
+    }
+    go true e false f true g true i h = record {
+      tag = omega (arith, ltb-true 0 (length s) e, length-drop a m);
+      either = inr (sym byte ∙ eqb-true (getD s 0 0) 1 g, (rw (e, f, g, i) refl, omega (arith, leb-true 17 (length s) i, length-drop a m)));
+    }
+    go true e false f true g false i h = absurd (omega arith)
+    go true e false f false g r i h = absurd (omega arith)
+    go false e z f u g r i h = absurd (omega arith)
+
+-- a list of `count` buckets, each of `due` d values and as many MACs
+pub record Buckets (due count : ℕ) (m : List ℕ) : Type 0 where
+  pub count-is : countOf m ≡ count
+  pub fits : 8 + count * (16 + due * 17) ≤ length m
+  pub at : (t : ℕ) → t ≤ count → itemAt (Dvalues due) m t ≡ 8 + t * (16 + due * 17)
+  pub bits : (t k : ℕ) → t < count → k < due → getD m (8 + t * (16 + due * 17) + 8 + k) 0 ≤ 1
+
+pub buckets : (due count : ℕ) (m : List ℕ) → formOf (Dvalues due) count m ≡ 0 → Buckets due count m
+unfolding innersDue innerDue
+buckets due count m h = record {
+  count-is = w .count-is;
+  fits = omega (arith, starts count (omega arith), formed-at K count m h count);
+  at = starts;
+  bits = λ t k l j. subst (λ a. a ≤ 1) (place t k l)
+      (of-bools (drop 8 (s t)) (wordAt (s t) 0) (bucket-held due (s t) (formed-item K count m h t l) .bits) k (omega (arith, first t l)));
+}
+  where
+    K : Kind
+    K = Dvalues due
+
+    w : Formed K count m
+    w = formed K count m h
+
+    s : ℕ → List ℕ
+    s t = drop (itemAt K m t) m
+
+    both : (t : ℕ) → t < count → innerDue K (s t) ≡ true
+    both = of-all count (λ t. innerDue K (s t)) (w .inner-is)
+
+    first : (t : ℕ) → t < count → wordAt (s t) 0 ≡ due
+    first t l = eqb-true (wordAt (s t) 0) due (and-first (eqb (wordAt (s t) 0) due) (eqb (wordAt (s t) (8 + wordAt (s t) 0)) due) (both t l))
+
+    second : (t : ℕ) → t < count → wordAt (drop (8 + wordAt (s t) 0) (s t)) 0 ≡ due
+    second t l =
+        word-at (s t) (8 + wordAt (s t) 0)
+        ∙ eqb-true (wordAt (s t) (8 + wordAt (s t) 0)) due
+        (and-second (eqb (wordAt (s t) 0) due) (eqb (wordAt (s t) (8 + wordAt (s t) 0)) due) (both t l))
+
+    long : (t : ℕ) → t < count → itemLen K (s t) ≡ 16 + due * 17
+    long t l = omega (arith, bucket-bytes due (s t) (bucket-held due (s t) (formed-item K count m h t l)), first t l, second t l)
+
+    starts : (t : ℕ) → t ≤ count → itemAt K m t ≡ 8 + t * (16 + due * 17)
+    starts t l = level-at K m (16 + due * 17) t (λ j k. long j (omega arith))
+
+    place : (t k : ℕ) → t < count → getD (drop 8 (s t)) k 0 ≡ getD m (8 + t * (16 + due * 17) + 8 + k) 0
+    place t k l =
+        getD-drop 8 (s t) k 0 ∙ getD-drop (itemAt K m t) m (8 + k) 0
+        ∙ ap (λ i. getD m i 0) (let p : itemAt K m t + (8 + k) ≡ 8 + t * (16 + due * 17) + 8 + k = omega (arith, starts t (omega arith)) in p)

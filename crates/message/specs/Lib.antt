@@ -1,3 +1,4 @@
 pub mod Format
 pub mod FormatLaws
 pub mod Read
+pub mod Examples

@@ -1,5 +1,6 @@
-// Messages: bincode legacy lists (document 01, "Messages"), read where they lie in the incoming buffer, and their items written into
-// stretches of the outgoing one. From src/channel.rs (list checks) and src/utils/serde.rs of polytune.
+// Messages read: bincode legacy lists (document 01, "Messages"), where they lie in the incoming buffer. One reader for every kind of list; it
+// answers 13, 6 or nothing wrong, and hands back the part that holds the list. The crate encode writes them. From src/channel.rs (list checks)
+// and src/utils/serde.rs of polytune.
 ghost use mathlib.Core.Path.{_≡_};
 ghost use mathlib.Core.Bool.{true};
 ghost use Prim.Native.Nat.{ℕ, _+_, _<_, _≤_, min};
@@ -51,6 +52,7 @@ fn vec_len(s: &[u8], at: usize, size: usize) -> usize
     8 + count as usize * size
 }
 
+// The lesser of two.
 fn least(a: usize, b: usize) -> usize
     ensures { λ r. ⌜ r ≡ min a b ⌝ }
 {
