@@ -5,3 +5,6 @@ pub mod Toss
 pub mod Echo
 pub mod Opening
 pub mod Supply
+pub mod Firsts
+pub mod Cells
+pub mod Fabitn
