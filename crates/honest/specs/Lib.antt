@@ -8,3 +8,4 @@ pub mod Supply
 pub mod Firsts
 pub mod Cells
 pub mod Fabitn
+pub mod Values
