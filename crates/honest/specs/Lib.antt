@@ -9,3 +9,4 @@ pub mod Firsts
 pub mod Cells
 pub mod Fabitn
 pub mod Values
+pub mod Haand
