@@ -231,3 +231,34 @@ module _ (n l : ℕ) (args : ℕ → Args) (strings order : List ℕ) (X : Boxes
         (ap₂ (λ (a b : List ℕ). zRows (frame n l i) a b m) (masks-at n l args strings order K) (bits-at n l args strings order K)
         ∙ z-ext (frame n l i) (args i .masks) (args i .bits) m _ M);
   }
+
+  -- ---- the value of z
+  -- what box i read back of its own rows
+  pub z-at : (i t : ℕ) → t < leaky l
+      → zAt (S.zRows n l args strings order i) t
+      ≡ z (frame n l i) (args i .masks) (args i .bits) (λ j. S.sent14 n l args strings order j i) t
+  unfolding S.zRows
+  z-at i t lt = z-read (frame n l i) (args i .masks) (args i .bits) (λ j. S.sent14 n l args strings order j i) t lt
+
+  -- the mask of box i for box j
+  abbrev s : ℕ → ℕ → ℕ → Bool
+  s t i j = mask (frame n l i) (args i .masks) j t
+
+  -- it is the z of the half AND
+  z-half : (i t : ℕ) → t < leaky l
+      → z (frame n l i) (args i .masks) (args i .bits) (λ j. S.sent14 n l args strings order j i) t
+      ≡ halfZ blocks H n (deltas args) (xOf n l args t .bit) (yOf n l args t .bit) (xOf n l args t .mac) (xOf n l args t .key) (s t) i
+  unfolding z v halfZ halfV x y shareAt sharedAt S.sent14 haandMsg h0 h1
+  z-half i t lt =
+      ap (λ (b : Bool). addb b (sel bits (xOf n l args t .bit i) (yOf n l args t .bit i)))
+      (others-ext bits i n _ _ (λ j lj ne.
+      ap₂ (λ (b a : Bool). addb (s t i j) (addb (H (xOf n l args t .mac i j)) (cond (xOf n l args t .bit i) b a)))
+      (second-read (leaky l) _ _ leaky-small t lt) (first-read (leaky l) _ _ leaky-small t lt)))
+
+  pub and-z : (t : ℕ) → t < leaky l
+      → total n (zOf n l args strings order t) ≡ sel bits (total n (xOf n l args t)) (total n (yOf n l args t))
+  unfolding zOf bitsCount
+  and-z t lt =
+      sum-ext bits n _ _ (λ i li. z-at i t lt ∙ z-half i t lt)
+      ∙ and-of-xors blocks H n (deltas args) (xOf n l args t .bit) (yOf n l args t .bit) (xOf n l args t .mac) (xOf n l args t .key) (s t)
+      (X .bits-mac t (omega arith))
