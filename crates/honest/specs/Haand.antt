@@ -188,7 +188,7 @@ module _ (n l : ℕ) (args : ℕ → Args) (strings order : List ℕ) (X : Boxes
   abbrev run : Script
   run = S.script n l args strings order
 
-  leaky-small : leaky l < 2 ^ 64
+  pub leaky-small : leaky l < 2 ^ 64
   leaky-small = omega (arith, leaky-most l (X .range .most))
 
   -- ---- the messages

