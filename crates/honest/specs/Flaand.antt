@@ -138,3 +138,44 @@ module _ (n l : ℕ) (args : ℕ → Args) (strings order : List ℕ) (X : Boxes
     good-c = z-good t lt;
     product = and-z n l args strings order X t lt;
   }
+
+  -- ---- the value of h
+  unfoldable hOf : ℕ → ℕ → Block
+  hOf t i =
+      let x = xOf n l args t in
+      let y = yOf n l args t in
+      let z = zOf n l args strings order t in
+      Leaky.leakyH blocks G n (deltas args) (x .bit) (y .bit) (z .bit) (x .mac) (x .key) (y .mac) (y .key) (z .mac) (z .key) i
+
+  -- all h sum to zero
+  h-sum : (t : ℕ) → t < leaky l → sum blocks n (hOf t) ≡ blocks .nil
+  unfolding hOf bitsCount
+  h-sum t lt =
+      Leaky.leaky-check blocks G n (deltas args) _ _ _ _ _ _ _ _ _ (X .bits-mac t (omega arith)) (X .bits-mac (leaky l + t) (omega arith))
+      (z-good t lt) (and-z n l args strings order X t lt)
+
+  -- what a box computes is that h
+  h-is : (i t : ℕ) → i < n → t < leaky l
+      → h (frame n l i) (deltas args i) (args i .bits) (S.leakyRows n l args strings order i) (S.zRows n l args strings order i)
+      (λ j. S.sent15 n l args strings order j i) t
+      ≡ hOf t i
+  unfolding h hOf Leaky.leakyH Leaky.phi phi u zOf x y r shareAt sharedAt S.leakyRows S.zRows
+  h-is i t li lt =
+      let x : Shared Block = xOf n l args t in
+      let z : Shared Block = zOf n l args strings order t in
+      let φ : ℕ → Block = λ j. phi (frame n l j) (deltas args j) (args j .bits) t in
+      let v : ℕ → Block = λ j. u (frame n l j) (deltas args j) (args j .bits) i t in
+      let terms = others-ext blocks i n _ (λ j. blocks .op (blocks .op (z .mac i j) (z .key i j)) (sel blocks (x .bit i) (v j)))
+      (λ j lj ne.
+      ap₂ (λ (b : Bool) (w : Block).
+      blocks .op (blocks .op (z .mac i j) (zKey (frame n l i) (deltas args i) (args i .bits) b t j)) (sel blocks (x .bit i) w))
+      (e-told i j t lt ∙ sym (e-at i j t lj ne lt)) (u-told i j t li lj ne lt)) in
+      let small-d = small-delta n l args X i li in
+      let bytes = X .own i li .bits-bytes in
+      let keys = key-hash-read (frame n l i) (deltas args i) (args i .bits) small-d bytes t lt in
+      let macs = mac-hash-read (frame n l i) (args i .masks) (args i .bits) (λ j. S.sent14 n l args strings order j i) t lt in
+      let own = phi-read (frame n l i) (deltas args i) (args i .bits) small-d bytes t lt in
+      (λ q. blocks .op (blocks .op (terms q) (blocks .op (keys q) (macs q)))
+      (blocks .op (sel blocks (x .bit i) (own q)) (sel blocks (z .bit i) (deltas args i))))
+      ∙ h-alg blocks i n (λ j. blocks .op (z .mac i j) (z .key i j)) (λ j. G (x .key i j)) (λ j. G (x .mac i j))
+      (λ j. sel blocks (x .bit i) (v j)) (sel blocks (x .bit i) (φ i)) (sel blocks (z .bit i) (deltas args i))
