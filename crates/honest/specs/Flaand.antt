@@ -2,7 +2,7 @@
 use mathlib.Core.Path.{_≡_, refl, sym, ap, ap₂, _∙_}
 use mathlib.Core.Bool.{Bool, true}
 use mathlib.Core.Logic.{_≢_}
-use mathlib.Core.List.{List, [], _∷_, _++_}
+use mathlib.Core.List.{List, [], _∷_, _++_, append-nil}
 use Prim.Native.Nat.{ℕ, _+_, _*_, _^_, _<_}
 use native.Mathlib.Nat.{add-zero}
 use native.Mathlib.Omega.{arith}
@@ -26,6 +26,9 @@ use Rattle.share.specs.Share.{shareAt}
 use Rattle.share.specs.Parties.{sharedAt, shareOf}
 use Rattle.message.specs.declared.Kind.the-variants.{Items}
 use Rattle.message.specs.Format.{formOf}
+use Rattle.encode.specs.Encode.{encode}
+use Rattle.encode.specs.Coded.{length-bitBlock, coded-hash, coded-block}
+use Rattle.encode.specs.RoundTrip.{trip-whole, even-item}
 use Rattle.plan.specs.Plan.{kindOf, countDue, msgLen, leaky, bitsCount}
 use Rattle.engine.specs.declared.Frame.{Frame}
 use Rattle.engine.specs.Step.{frame}
@@ -62,6 +65,25 @@ h-alg {A} G i n a b c d p q =
     (others-op G i n (λ j. G .op (G .op (a j) (b j)) (c j)) d
     ∙ ap (λ (s : A). G .op s (others G i n d))
     (others-op G i n (λ j. G .op (a j) (b j)) c ∙ ap (λ (s : A). G .op s (others G i n c)) (others-op G i n a b))))
+
+-- ---- what is kept depends on the others' messages alone
+module _ (f : Frame) where
+  hs-ext : (delta : Block) (recs leakyRows zs : List ℕ) (m m′ : ℕ → List ℕ) → ((k : ℕ) → k < f .n → f .i ≢ k → m k ≡ m′ k)
+      → hs f delta recs leakyRows zs m ≡ hs f delta recs leakyRows zs m′
+  unfolding hs h eTold uTold
+  hs-ext delta recs leakyRows zs m m′ same =
+      cat-ext (leaky (f .l)) _ _ (λ t lt.
+      ap (λ (s : Block). bytesOf (blocks .op (blocks .op s (blocks .op (keyHash f leakyRows t) (macHash zs t)))
+      (blocks .op (sel blocks (x f recs t .bit) (phiAt f leakyRows t)) (sel blocks (zAt zs t) delta))))
+      (others-ext blocks (f .i) (f .n) _ _ (λ j lj ne.
+      ap (λ (s : List ℕ). blocks .op (blocks .op (r f recs t .mac j) (zKey f delta recs (odd (getD s (8 + t * 17) 0)) t j))
+      (sel blocks (x f recs t .bit) (blockAt s (8 + t * 17 + 1)))) (same j lj ne))))
+
+  es-ext : (m m′ : ℕ → List ℕ) → ((k : ℕ) → k < f .n → f .i ≢ k → m k ≡ m′ k) → eRows f m ≡ eRows f m′
+  unfolding eRows eTold
+  es-ext m m′ same =
+      rows-ext f (leaky (f .l)) _ _ (λ k lk ne.
+      ap (λ (s : List ℕ). tab (leaky (f .l)) (λ t. num (odd (getD s (8 + t * 17) 0)))) (same k lk ne))
 
 module _ (n l : ℕ) (args : ℕ → Args) (strings order : List ℕ) (X : Boxes n l args) where
   abbrev run : Script
@@ -179,3 +201,78 @@ module _ (n l : ℕ) (args : ℕ → Args) (strings order : List ℕ) (X : Boxes
       (blocks .op (sel blocks (x .bit i) (own q)) (sel blocks (z .bit i) (deltas args i))))
       ∙ h-alg blocks i n (λ j. blocks .op (z .mac i j) (z .key i j)) (λ j. G (x .key i j)) (λ j. G (x .mac i j))
       (λ j. sel blocks (x .bit i) (v j)) (sel blocks (x .bit i) (φ i)) (sel blocks (z .bit i) (deltas args i))
+
+  small-h : (i t : ℕ) → i < n → Small (hOf t i)
+  unfolding hOf Leaky.leakyH Leaky.phi phi u x y shareAt sharedAt shareOf
+  small-h i t li =
+      let x : Shared Block = xOf n l args t in
+      let z : Shared Block = zOf n l args strings order t in
+      let sz = small-z n l args strings order X i li t in
+      let sd = small-delta n l args X in
+      small-xor _ _
+      (small-xor _ _
+      (small-others i n _ (λ j lj.
+      small-xor _ _ (small-xor _ _ (small-xor _ _ (small-xor _ _ (sz .mac j lj) (sz .key j lj)) (small-G (x .key i j))) (small-G (x .mac i j)))
+      (small-sel (x .bit i) _ (small-u (frame n l j) (deltas args j) (args j .bits) (sd j lj) (X .own j lj .bits-bytes) t i))))
+      (small-sel (x .bit i) _ (small-phi (frame n l i) (deltas args i) (args i .bits) (sd i li) (X .own i li .bits-bytes) t)))
+      (small-sel (z .bit i) (deltas args i) (sd i li))
+
+  -- ---- what HS holds
+  h-row : (m : ℕ → Block) → (t : ℕ) → t < leaky l → Small (m t) → blockAt (cat (leaky l) (λ t. bytesOf (m t))) (t * 16) ≡ m t
+  h-row m t lt s =
+      ap (blockAt (cat (leaky l) (λ t. bytesOf (m t)))) (sym (add-zero (t * 16)))
+      ∙ row-block 16 (leaky l) (λ t. bytesOf (m t)) (λ t l. length-bytesOf (m t)) t 0 lt (omega arith)
+      ∙ ap (λ (s : List ℕ). blockAt s 0) (sym (append-nil (bytesOf (m t)))) ∙ block-bytesOf (m t) [] s
+
+  h-at : (i t : ℕ) → i < n → t < leaky l → blockAt (S.hs n l args strings order i) (t * 16) ≡ hOf t i
+  unfolding S.hs hs
+  h-at i t li lt = h-row _ t lt (rw (h-is i t li lt) (small-h i t li)) ∙ h-is i t li lt
+
+  fit-hs : Fit n l args strings order HS
+  unfolding S.holds S.hs hs sizeOf sizes
+  fit-hs = (omega arith, λ i li. length-cat (leaky l) 16 _ (λ t lt. length-bytesOf _))
+
+  fit-es : Fit n l args strings order ES
+  unfolding S.holds S.es eRows sizeOf sizes
+  fit-es = (omega arith, λ i li. length-rows (frame n l i) (leaky l) _ (λ k lk ne. e-row (λ j. S.sent15 n l args strings order j i) k))
+
+  -- ---- round 15
+  flaand-len : (j r : ℕ) → length (S.sent15 n l args strings order j r) ≡ msgLen n l 15
+  unfolding S.sent15 flaandMsg msgLen kindOf countDue
+  flaand-len j r = list-len n 17 1 (leaky l) _ (λ t i. length-bitBlock _ _)
+
+  flaand-form : (j r : ℕ) → formOf (kindOf l 15) (countDue n l 15) (S.sent15 n l args strings order j r) ≡ 0
+  unfolding S.sent15 flaandMsg kindOf countDue
+  flaand-form j r = pairs-trip (leaky l) (eOf j) _ small .form-is
+
+  pub send-15 : SendAt table run n l 15
+  unfolding staysTest allOf mem S.since S.sent S.sent15 held written
+  send-15 = record {
+    keeps = λ v i li w K. keep-none n l args strings order (before 15) (due 15) i li K refl;
+    writes = λ v i r li lr ne w K.
+        (λ q. flaandMsg (frame n l i) (bits-at n l args strings order K q) (leaky-at n l args strings order K refl q)
+        (zs-at n l args strings order K refl q) r);
+  }
+
+  pub recv-15 : RecvAt table run n l 15
+  unfolding plainAfter isEcho mem staysTest allOf S.since S.holds S.sent S.es S.hs judge kept
+  recv-15 = record {
+    heard = record {
+      lens = λ j r lj lr ne. flaand-len j r;
+      formed = λ i j li lj ne. flaand-form j i;
+      judged = λ i li w K m M. refl;
+    };
+    keeps = λ i li w K m M. keep-two n l args strings order (due 15) (before 17) i li K HS ES _ _ refl fit-hs fit-es
+        ((λ q. hs (frame n l i) (delta-is n l args strings order K q) (bits-at n l args strings order K q) (leaky-at n l args strings order K refl q)
+        (zs-at n l args strings order K refl q) m)
+        ∙ hs-ext (frame n l i) _ _ _ _ m _ M) (es-ext (frame n l i) m _ M);
+  }
+
+  -- every receiver hashes the list of the e
+  pub list-15 : ListAt table run n l 15
+  unfolding S.hashed S.sent S.sent15 flaandMsg kindOf
+  list-15 = record {
+    size = λ j lj. length-hashVec l 15 _;
+    hashes = λ i j li lj ne.
+        hash-bits (leaky l) (eOf j) _ small l 15 refl refl ∙ sym (hash-bits (leaky l) (eOf j) _ small l 15 refl refl);
+  }
