@@ -19,9 +19,10 @@ use Rattle.algebra.specs.Sum.{sum, others, sum-ext, others-ext, others-op, othe
 use Rattle.algebra.specs.Share.{Shared, Good, Triple}
 use Rattle.algebra.specs.Leaky as Leaky
 use Rattle.block.specs.declared.Block.{Block}
-use Rattle.block.specs.Block.{blockAt, bytesOf, eqBlock, Small}
+use Rattle.block.specs.Block.{blockAt, le8, bytesOf, eqBlock, Small}
 use Rattle.block.specs.Group.{blocks, eq-block}
-use Rattle.block.specs.Trip.{small-xor, small-sel, small-others, length-bytesOf, block-bytesOf, block-here}
+use Rattle.block.specs.Trip.{small-xor, small-sel, small-others, length-le8, length-bytesOf, block-bytesOf, block-here}
+use Rattle.blake3.specs.Tree.{hash}
 use Rattle.share.specs.Share.{shareAt}
 use Rattle.share.specs.Parties.{sharedAt, shareOf}
 use Rattle.message.specs.declared.Kind.the-variants.{Items}
@@ -31,7 +32,7 @@ use Rattle.encode.specs.Coded.{length-bitBlock, coded-hash, coded-block}
 use Rattle.encode.specs.RoundTrip.{trip-whole, even-item}
 use Rattle.plan.specs.Plan.{kindOf, countDue, msgLen, leaky, bitsCount}
 use Rattle.engine.specs.declared.Frame.{Frame}
-use Rattle.engine.specs.Step.{frame}
+use Rattle.engine.specs.Step.{frame, Fault}
 use Rattle.engine.specs.StepLaws.{or-none, by-none}
 use Rattle.engine.specs.Area.{mem}
 use Rattle.engine.specs.Sheet.{staysTest}
@@ -84,6 +85,12 @@ module _ (f : Frame) where
   es-ext m m′ same =
       rows-ext f (leaky (f .l)) _ _ (λ k lk ne.
       ap (λ (s : List ℕ). tab (leaky (f .l)) (λ t. num (odd (getD s (8 + t * 17) 0)))) (same k lk ne))
+
+-- the items of a list are what stands behind its count
+items-are : (c s : ℕ) (g : ℕ → List ℕ) → ((t : ℕ) → t < c → length (g t) ≡ s) → take (c * s) (drop 8 (encode c g)) ≡ cat c g
+unfolding encode
+items-are c s g long =
+    ap (take (c * s)) (drop-at (le8 c) (cat c g) 8 (length-le8 c)) ∙ take-all (c * s) (cat c g) (omega (arith, length-cat c s g long))
 
 module _ (n l : ℕ) (args : ℕ → Args) (strings order : List ℕ) (X : Boxes n l args) where
   abbrev run : Script
@@ -275,4 +282,131 @@ module _ (n l : ℕ) (args : ℕ → Args) (strings order : List ℕ) (X : Boxes
     size = λ j lj. length-hashVec l 15 _;
     hashes = λ i j li lj ne.
         hash-bits (leaky l) (eOf j) _ small l 15 refl refl ∙ sym (hash-bits (leaky l) (eOf j) _ small l 15 refl refl);
+  }
+
+  -- ---- round 17
+  -- the Block that box k keeps as its h, and the commitment to it
+  abbrev own : ℕ → ℕ → Block
+  own k t = blockAt (S.hs n l args strings order k) (t * 16)
+
+  abbrev comm : ℕ → ℕ → List ℕ
+  comm k t = hash (bytesOf (own k t))
+
+  comm-len : (j r : ℕ) → length (S.sent17 n l args strings order j r) ≡ msgLen n l 17
+  unfolding S.sent17 commMsg msgLen kindOf countDue
+  comm-len j r = list-len n 32 0 (leaky l) (comm j) (λ t i. length-hash _)
+
+  comm-form : (j r : ℕ) → formOf (kindOf l 17) (countDue n l 17) (S.sent17 n l args strings order j r) ≡ 0
+  unfolding S.sent17 commMsg kindOf countDue
+  comm-form j r = list-form (Items 32 0) (leaky l) (comm j) small (λ t i. coded-hash (comm j t) (length-hash _))
+
+  -- H-COMMS holds the commitments
+  comms-are : (i : ℕ) → S.hComms n l args strings order i ≡ rows (frame n l i) (leaky l * 32) (λ k. cat (leaky l) (comm k))
+  unfolding S.hComms commRows S.sent17 commMsg
+  comms-are i = rows-ext (frame n l i) (leaky l * 32) _ _ (λ k lk ne. items-are (leaky l) 32 (comm k) (λ t lt. length-hash _))
+
+  comm-cell : (i k t : ℕ) → k < n → i ≢ k → t < leaky l
+      → take 32 (drop ((k * leaky l + t) * 32) (S.hComms n l args strings order i)) ≡ comm k t
+  comm-cell i k t lk ne lt =
+      ap (λ (s : List ℕ). take 32 (drop ((k * leaky l + t) * 32) s)) (comms-are i)
+      ∙ cell (frame n l i) (leaky l) 32 comm (λ k j lk ne lj. length-hash _) k t lk ne lt
+
+  fit-comms : Fit n l args strings order H-COMMS
+  unfolding S.holds sizeOf sizes
+  fit-comms = (omega arith, λ i li. ap length (comms-are i) ∙ length-cells (frame n l i) (leaky l) 32 comm (λ k j lk ne lj. length-hash _))
+
+  pub send-17 : SendAt table run n l 17
+  unfolding staysTest allOf mem S.since S.sent S.sent17 held written
+  send-17 = record {
+    keeps = λ v i li w K. keep-none n l args strings order (before 17) (due 17) i li K refl;
+    writes = λ v i r li lr ne w K. ap (commMsg (frame n l i)) (hs-at n l args strings order K refl);
+  }
+
+  pub recv-17 : RecvAt table run n l 17
+  unfolding plainAfter isEcho mem staysTest allOf S.since S.holds S.sent S.hComms judge kept commRows
+  recv-17 = record {
+    heard = record {
+      lens = λ j r lj lr ne. comm-len j r;
+      formed = λ i j li lj ne. comm-form j i;
+      judged = λ i li w K m M. refl;
+    };
+    keeps = λ i li w K m M. keep-one n l args strings order (due 17) (before 19) i li K H-COMMS _ refl fit-comms
+        (rows-ext (frame n l i) (leaky l * 32) _ _ (λ k lk ne. ap (λ (s : List ℕ). take (leaky l * 32) (drop 8 s)) (M k lk ne)));
+  }
+
+  pub list-17 : ListAt table run n l 17
+  unfolding S.hashed S.sent S.sent17
+  list-17 = record {
+    size = λ j lj. length-hashVec l 17 _;
+    hashes = λ i j li lj ne. refl;
+  }
+
+  -- ---- round 19
+  hash-len : (j r : ℕ) → length (S.sent19 n l args strings order j r) ≡ msgLen n l 19
+  unfolding S.sent19 hashMsg msgLen kindOf countDue
+  hash-len j r = list-len n 16 0 (leaky l) (λ t. bytesOf (own j t)) (λ t i. length-bytesOf _)
+
+  hash-form : (j r : ℕ) → formOf (kindOf l 19) (countDue n l 19) (S.sent19 n l args strings order j r) ≡ 0
+  unfolding S.sent19 hashMsg kindOf countDue
+  hash-form j r = list-form (Items 16 0) (leaky l) (λ t. bytesOf (own j t)) small (λ t i. coded-block (own j t))
+
+  h-told : (i k t : ℕ) (m : ℕ → List ℕ) → m k ≡ S.sent19 n l args strings order k i → k < n → t < leaky l → hTold m k t ≡ own k t
+  unfolding hTold S.sent19 hashMsg
+  h-told i k t m e lk lt =
+      ap (λ (s : List ℕ). blockAt s (8 + t * 16)) e
+      ∙ block-here _ (8 + t * 16) (own k t)
+      (even-item (Items 16 0) 16 (leaky l) (λ t. bytesOf (own k t)) (λ t l. length-bytesOf _) _
+      (trip-whole (Items 16 0) (leaky l) (λ t. bytesOf (own k t)) small (λ t i. coded-block (own k t))) t lt)
+      (rw (h-at k t lk lt) (small-h k t lk))
+
+  -- "each opened first"
+  opens : (b : Bool) (c : ℕ) → b ≡ true → pick b 0 c ≡ 0
+  opens b c e = rw e refl
+
+  h-opens : (i : ℕ) (m : ℕ → List ℕ) → ((k : ℕ) → k < n → i ≢ k → m k ≡ S.sent19 n l args strings order k i)
+      → opening (frame n l i) (S.hComms n l args strings order i) m .code ≡ 0
+  unfolding opening
+  h-opens i m M =
+      by-none (frame n l i) _ (λ k lk ne. opens _ 2
+      (all-of (leaky l) _ (λ t lt. same-eq _ _
+      (ap (λ (b : Block). hash (bytesOf b)) (h-told i k t m (M k lk ne) lk lt) ∙ sym (comm-cell i k t lk ne lt)))))
+
+  -- "All h sum to zero"
+  h-zero : (i : ℕ) → i < n → (m : ℕ → List ℕ) → ((k : ℕ) → k < n → i ≢ k → m k ≡ S.sent19 n l args strings order k i)
+      → zeroSum (frame n l i) (S.hs n l args strings order i) m .code ≡ 0
+  unfolding zeroSum
+  h-zero i li m M =
+      opens _ 10
+      (all-of (leaky l) _ (λ t lt. eq-block _ _
+      (ap₂ (blocks .op) (h-at i t li lt)
+      (others-ext blocks i n _ (hOf t) (λ k lk ne. h-told i k t m (M k lk ne) lk lt ∙ h-at k t lk lt))
+      ∙ blocks .comm (hOf t i) (others blocks i n (hOf t)) ∙ others-all blocks i n (hOf t) li ∙ h-sum t lt)))
+
+  pub send-19 : SendAt table run n l 19
+  unfolding staysTest allOf mem S.since S.sent S.sent19 held written
+  send-19 = record {
+    keeps = λ v i li w K. keep-none n l args strings order (before 19) (due 19) i li K refl;
+    writes = λ v i r li lr ne w K. ap (hashMsg (frame n l i)) (hs-at n l args strings order K refl);
+  }
+
+  pub recv-19 : RecvAt table run n l 19
+  unfolding plainAfter isEcho mem staysTest allOf S.since S.sent judge kept hFaults
+  recv-19 = record {
+    heard = record {
+      lens = λ j r lj lr ne. hash-len j r;
+      formed = λ i j li lj ne. hash-form j i;
+      judged = λ i li w K m M.
+          ap₂ (λ (o c : List ℕ). hFaults (frame n l i) o c m .code) (hs-at n l args strings order K refl) (h-comms-at n l args strings order K refl)
+          ∙ ap (λ (x : Fault). x .code)
+          (or-none (opening (frame n l i) (S.hComms n l args strings order i) m) (zeroSum (frame n l i) (S.hs n l args strings order i) m) (h-opens i m M))
+          ∙ h-zero i li m M;
+    };
+    keeps = λ i li w K m M. keep-none n l args strings order (due 19) (before 21) i li K refl;
+  }
+
+  pub list-19 : ListAt table run n l 19
+  unfolding S.hashed S.sent S.sent19
+  list-19 = record {
+    size = λ j lj. length-hashVec l 19 _;
+    hashes = λ i j li lj ne. refl;
   }
