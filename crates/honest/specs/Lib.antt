@@ -11,3 +11,4 @@ pub mod Fabitn
 pub mod Values
 pub mod Haand
 pub mod Flaand
+pub mod Fashare
