@@ -2,32 +2,29 @@
 use mathlib.Core.Path.{_≡_, refl, sym, ap, ap₂, _∙_}
 use mathlib.Core.Bool.{Bool, true}
 use mathlib.Core.Logic.{_≢_}
-use mathlib.Core.List.{List, [], _∷_, _++_, append-nil}
+use mathlib.Core.List.{List, [], append-nil}
 use Prim.Native.Nat.{ℕ, _+_, _*_, _^_, _<_}
 use native.Mathlib.Nat.{add-zero}
 use native.Mathlib.Omega.{arith}
 use lib.ListN.{length, getD, take, drop}
-use lib.Seq.{drop-at, take-all}
-use lib.Dec.{eqb}
 use Rattle.lists.specs.Pick.{pick}
 use Rattle.lists.specs.All.{allOf, all-of}
 use Rattle.lists.specs.Over.{tab, cat, length-cat, length-tab, getD-tab}
-use Rattle.lists.specs.Rows.{chunk, getD-chunk, cat-ext, tab-ext}
-use Rattle.lists.specs.Same.{same?, same-eq}
-use Rattle.algebra.specs.Group.{XorGroup, bits, addb, sel, odd, num, odd-num, ac}
-use Rattle.algebra.specs.Sum.{sum, others, sum-ext, others-ext, others-op, others-all}
-use Rattle.algebra.specs.Share.{Shared, Good, Triple}
+use Rattle.lists.specs.Rows.{getD-chunk, cat-ext}
+use Rattle.lists.specs.Same.{same-eq}
+use Rattle.algebra.specs.Group.{XorGroup, bits, sel, odd, num, odd-num, ac}
+use Rattle.algebra.specs.Sum.{sum, others, others-ext, others-op, others-all}
+use Rattle.algebra.specs.Share.{Shared, Good}
 use Rattle.algebra.specs.Leaky as Leaky
 use Rattle.block.specs.declared.Block.{Block}
-use Rattle.block.specs.Block.{blockAt, le8, bytesOf, eqBlock, Small}
+use Rattle.block.specs.Block.{blockAt, bytesOf, Small}
 use Rattle.block.specs.Group.{blocks, eq-block}
-use Rattle.block.specs.Trip.{small-xor, small-sel, small-others, length-le8, length-bytesOf, block-bytesOf, block-here}
+use Rattle.block.specs.Trip.{small-xor, small-sel, small-others, length-bytesOf, block-bytesOf, block-here}
 use Rattle.blake3.specs.Tree.{hash}
 use Rattle.share.specs.Share.{shareAt}
 use Rattle.share.specs.Parties.{sharedAt, shareOf}
 use Rattle.message.specs.declared.Kind.the-variants.{Items}
 use Rattle.message.specs.Format.{formOf}
-use Rattle.encode.specs.Encode.{encode}
 use Rattle.encode.specs.Coded.{length-bitBlock, coded-hash, coded-block}
 use Rattle.encode.specs.RoundTrip.{trip-whole, even-item}
 use Rattle.plan.specs.Plan.{kindOf, countDue, msgLen, leaky, bitsCount}
@@ -44,9 +41,9 @@ use Rattle.rounds.specs.Table.{table, judge, kept, held, written}
 use Rattle.rounds.specs.Haand.{x, y, r, G, phi, u, phiAt, keyHash, uAt, zAt, macHash}
 use Rattle.rounds.specs.Flaand.{e, flaandMsg, eTold, uTold, eRows, zKey, h, hs, commMsg, commRows, hashMsg, hTold, opening, zeroSum, hFaults}
 use Rattle.honest.specs.Script as S
-use Rattle.honest.specs.Inputs.{Boxes, deltas, bitsOf, small-delta, small-bits}
+use Rattle.honest.specs.Inputs.{Boxes, deltas, small-delta}
 use Rattle.honest.specs.Base.{rows-ext, length-rows, chunk-rows, length-hash, length-hashVec, list-form, list-len, Fit, delta-is, bits-at, leaky-at, zs-at, hs-at, h-comms-at, keep-none, keep-one, keep-two}
-use Rattle.honest.specs.Cells.{length-cells, cell}
+use Rattle.honest.specs.Cells.{items-row, length-cells, cell}
 use Rattle.honest.specs.Firsts.{pairs-trip, bit-read, block-read, hash-bits}
 use Rattle.honest.specs.Haand.{leaky-small, row-block, small-G, small-phi, small-u, phi-read, key-hash-read, u-read, mac-hash-read, and-z}
 use Rattle.honest.specs.Values.{xOf, yOf, rOf, zOf, small-z, LeakyTriples}
@@ -85,12 +82,6 @@ module _ (f : Frame) where
   es-ext m m′ same =
       rows-ext f (leaky (f .l)) _ _ (λ k lk ne.
       ap (λ (s : List ℕ). tab (leaky (f .l)) (λ t. num (odd (getD s (8 + t * 17) 0)))) (same k lk ne))
-
--- the items of a list are what stands behind its count
-items-are : (c s : ℕ) (g : ℕ → List ℕ) → ((t : ℕ) → t < c → length (g t) ≡ s) → take (c * s) (drop 8 (encode c g)) ≡ cat c g
-unfolding encode
-items-are c s g long =
-    ap (take (c * s)) (drop-at (le8 c) (cat c g) 8 (length-le8 c)) ∙ take-all (c * s) (cat c g) (omega (arith, length-cat c s g long))
 
 module _ (n l : ℕ) (args : ℕ → Args) (strings order : List ℕ) (X : Boxes n l args) where
   abbrev run : Script
@@ -303,7 +294,7 @@ module _ (n l : ℕ) (args : ℕ → Args) (strings order : List ℕ) (X : Boxes
   -- H-COMMS holds the commitments
   comms-are : (i : ℕ) → S.hComms n l args strings order i ≡ rows (frame n l i) (leaky l * 32) (λ k. cat (leaky l) (comm k))
   unfolding S.hComms commRows S.sent17 commMsg
-  comms-are i = rows-ext (frame n l i) (leaky l * 32) _ _ (λ k lk ne. items-are (leaky l) 32 (comm k) (λ t lt. length-hash _))
+  comms-are i = rows-ext (frame n l i) (leaky l * 32) _ _ (λ k lk ne. items-row (leaky l) 32 (comm k) (λ t lt. length-hash _))
 
   comm-cell : (i k t : ℕ) → k < n → i ≢ k → t < leaky l
       → take 32 (drop ((k * leaky l + t) * 32) (S.hComms n l args strings order i)) ≡ comm k t

@@ -10,9 +10,9 @@ use lib.ListN.{length, getD, take, drop, length-append}
 use lib.Seq.{drop-at, getD-take, getD-drop}
 use Rattle.lists.specs.All.{allOf}
 use Rattle.lists.specs.Over.{cat, length-cat}
-use Rattle.lists.specs.Rows.{chunk, chunk-cat, getD-chunk, cat-ext}
+use Rattle.lists.specs.Rows.{chunk-cat, getD-chunk, cat-ext}
 use Rattle.lists.specs.Bytes.{Bytes}
-use Rattle.algebra.specs.Group.{XorGroup, bits, addb, sel, odd, num, odd-num}
+use Rattle.algebra.specs.Group.{bits, addb, sel, odd, num, odd-num}
 use Rattle.algebra.specs.Sum.{others, others-ext, sum-ext}
 use Rattle.algebra.specs.Half.{halfV, halfZ, and-of-xors}
 use Rattle.algebra.specs.Share.{total}
@@ -42,7 +42,7 @@ use Rattle.rounds.specs.Opening.{Args}
 use Rattle.rounds.specs.Table.{table, judge, kept, held, written}
 use Rattle.rounds.specs.Haand.{x, y, H, G, mask, h0, h1, haandMsg, phi, u, leakyEntry, leakyRow, leakyRows, phiAt, keyHash, uAt, v, z, zRow, zRows, zAt, macHash}
 use Rattle.honest.specs.Script as S
-use Rattle.honest.specs.Inputs.{Boxes, deltas, bitsOf, small-delta}
+use Rattle.honest.specs.Inputs.{Boxes, deltas}
 use Rattle.honest.specs.Base.{length-rows, chunk-rows, bytes-hash, list-form, list-len, Fit, delta-is, masks-at, bits-at, keep-one}
 use Rattle.honest.specs.Values.{xOf, yOf, zOf}
 
