@@ -159,7 +159,7 @@ module _ (n l : ℕ) (args : ℕ → Args) (strings order : List ℕ) (X : Boxes
     product = and-z n l args strings order X t lt;
   }
 
-  -- ---- the value of h
+  -- ---- the value of h: box i's at position t, in the words of the algebra
   unfoldable hOf : ℕ → ℕ → Block
   hOf t i =
       let x = xOf n l args t in
@@ -183,7 +183,6 @@ module _ (n l : ℕ) (args : ℕ → Args) (strings order : List ℕ) (X : Boxes
   h-is i t li lt =
       let x : Shared Block = xOf n l args t in
       let z : Shared Block = zOf n l args strings order t in
-      let φ : ℕ → Block = λ j. phi (frame n l j) (deltas args j) (args j .bits) t in
       let v : ℕ → Block = λ j. u (frame n l j) (deltas args j) (args j .bits) i t in
       let terms = others-ext blocks i n _ (λ j. blocks .op (blocks .op (z .mac i j) (z .key i j)) (sel blocks (x .bit i) (v j)))
       (λ j lj ne.
@@ -198,7 +197,8 @@ module _ (n l : ℕ) (args : ℕ → Args) (strings order : List ℕ) (X : Boxes
       (λ q. blocks .op (blocks .op (terms q) (blocks .op (keys q) (macs q)))
       (blocks .op (sel blocks (x .bit i) (own q)) (sel blocks (z .bit i) (deltas args i))))
       ∙ h-alg blocks i n (λ j. blocks .op (z .mac i j) (z .key i j)) (λ j. G (x .key i j)) (λ j. G (x .mac i j))
-      (λ j. sel blocks (x .bit i) (v j)) (sel blocks (x .bit i) (φ i)) (sel blocks (z .bit i) (deltas args i))
+      (λ j. sel blocks (x .bit i) (v j)) (sel blocks (x .bit i) (phi (frame n l i) (deltas args i) (args i .bits) t))
+      (sel blocks (z .bit i) (deltas args i))
 
   small-h : (i t : ℕ) → i < n → Small (hOf t i)
   unfolding hOf Leaky.leakyH Leaky.phi phi u x y shareAt sharedAt shareOf
