@@ -8,4 +8,7 @@ pub mod Supply
 pub mod Firsts
 pub mod Cells
 pub mod Fabitn
+pub mod Values
+pub mod Haand
+pub mod Flaand
 pub mod Fashare
