@@ -10,11 +10,12 @@ use lib.Seq.{drop-at}
 use lib.Dec.{eqb}
 use borrow.Author.Tests.{eq-eqb, lt-ltb, le-leb}
 use Rattle.lists.specs.Over.{cat, length-cat}
+use Rattle.lists.specs.Bytes.{Bytes, bytes-nil, bytes-cons, bytes-append, bytes-cat}
 use Rattle.lists.specs.Rows.{chunk, chunk-cat, getD-chunk}
 use Rattle.algebra.specs.Group.{num}
 use Rattle.block.specs.declared.Block.{Block}
 use Rattle.block.specs.Block.{wordAt, le8, bytesOf}
-use Rattle.block.specs.Trip.{length-le8, length-bytesOf, word-le8, word-drop}
+use Rattle.block.specs.Trip.{length-le8, length-bytesOf, word-le8, word-drop, bytes-le8, bytes-bytesOf}
 use Rattle.message.specs.declared.Kind.{Kind}
 use Rattle.message.specs.declared.Kind.the-variants.{Items, Dms, Dvalues, Options}
 use Rattle.message.specs.Format.{bools, vecLen, itemLen, innerDue}
@@ -231,3 +232,48 @@ coded-some h e = record {
   some = omega arith;
   due = λ rest. refl;
 }
+
+-- ---- all are bytes
+pub bytes-encode : (c : ℕ) (g : ℕ → List ℕ) → ((t : ℕ) → t < c → Bytes (g t)) → Bytes (encode c g)
+unfolding encode
+bytes-encode c g h = bytes-append (le8 c) (cat c g) (bytes-le8 c) (bytes-cat c g h)
+
+byte-num : (b : Bool) → num b < 256
+byte-num true = omega arith
+byte-num false = omega arith
+
+pub bytes-bitBlock : (b : Bool) (x : Block) → Bytes (bitBlock b x)
+unfolding bitBlock
+bytes-bitBlock b x = bytes-cons (num b) (bytesOf x) (byte-num b) (bytes-bytesOf x)
+
+pub bytes-twoBits : (a b : Bool) → Bytes (twoBits a b)
+unfolding twoBits
+bytes-twoBits a b = bytes-cons (num a) (num b ∷ []) (byte-num a) (bytes-cons (num b) [] (byte-num b) bytes-nil)
+
+pub bytes-threeHashes : (a b c : List ℕ) → Bytes a → Bytes b → Bytes c → Bytes (threeHashes a b c)
+unfolding threeHashes
+bytes-threeHashes a b c ha hb hc = bytes-append a (b ++ c) ha (bytes-append b c hb hc)
+
+pub bytes-twoBitsTwoBlocks : (d e : Bool) (x y : Block) → Bytes (twoBitsTwoBlocks d e x y)
+unfolding twoBitsTwoBlocks
+bytes-twoBitsTwoBlocks d e x y =
+    bytes-cons (num d) (num e ∷ (bytesOf x ++ bytesOf y)) (byte-num d)
+    (bytes-cons (num e) (bytesOf x ++ bytesOf y) (byte-num e) (bytes-append (bytesOf x) (bytesOf y) (bytes-bytesOf x) (bytes-bytesOf y)))
+
+pub bytes-dm : (x : List ℕ) → Bytes x → Bytes (dmItem x)
+unfolding dmItem
+bytes-dm x h = bytes-append (le8 (length x)) x (bytes-le8 (length x)) h
+
+pub bytes-dvalue : (c : ℕ) (d : ℕ → Bool) (x : ℕ → Block) → Bytes (dvalueItem c d x)
+unfolding dvalueItem
+bytes-dvalue c d x =
+    bytes-append (ds c d x) (macs c d x) (bytes-encode c (λ k. num (d k) ∷ []) (λ k l. bytes-cons (num (d k)) [] (byte-num (d k)) bytes-nil))
+    (bytes-encode c (λ k. bytesOf (x k)) (λ k l. bytes-bytesOf (x k)))
+
+pub bytes-none : Bytes noneItem
+unfolding noneItem
+bytes-none = bytes-cons 0 [] (omega arith) bytes-nil
+
+pub bytes-some : (h : List ℕ) → Bytes h → Bytes (someItem h)
+unfolding someItem
+bytes-some h k = bytes-cons 1 h (omega arith) k
