@@ -66,6 +66,8 @@ rows-cat n l i m g = cat-ext n _ _ (λ k h. ap (λ b. pick b (g k) (replicate m 
 pub record Laid (g : ℕ → List ℕ) (m o k : ℕ) (w v : List ℕ) : Type 0 where
   pub here : v ≡ put o (k * m) (cat k g) w
   pub size : length (cat k g) ≡ k * m
+  pub fits : o + k * m ≤ length w
+  pub same : length v ≡ length w
 
 put-next : (o a m : ℕ) (c x w : List ℕ) → length c ≡ a → o ≤ length w → put (o + a) m x (put o a c w) ≡ put o (a + m) (c ++ x) w
 put-next o a m c x w h l =
@@ -79,30 +81,38 @@ put-next o a m c x w h l =
 module _ (g : ℕ → List ℕ) (m o : ℕ) (w : List ℕ) where
   pub laid-zero : o ≤ length w → Laid g m o 0 w w
   unfolding cat
-  laid-zero h = record { here = sym (ap (λ a. put o a [] w) (zero-mul m) ∙ take-append-drop o w); size = sym (zero-mul m) }
+  laid-zero h = record {
+    here = sym (ap (λ a. put o a [] w) (zero-mul m) ∙ take-append-drop o w);
+    size = sym (zero-mul m);
+    fits = omega (arith, zero-mul m);
+    same = refl;
+  }
 
-  module _ (k : ℕ) (v : List ℕ) (d : Laid g m o k w v) (h : o + k * m + m ≤ length w) where
-    pub laid-length : length v ≡ length w
-    laid-length = ap length (d .here) ∙ length-put o (k * m) (cat k g) w (d .size) (omega arith)
-
+  module _ (k : ℕ) (v : List ℕ) (d : Laid g m o k w v) where
     -- what stands before the section is still there
     pub laid-before : (b j : ℕ) → b + j ≤ o → get b j v ≡ get b j w
-    laid-before b j l = ap (get b j) (d .here) ∙ get-put-before b j o (k * m) (cat k g) w l (omega arith)
+    laid-before b j l = ap (get b j) (d .here) ∙ get-put-before b j o (k * m) (cat k g) w l (omega (arith, d .fits))
 
     -- one more row, lent as `&mut v[a..e]`
-    pub laid-turn : (a e : ℕ) (x : List ℕ) → a ≡ o + k * m → e ≡ a + m → x ≡ g k → length x ≡ length (take (e - a) (drop a v))
+    pub laid-turn : (a e : ℕ) (x : List ℕ) → a ≡ o + k * m → e ≡ a + m → e ≤ length w → x ≡ g k → length x ≡ length (take (e - a) (drop a v))
         → Laid g m o (k + 1) w (putMid a (e - a) v x)
     unfolding cat
-    laid-turn a e x ha he hx hl = record {
-      here =
-      ap (λ j. putMid j (e - a) v x) ha ∙ ap (λ j. putMid (o + k * m) j v x) (let q : e - a ≡ m = omega arith in q)
-      ∙ ap (λ (u : List ℕ). putMid (o + k * m) m u x) (d .here) ∙ put-next o (k * m) m (cat k g) x w (d .size) (omega arith)
-      ∙ ap₂ (λ j (c : List ℕ). put o j c w) (sym (next-chunk k m)) (ap (λ (y : List ℕ). cat k g ++ y) hx ∙ sym grown);
-      size = ap length grown ∙ length-append (cat k g) (g k) ∙ omega (arith, d .size, next-chunk k m, ap length hx, hl, length-take-drop a e v, laid-length);
-    }
+    laid-turn a e x ha he hw hx hl = record { here = there; size = sized; fits = room; same = ap length there ∙ length-put o ((k + 1) * m) (cat (k + 1) g) w sized room }
       where
         grown : cat (k + 1) g ≡ cat k g ++ g k
         grown = rw (add-one k) refl
+
+        sized : length (cat (k + 1) g) ≡ (k + 1) * m
+        sized = ap length grown ∙ length-append (cat k g) (g k) ∙ omega (arith, d .size, next-chunk k m, ap length hx, hl, length-take-drop a e v, d .same)
+
+        room : o + (k + 1) * m ≤ length w
+        room = omega (arith, next-chunk k m)
+
+        there : putMid a (e - a) v x ≡ put o ((k + 1) * m) (cat (k + 1) g) w
+        there =
+            ap (λ j. putMid j (e - a) v x) ha ∙ ap (λ j. putMid (o + k * m) j v x) (let q : e - a ≡ m = omega arith in q)
+            ∙ ap (λ (u : List ℕ). putMid (o + k * m) m u x) (d .here) ∙ put-next o (k * m) m (cat k g) x w (d .size) (omega (arith, d .fits))
+            ∙ ap₂ (λ j (c : List ℕ). put o j c w) (sym (next-chunk k m)) (ap (λ (y : List ℕ). cat k g ++ y) hx ∙ sym grown)
 
 -- all rows of section s are there
 pub laid-end : (f : Frame) (s m n k : ℕ) (g : ℕ → List ℕ) (w v : List ℕ) → Laid g m (off (sizeOf f) s) k w v → k ≡ n → n * m ≡ sizeOf f s

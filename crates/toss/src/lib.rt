@@ -15,8 +15,9 @@ ghost use Rattle.engine.specs.Step.{frame};
 ghost use Rattle.engine.specs.Area.{off, toOthers};
 ghost use Rattle.rounds.specs.Area.{PAIRS, PAIRWISE, sizeOf, workLen, at, keep};
 ghost use Rattle.rounds.specs.Mail as Mail;
-ghost use Rattle.rounds.specs.FaultLaws.{Finds};
+ghost use Rattle.rounds.specs.FaultLaws.{Finds, faultAt};
 ghost use Rattle.rounds.specs.Toss as Toss;
+ghost use Rattle.rounds.specs.TossLaws.{openFault, pairRow};
 use blake3::Digest;
 use rounds::Fault;
 
@@ -155,6 +156,94 @@ pub fn keep_told(section: &mut [u8], incoming: &[u8], starts: &[usize], lens: &[
         let a = k * 32;
         let e = a + 32;
         copy(&mut section[a..e], &row);
+        k += 1;
+    }
+}
+
+// ---- the seeds opened
+
+// 2 if the seed that party k told doesn't open its commitment; none of the own number.
+fn open_fault(comms: &[u8], incoming: &[u8], starts: &[usize], lens: &[usize], n: usize, i: usize, k: usize) -> u8
+    requires { ⌜ (n ≤ 8) × ((k < n) × (length (now comms) ≡ n * 32)) ⌝ }
+    requires { ⌜ Mail.Arrived n i 40 (now incoming) (now starts) (now lens) ⌝ }
+    ensures { λ r. ⌜ r ≡ faultAt i (openFault (now (comms .entry)) (Mail.letter (now (incoming .entry)) (now (starts .entry)) (now (lens .entry)))) k ⌝ }
+{
+    if k == i {
+        return 0;
+    }
+    let m = rounds::letter(incoming, starts, lens, k);
+    if commitment(&m[8..40], k).is(comms, k * 32) {
+        0
+    } else {
+        2
+    }
+}
+
+// Rounds 3 and 5: 2 with the first party whose seed doesn't open its commitment.
+pub fn open(comms: &[u8], incoming: &[u8], starts: &[usize], lens: &[usize], n: usize, i: usize) -> Fault
+    requires { ⌜ (n ≤ 8) × (length (now comms) ≡ n * 32) ⌝ }
+    requires { ⌜ Mail.Arrived n i 40 (now incoming) (now starts) (now lens) ⌝ }
+    ensures { λ r. ⌜ ((l : ℕ) → Finds (r .code) (r .party) (Toss.opening (frame n l i) (now (comms .entry)) (Mail.letter (now (incoming .entry)) (now (starts .entry)) (now (lens .entry))))) ⌝ }
+{
+    let mut k = 0;
+    while k < n {
+        let code = open_fault(comms, incoming, starts, lens, n, i, k);
+        if code != 0 {
+            return Fault { code: code, party: k };
+        }
+        k += 1;
+    }
+    Fault { code: 0, party: 0 }
+}
+
+// Round 3: the joint seed, the XOR of all seeds.
+pub fn joint_seed(seed: &[u8], incoming: &[u8], starts: &[usize], lens: &[usize], n: usize, i: usize) -> [u8; 32]
+    requires { ⌜ (n ≤ 8) × (length (now seed) ≡ 32) ⌝ }
+    requires { ⌜ Mail.Arrived n i 40 (now incoming) (now starts) (now lens) ⌝ }
+    ensures { λ r. ⌜ ((l : ℕ) → r ≡ Toss.jointSeed (frame n l i) (now (seed .entry)) (Mail.letter (now (incoming .entry)) (now (starts .entry)) (now (lens .entry)))) ⌝ }
+{
+    let mut x = [0u8; 32];
+    copy(&mut x, seed);
+    let mut k = 0;
+    while k < n {
+        let row = told_row(incoming, starts, lens, n, i, k);
+        block::xor_inplace(&mut x, &row);
+        k += 1;
+    }
+    x
+}
+
+// Round 5: the seed with party k, the XOR of the own one for it and of what it told; zero for the own number.
+fn pair_seed(pairs: &[u8], incoming: &[u8], starts: &[usize], lens: &[usize], n: usize, i: usize, k: usize) -> [u8; 32]
+    requires { ⌜ (n ≤ 8) × ((k < n) × (length (now pairs) ≡ 32 * n)) ⌝ }
+    requires { ⌜ Mail.Arrived n i 40 (now incoming) (now starts) (now lens) ⌝ }
+    ensures { λ r. ⌜ r ≡ pairRow i (now (pairs .entry)) (Mail.letter (now (incoming .entry)) (now (starts .entry)) (now (lens .entry))) k ⌝ }
+{
+    let mut x = [0u8; 32];
+    if k != i {
+        let from = k * 32;
+        let to = from + 32;
+        copy(&mut x, &pairs[from..to]);
+        let m = rounds::letter(incoming, starts, lens, k);
+        block::xor_inplace(&mut x, &m[8..40]);
+    }
+    x
+}
+
+// Round 5: all pairwise seeds, from section PAIRS of the work area, at `pairs_at`, to section PAIRWISE, at `rows_at`. l says which layout it is.
+pub fn keep_pairwise(work: &mut [u8], pairs_at: usize, rows_at: usize, incoming: &[u8], starts: &[usize], lens: &[usize], n: usize, i: usize, l: usize)
+    requires { ⌜ (n ≤ 8) × (length (now work) ≡ workLen (frame n l i)) ⌝ }
+    requires { ⌜ («pairs_at» ≡ off (sizeOf (frame n l i)) PAIRS) × («rows_at» ≡ off (sizeOf (frame n l i)) PAIRWISE) ⌝ }
+    requires { ⌜ Mail.Arrived n i 40 (now incoming) (now starts) (now lens) ⌝ }
+    ensures { λ _. ⌜ now (work .exit) ≡ keep (frame n l i) PAIRWISE (Toss.pairwiseSeeds (frame n l i) (at (frame n l i) PAIRS (now (work .entry))) (Mail.letter (now (incoming .entry)) (now (starts .entry)) (now (lens .entry)))) (now (work .entry)) ⌝ }
+{
+    let pairs_end = pairs_at + 32 * n;
+    let mut k = 0;
+    while k < n {
+        let row = pair_seed(&work[pairs_at..pairs_end], incoming, starts, lens, n, i, k);
+        let a = rows_at + k * 32;
+        let e = a + 32;
+        copy(&mut work[a..e], &row);
         k += 1;
     }
 }
