@@ -10,3 +10,8 @@ pub mod Echo
 pub mod Mail
 pub mod Table
 pub mod Opening
+pub mod OthersLaws
+pub mod RowsLaws
+pub mod FaultLaws
+pub mod TossLaws
+pub mod MailLaws

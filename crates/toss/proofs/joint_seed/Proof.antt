@@ -1,0 +1,52 @@
+use mathlib.Core.Path.{_≡_, sym, ap, ap₂, _∙_}
+use Prim.Native.Nat.{ℕ, _-_, _≤_}
+use native.Mathlib.Omega.{arith}
+use denote.Ref.{now}
+use Rattle.block.specs.Block.{xorInplace}
+use Rattle.rounds.specs.Mail.{letter}
+use Rattle.rounds.specs.TossLaws.{Tossed, tossed-zero, tossed-turn, tossed-end}
+use borrow.Author.Needs.{needs}
+use Rattle.toss.proofs.joint_seed.Statement.{statement}
+use Rattle.toss.proofs.joint_seed.Tie as tie
+
+abbrev Inv-loop : tie.InvT-loop
+Inv-loop seed incoming starts lens n i x₀ k₀ x k = (k ≤ n) × Tossed i seed (letter incoming starts lens) k x
+
+abbrev μ-loop : tie.MeasureT-loop
+μ-loop seed incoming starts lens n i x₀ k₀ x k = n - k
+
+loop-holds : tie.Need-loop-holds Inv-loop μ-loop
+loop-holds c =
+    let s = c .before .before .before .before .before .before .before in
+    let a = s .args in
+    (search needs, tossed-zero (a .i) (now (a .seed)) (letter (now (a .incoming)) (now (a .starts)) (now (a .lens))) (c .before .copy .last .0) (s .pre .0 .1) (c .before .copy .ensures))
+
+loop-again : tie.Need-loop-again Inv-loop μ-loop
+loop-again c =
+    let l = c .before .before .before .before .before .before in
+    let a = c .before .before .before .before .before .before .before .before .before .before .before .before .before .before .args in
+    (omega (arith, c .before .before .before .before .before), rw (c .before .xor-inplace .ensures)
+    (tossed-turn (a .i) (now (a .seed)) (letter (now (a .incoming)) (now (a .starts)) (now (a .lens))) (l .loop .k) (l .loop .x) (c .before .before .before .before .told-row .result) (l .loop .inv .1) (c .before .before .before .before .told-row .ensures)))
+
+returns : tie.Need-returns Inv-loop μ-loop
+returns c l =
+    let a = c .before .before .before .before .before .before .before .before .before .args in
+    tossed-end (a .i) (now (a .seed)) (letter (now (a .incoming)) (now (a .starts)) (now (a .lens))) (a .n) l (c .before .loop .k) (c .before .loop .x) (c .before .loop .inv .1) (omega arith)
+
+pub joint-seed-spec : {M : Type 1} → statement M
+joint-seed-spec =
+    tie.close
+    (tie.spec
+    Inv-loop
+    μ-loop
+    (λ c. search needs)
+    (λ c κs. search needs)
+    loop-holds
+    (λ c κs. search needs)
+    (λ c. search needs)
+    (λ c. search needs)
+    (λ c κs. search needs)
+    (λ c. search needs)
+    (λ c. search needs)
+    loop-again
+    returns)

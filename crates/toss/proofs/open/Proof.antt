@@ -1,0 +1,57 @@
+use mathlib.Core.Path.{_≡_, sym, ap, _∙_}
+use Prim.Native.Nat.{ℕ, _-_, _≤_}
+use native.Mathlib.Omega.{arith}
+use denote.Ref.{now}
+use Rattle.engine.specs.Step.{scan}
+use Rattle.engine.specs.StepLaws.{scan-turn}
+use Rattle.rounds.specs.Mail.{letter}
+use Rattle.rounds.specs.FaultLaws.{faultAt, clean-zero, finds-first, finds-none}
+use Rattle.rounds.specs.Toss.{opening}
+use Rattle.rounds.specs.TossLaws.{openFault}
+use borrow.Author.Needs.{needs}
+use Rattle.toss.proofs.open.Statement.{statement}
+use Rattle.toss.proofs.open.Tie as tie
+
+abbrev Inv-loop : tie.InvT-loop
+Inv-loop comms incoming starts lens n i k₀ k = (k ≤ n) × (scan k (faultAt i (openFault comms (letter incoming starts lens))) .code ≡ 0)
+
+abbrev μ-loop : tie.MeasureT-loop
+μ-loop comms incoming starts lens n i k₀ k = n - k
+
+loop-holds : tie.Need-loop-holds Inv-loop μ-loop
+loop-holds c =
+    let a = c .before .before .before .before .args in
+    (search needs, clean-zero (a .n) (a .i) (openFault (now (a .comms)) (letter (now (a .incoming)) (now (a .starts)) (now (a .lens)))))
+
+returns : tie.Need-returns Inv-loop μ-loop
+unfolding opening
+returns c l =
+    let a = c .before .before .before .before .before .before .before .before .args in
+    finds-first (a .n) (a .i) (openFault (now (a .comms)) (letter (now (a .incoming)) (now (a .starts)) (now (a .lens)))) l (c .before .before .before .loop .k) (c .before .open-fault .result)
+    (c .before .before .loop-test .taken) (c .before .before .before .loop .inv .1) (c .before .open-fault .ensures) (c .if1 .taken)
+
+loop-again : tie.Need-loop-again Inv-loop μ-loop
+loop-again c =
+    let a = c .before .before .before .before .before .before .before .before .args in
+    (omega arith, scan-turn (c .before .before .before .loop .k) (faultAt (a .i) (openFault (now (a .comms)) (letter (now (a .incoming)) (now (a .starts)) (now (a .lens))))) (c .before .before .before .loop .inv .1)
+    (sym (c .before .open-fault .ensures) ∙ c .if1 .left))
+
+returns-2 : tie.Need-returns-2 Inv-loop μ-loop
+unfolding opening
+returns-2 c l =
+    let a = c .before .before .before .before .before .before .args in
+    finds-none (a .n) (a .i) (openFault (now (a .comms)) (letter (now (a .incoming)) (now (a .starts)) (now (a .lens)))) l (c .before .loop .k) 0 (c .before .loop .inv .1) (omega arith)
+
+pub open-spec : {M : Type 1} → statement M
+open-spec =
+    tie.close
+    (tie.spec
+    Inv-loop
+    μ-loop
+    loop-holds
+    (λ c κs. search needs)
+    returns
+    (λ c. search needs)
+    (λ c. search needs)
+    loop-again
+    returns-2)
