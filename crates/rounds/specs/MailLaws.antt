@@ -24,5 +24,5 @@ module _ (n i size : ℕ) (incoming starts lens : List ℕ) (h : Arrived n i siz
   letter-long =
       let w = h .inside k l (λ e. ne (sym e)) in
       let e : length (letter incoming starts lens k) ≡ getD lens k 0 =
-          length-take-le (getD lens k 0) (drop (getD starts k 0) incoming) (rw length-drop (omega arith)) in
+      length-take-le (getD lens k 0) (drop (getD starts k 0) incoming) (rw length-drop (omega arith)) in
       omega (arith, e, h .long k l (λ e. ne (sym e)))

@@ -18,7 +18,7 @@ use Rattle.algebra.specs.Xor.{xor-assoc}
 use Rattle.algebra.specs.Group.{numbers, sel}
 use Rattle.algebra.specs.Sum.{neq, sum, others}
 use Rattle.block.specs.Block.{xorInplace}
-use Rattle.block.specs.Xor.{length-xor, getD-xor}
+use Rattle.block.specs.Xor.{length-xor, getD-xor, zeros-xor}
 use Rattle.blake3.specs.Tree.{hash}
 use Rattle.blake3.specs.ByteLaws.{length-bytes}
 use Rattle.encode.specs.Encode.{encode, dmItem}
@@ -99,12 +99,11 @@ module _ (i : ℕ) (seed : List ℕ) (m : ℕ → List ℕ) where
     pub long : length x ≡ 32
     pub here : (t : ℕ) → t < 32 → getD x t 0 ≡ bitXor (getD seed t 0) (sum numbers k (part t))
 
-  pub tossed-zero : (x : List ℕ) → length seed ≡ 32 → x ≡ seed → Tossed 0 x
+  pub tossed-zero : (x : List ℕ) → length seed ≡ 32 → x ≡ xorInplace (replicate 32 0) seed → Tossed 0 x
   unfolding sum
-  tossed-zero x h e = record {
-    long = ap length e ∙ h;
-    here = λ t l. ap (λ (y : List ℕ). getD y t 0) e ∙ sym (xor-zero-r (getD seed t 0));
-  }
+  tossed-zero x h e =
+      let e′ : x ≡ seed = e ∙ ap (λ n. xorInplace (replicate n 0) seed) (sym h) ∙ zeros-xor seed in
+      record { long = ap length e′ ∙ h; here = λ t l. ap (λ (y : List ℕ). getD y t 0) e′ ∙ sym (xor-zero-r (getD seed t 0)) }
 
   added : (b : Bool) (y : List ℕ) (t : ℕ) → t < 32 → getD (pick b y (replicate 32 0)) t 0 ≡ sel numbers b (getD y t 0)
   added true y t l = refl
@@ -115,10 +114,10 @@ module _ (i : ℕ) (seed : List ℕ) (m : ℕ → List ℕ) where
   tossed-turn k x y w e = record {
     long = length-xor x y ∙ w .long;
     here = λ t l.
-    getD-xor x y t (omega (arith, w .long))
-    ∙ ap₂ bitXor (w .here t l) (ap (λ (z : List ℕ). getD z t 0) e ∙ added (neq i k) (told (m k)) t l)
-    ∙ xor-assoc (getD seed t 0) (sum numbers k (part t)) (part t k)
-    ∙ ap (λ j. bitXor (getD seed t 0) (sum numbers j (part t))) (sym (add-one k));
+        getD-xor x y t (omega (arith, w .long))
+        ∙ ap₂ bitXor (w .here t l) (ap (λ (z : List ℕ). getD z t 0) e ∙ added (neq i k) (told (m k)) t l)
+        ∙ xor-assoc (getD seed t 0) (sum numbers k (part t)) (part t k)
+        ∙ ap (λ j. bitXor (getD seed t 0) (sum numbers j (part t))) (sym (add-one k));
   }
 
   pub tossed-end : (n l k : ℕ) (x : List ℕ) → Tossed k x → k ≡ n → x ≡ jointSeed (frame n l i) seed m

@@ -22,7 +22,7 @@ use blake3::Digest;
 use rounds::Fault;
 
 // The bytes of s, to a buffer of their length.
-fn copy(out: &mut [u8], s: &[u8])
+pub fn copy(out: &mut [u8], s: &[u8])
     requires { ⌜ length (now out) ≡ length (now s) ⌝ }
     ensures { λ _. ⌜ now (out .exit) ≡ now (s .entry) ⌝ }
 {
@@ -131,7 +131,14 @@ pub fn write_pair_seeds(out: &mut [u8], pairs: &[u8], n: usize, i: usize)
 // ---- what the others told
 
 // What party k told, a commitment or a seed; zero for the own number.
-fn told_row(incoming: &[u8], starts: &[usize], lens: &[usize], n: usize, i: usize, k: usize) -> [u8; 32]
+fn told_row(
+    incoming: &[u8],
+    starts: &[usize],
+    lens: &[usize],
+    n: usize,
+    i: usize,
+    k: usize,
+) -> [u8; 32]
     requires { ⌜ k < n ⌝ }
     requires { ⌜ Mail.Arrived n i 40 (now incoming) (now starts) (now lens) ⌝ }
     ensures { λ r. ⌜ r ≡ pick (neq i k) (Toss.told (Mail.letter (now (incoming .entry)) (now (starts .entry)) (now (lens .entry)) k)) (replicate 32 0) ⌝ }
@@ -145,7 +152,14 @@ fn told_row(incoming: &[u8], starts: &[usize], lens: &[usize], n: usize, i: usiz
 }
 
 // Rounds 1 and 4: the commitments of all others.
-pub fn keep_told(section: &mut [u8], incoming: &[u8], starts: &[usize], lens: &[usize], n: usize, i: usize)
+pub fn keep_told(
+    section: &mut [u8],
+    incoming: &[u8],
+    starts: &[usize],
+    lens: &[usize],
+    n: usize,
+    i: usize,
+)
     requires { ⌜ (n ≤ 8) × (length (now section) ≡ n * 32) ⌝ }
     requires { ⌜ Mail.Arrived n i 40 (now incoming) (now starts) (now lens) ⌝ }
     ensures { λ _. ⌜ ((l : ℕ) → now (section .exit) ≡ Toss.toldRows (frame n l i) (Mail.letter (now (incoming .entry)) (now (starts .entry)) (now (lens .entry)))) ⌝ }
@@ -163,8 +177,16 @@ pub fn keep_told(section: &mut [u8], incoming: &[u8], starts: &[usize], lens: &[
 // ---- the seeds opened
 
 // 2 if the seed that party k told doesn't open its commitment; none of the own number.
-fn open_fault(comms: &[u8], incoming: &[u8], starts: &[usize], lens: &[usize], n: usize, i: usize, k: usize) -> u8
-    requires { ⌜ (n ≤ 8) × ((k < n) × (length (now comms) ≡ n * 32)) ⌝ }
+fn open_fault(
+    comms: &[u8],
+    incoming: &[u8],
+    starts: &[usize],
+    lens: &[usize],
+    n: usize,
+    i: usize,
+    k: usize,
+) -> u8
+    requires { ⌜ (n ≤ 8) × ((i < n) × ((k < n) × (length (now comms) ≡ n * 32))) ⌝ }
     requires { ⌜ Mail.Arrived n i 40 (now incoming) (now starts) (now lens) ⌝ }
     ensures { λ r. ⌜ r ≡ faultAt i (openFault (now (comms .entry)) (Mail.letter (now (incoming .entry)) (now (starts .entry)) (now (lens .entry)))) k ⌝ }
 {
@@ -180,8 +202,15 @@ fn open_fault(comms: &[u8], incoming: &[u8], starts: &[usize], lens: &[usize], n
 }
 
 // Rounds 3 and 5: 2 with the first party whose seed doesn't open its commitment.
-pub fn open(comms: &[u8], incoming: &[u8], starts: &[usize], lens: &[usize], n: usize, i: usize) -> Fault
-    requires { ⌜ (n ≤ 8) × (length (now comms) ≡ n * 32) ⌝ }
+pub fn open(
+    comms: &[u8],
+    incoming: &[u8],
+    starts: &[usize],
+    lens: &[usize],
+    n: usize,
+    i: usize,
+) -> Fault
+    requires { ⌜ (n ≤ 8) × ((i < n) × (length (now comms) ≡ n * 32)) ⌝ }
     requires { ⌜ Mail.Arrived n i 40 (now incoming) (now starts) (now lens) ⌝ }
     ensures { λ r. ⌜ ((l : ℕ) → Finds (r .code) (r .party) (Toss.opening (frame n l i) (now (comms .entry)) (Mail.letter (now (incoming .entry)) (now (starts .entry)) (now (lens .entry))))) ⌝ }
 {
@@ -189,7 +218,10 @@ pub fn open(comms: &[u8], incoming: &[u8], starts: &[usize], lens: &[usize], n: 
     while k < n {
         let code = open_fault(comms, incoming, starts, lens, n, i, k);
         if code != 0 {
-            return Fault { code: code, party: k };
+            return Fault {
+                code: code,
+                party: k,
+            };
         }
         k += 1;
     }
@@ -197,13 +229,20 @@ pub fn open(comms: &[u8], incoming: &[u8], starts: &[usize], lens: &[usize], n: 
 }
 
 // Round 3: the joint seed, the XOR of all seeds.
-pub fn joint_seed(seed: &[u8], incoming: &[u8], starts: &[usize], lens: &[usize], n: usize, i: usize) -> [u8; 32]
+pub fn joint_seed(
+    seed: &[u8],
+    incoming: &[u8],
+    starts: &[usize],
+    lens: &[usize],
+    n: usize,
+    i: usize,
+) -> [u8; 32]
     requires { ⌜ (n ≤ 8) × (length (now seed) ≡ 32) ⌝ }
     requires { ⌜ Mail.Arrived n i 40 (now incoming) (now starts) (now lens) ⌝ }
     ensures { λ r. ⌜ ((l : ℕ) → r ≡ Toss.jointSeed (frame n l i) (now (seed .entry)) (Mail.letter (now (incoming .entry)) (now (starts .entry)) (now (lens .entry)))) ⌝ }
 {
     let mut x = [0u8; 32];
-    copy(&mut x, seed);
+    block::xor_inplace(&mut x, seed);
     let mut k = 0;
     while k < n {
         let row = told_row(incoming, starts, lens, n, i, k);
@@ -214,8 +253,16 @@ pub fn joint_seed(seed: &[u8], incoming: &[u8], starts: &[usize], lens: &[usize]
 }
 
 // Round 5: the seed with party k, the XOR of the own one for it and of what it told; zero for the own number.
-fn pair_seed(pairs: &[u8], incoming: &[u8], starts: &[usize], lens: &[usize], n: usize, i: usize, k: usize) -> [u8; 32]
-    requires { ⌜ (n ≤ 8) × ((k < n) × (length (now pairs) ≡ 32 * n)) ⌝ }
+fn pair_seed(
+    pairs: &[u8],
+    incoming: &[u8],
+    starts: &[usize],
+    lens: &[usize],
+    n: usize,
+    i: usize,
+    k: usize,
+) -> [u8; 32]
+    requires { ⌜ (n ≤ 8) × ((i < n) × ((k < n) × (length (now pairs) ≡ 32 * n))) ⌝ }
     requires { ⌜ Mail.Arrived n i 40 (now incoming) (now starts) (now lens) ⌝ }
     ensures { λ r. ⌜ r ≡ pairRow i (now (pairs .entry)) (Mail.letter (now (incoming .entry)) (now (starts .entry)) (now (lens .entry))) k ⌝ }
 {
@@ -231,8 +278,18 @@ fn pair_seed(pairs: &[u8], incoming: &[u8], starts: &[usize], lens: &[usize], n:
 }
 
 // Round 5: all pairwise seeds, from section PAIRS of the work area, at `pairs_at`, to section PAIRWISE, at `rows_at`. l says which layout it is.
-pub fn keep_pairwise(work: &mut [u8], pairs_at: usize, rows_at: usize, incoming: &[u8], starts: &[usize], lens: &[usize], n: usize, i: usize, l: usize)
-    requires { ⌜ (n ≤ 8) × (length (now work) ≡ workLen (frame n l i)) ⌝ }
+pub fn keep_pairwise(
+    work: &mut [u8],
+    pairs_at: usize,
+    rows_at: usize,
+    incoming: &[u8],
+    starts: &[usize],
+    lens: &[usize],
+    n: usize,
+    i: usize,
+    l: usize,
+)
+    requires { ⌜ (n ≤ 8) × ((i < n) × (length (now work) ≡ workLen (frame n l i))) ⌝ }
     requires { ⌜ («pairs_at» ≡ off (sizeOf (frame n l i)) PAIRS) × («rows_at» ≡ off (sizeOf (frame n l i)) PAIRWISE) ⌝ }
     requires { ⌜ Mail.Arrived n i 40 (now incoming) (now starts) (now lens) ⌝ }
     ensures { λ _. ⌜ now (work .exit) ≡ keep (frame n l i) PAIRWISE (Toss.pairwiseSeeds (frame n l i) (at (frame n l i) PAIRS (now (work .entry))) (Mail.letter (now (incoming .entry)) (now (starts .entry)) (now (lens .entry)))) (now (work .entry)) ⌝ }

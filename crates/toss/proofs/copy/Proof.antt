@@ -18,9 +18,13 @@ abbrev μ-loop : tie.MeasureT-loop
 loop-again : tie.Need-loop-again Inv-loop μ-loop
 loop-again c =
     let l = c .before .before in
-    let a = l .before in
-    (omega arith, (simp length-set (l .loop .inv .1 .0),
-    copy-turn (now (a .args .s)) (now (a .args .out)) (l .loop .out) (l .loop .t) (c .before .loop-test .taken) (omega arith) (l .loop .inv .1 .1)))
+    let a = l .before in (
+      omega arith,
+      (
+        simp length-set (l .loop .inv .1 .0),
+        copy-turn (now (a .args .s)) (now (a .args .out)) (l .loop .out) (l .loop .t) (c .before .loop-test .taken) (omega arith) (l .loop .inv .1 .1),
+      ),
+    )
 
 returns : tie.Need-returns Inv-loop μ-loop
 returns c =

@@ -1,8 +1,7 @@
-use mathlib.Core.Path.{_≡_, sym, ap, ap₂, _∙_}
+use mathlib.Core.Path.{_≡_}
 use Prim.Native.Nat.{ℕ, _-_, _≤_}
 use native.Mathlib.Omega.{arith}
 use denote.Ref.{now}
-use Rattle.block.specs.Block.{xorInplace}
 use Rattle.rounds.specs.Mail.{letter}
 use Rattle.rounds.specs.TossLaws.{Tossed, tossed-zero, tossed-turn, tossed-end}
 use borrow.Author.Needs.{needs}
@@ -19,14 +18,16 @@ loop-holds : tie.Need-loop-holds Inv-loop μ-loop
 loop-holds c =
     let s = c .before .before .before .before .before .before .before in
     let a = s .args in
-    (search needs, tossed-zero (a .i) (now (a .seed)) (letter (now (a .incoming)) (now (a .starts)) (now (a .lens))) (c .before .copy .last .0) (s .pre .0 .1) (c .before .copy .ensures))
+    (search needs, tossed-zero (a .i) (now (a .seed)) (letter (now (a .incoming)) (now (a .starts)) (now (a .lens))) (c .before .xor-inplace .last .0) (s .pre .0 .1) (c .before .xor-inplace .ensures))
 
 loop-again : tie.Need-loop-again Inv-loop μ-loop
 loop-again c =
     let l = c .before .before .before .before .before .before in
-    let a = c .before .before .before .before .before .before .before .before .before .before .before .before .before .before .args in
-    (omega (arith, c .before .before .before .before .before), rw (c .before .xor-inplace .ensures)
-    (tossed-turn (a .i) (now (a .seed)) (letter (now (a .incoming)) (now (a .starts)) (now (a .lens))) (l .loop .k) (l .loop .x) (c .before .before .before .before .told-row .result) (l .loop .inv .1) (c .before .before .before .before .told-row .ensures)))
+    let a = c .before .before .before .before .before .before .before .before .before .before .before .before .before .before .args in (
+      omega (arith, c .before .before .before .before .before),
+      rw (c .before .xor-inplace2 .ensures)
+          (tossed-turn (a .i) (now (a .seed)) (letter (now (a .incoming)) (now (a .starts)) (now (a .lens))) (l .loop .k) (l .loop .x) (c .before .before .before .before .told-row .result) (l .loop .inv .1) (c .before .before .before .before .told-row .ensures)),
+    )
 
 returns : tie.Need-returns Inv-loop μ-loop
 returns c l =

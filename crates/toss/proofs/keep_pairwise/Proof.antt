@@ -50,8 +50,8 @@ pair-seed-requires c κs =
     let l = c .before .before .before in
     let s = l .before .before .before .before .before in
     let a = s .args in
-    let fits = length-pairs (a .n) (a .l) (a .i) (a .pairs-at) (a .pairs-at + 32 * a .n) (a .rows-at) (l .loop .k) _ (now (a .work)) (l .loop .work) (s .pre .1 .0 .0) refl (s .pre .1 .0 .1) (l .loop .inv .1) (s .pre .0 .1) in
-    ((s .pre .0 .0, (c .before .before .loop-test .taken, fits)), s .pre .1 .1)
+    let fits = length-pairs (a .n) (a .l) (a .i) (a .pairs-at) (a .pairs-at + 32 * a .n) (a .rows-at) (l .loop .k) _ (now (a .work)) (l .loop .work) (s .pre .1 .0 .0) refl (s .pre .1 .0 .1) (l .loop .inv .1) (s .pre .0 .1 .1) in
+    ((s .pre .0 .0, (s .pre .0 .1 .0, (c .before .before .loop-test .taken, fits))), s .pre .1 .1)
 
 -- row k lies within
 room : (c : tie.After-pair-seed Inv-loop μ-loop) → c .before .before .before .before .before .before .before .before .before .args .rows-at + c .before .before .before .before .loop .k * 32 + 32 ≤ length (now (c .before .before .before .before .before .before .before .before .before .args .work))
@@ -75,9 +75,11 @@ loop-again c =
     let a = s .args in
     let g = row (now (a .work)) (now (a .incoming)) (now (a .starts)) (now (a .lens)) (a .n) (a .i) (a .l) in
     let m = letter (now (a .incoming)) (now (a .starts)) (now (a .lens)) in
-    let e = pairs-there (a .n) (a .l) (a .i) (a .pairs-at) (a .pairs-at + 32 * a .n) (a .rows-at) (l .loop .k) g (now (a .work)) (l .loop .work) (s .pre .1 .0 .0) refl (s .pre .1 .0 .1) (l .loop .inv .1) in
-    (omega (arith, q .before .before .before), laid-turn g 32 (a .rows-at) (now (a .work)) (l .loop .k) (l .loop .work) (l .loop .inv .1) (a .rows-at + l .loop .k * 32) (a .rows-at + l .loop .k * 32 + 32)
-    (p .copy .last .0) refl refl (room q) (p .copy .ensures ∙ q .pair-seed .ensures ∙ ap (λ x. pairRow (a .i) x m (l .loop .k)) e) (p .copy .kept .0))
+    let e = pairs-there (a .n) (a .l) (a .i) (a .pairs-at) (a .pairs-at + 32 * a .n) (a .rows-at) (l .loop .k) g (now (a .work)) (l .loop .work) (s .pre .1 .0 .0) refl (s .pre .1 .0 .1) (l .loop .inv .1) in (
+      omega (arith, q .before .before .before),
+      laid-turn g 32 (a .rows-at) (now (a .work)) (l .loop .k) (l .loop .work) (l .loop .inv .1) (a .rows-at + l .loop .k * 32) (a .rows-at + l .loop .k * 32 + 32)
+          (p .copy .last .0) refl refl (room q) (p .copy .ensures ∙ q .pair-seed .ensures ∙ ap (λ x. pairRow (a .i) x m (l .loop .k)) e) (p .copy .kept .0),
+    )
 
 same-length : tie.Need-same-length Inv-loop μ-loop
 same-length c = c .before .loop .inv .1 .same

@@ -35,9 +35,11 @@ loop-again c =
     let r = p .before .before .before in
     let l = r .before .before in
     let s = l .before .before .before .before .before in
-    let a = s .args in
-    (omega (arith, r .before), even-turn (row (now (a .incoming)) (now (a .starts)) (now (a .lens)) (a .i)) (a .n) 32 (now (a .section)) (s .pre .0 .1)
-    (l .loop .k) (l .loop .section) (p .copy .last .0) (r .before .loop-test .taken) (l .loop .inv .1) (p .copy .ensures ∙ r .told-row .ensures) (p .copy .kept .0))
+    let a = s .args in (
+      omega (arith, r .before),
+      even-turn (row (now (a .incoming)) (now (a .starts)) (now (a .lens)) (a .i)) (a .n) 32 (now (a .section)) (s .pre .0 .1)
+          (l .loop .k) (l .loop .section) (p .copy .last .0) (r .before .loop-test .taken) (l .loop .inv .1) (p .copy .ensures ∙ r .told-row .ensures) (p .copy .kept .0),
+    )
 
 same-length : tie.Need-same-length Inv-loop μ-loop
 same-length c = c .before .loop .inv .1 .same

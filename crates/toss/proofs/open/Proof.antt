@@ -32,9 +32,11 @@ returns c l =
 
 loop-again : tie.Need-loop-again Inv-loop μ-loop
 loop-again c =
-    let a = c .before .before .before .before .before .before .before .before .args in
-    (omega arith, scan-turn (c .before .before .before .loop .k) (faultAt (a .i) (openFault (now (a .comms)) (letter (now (a .incoming)) (now (a .starts)) (now (a .lens))))) (c .before .before .before .loop .inv .1)
-    (sym (c .before .open-fault .ensures) ∙ c .if1 .left))
+    let a = c .before .before .before .before .before .before .before .before .args in (
+      omega arith,
+      scan-turn (c .before .before .before .loop .k) (faultAt (a .i) (openFault (now (a .comms)) (letter (now (a .incoming)) (now (a .starts)) (now (a .lens))))) (c .before .before .before .loop .inv .1)
+          (sym (c .before .open-fault .ensures) ∙ c .if1 .left),
+    )
 
 returns-2 : tie.Need-returns-2 Inv-loop μ-loop
 unfolding opening

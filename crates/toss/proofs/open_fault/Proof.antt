@@ -24,13 +24,13 @@ letter-requires : tie.Need-letter-requires
 letter-requires c κs =
     let s = c .before .before .before .before .before in
     let a = s .args in
-    letter-fits (a .n) (a .i) 40 (now (a .incoming)) (now (a .starts)) (now (a .lens)) (s .pre .1) (a .k) (s .pre .0 .1 .0) (c .if1 .left)
+    letter-fits (a .n) (a .i) 40 (now (a .incoming)) (now (a .starts)) (now (a .lens)) (s .pre .1) (a .k) (s .pre .0 .1 .1 .0) (c .if1 .left)
 
 part-commitment-end : tie.Need-part-commitment-end
 part-commitment-end c =
     let s = c .before .before .before .before .before .before in
     let a = s .args in
-    omega (arith, ap length (c .letter .ensures), letter-long (a .n) (a .i) 40 (now (a .incoming)) (now (a .starts)) (now (a .lens)) (s .pre .1) (a .k) (s .pre .0 .1 .0) (c .before .if1 .left))
+    omega (arith, ap length (c .letter .ensures), letter-long (a .n) (a .i) 40 (now (a .incoming)) (now (a .starts)) (now (a .lens)) (s .pre .1) (a .k) (s .pre .0 .1 .1 .0) (c .before .if1 .left))
 
 -- what was compared, by the answer
 answers : (c : tie.After-is) (x : ℕ) → x ≡ pick (c .is .result) 0 2 → let a = c .before .before .before .before .before .before .before .before .before .args in

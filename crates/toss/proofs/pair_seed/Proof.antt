@@ -18,13 +18,13 @@ letter-requires : tie.Need-letter-requires
 letter-requires c κs =
     let s = c .before .before .before .before .before .before .before .before .before in
     let a = s .args in
-    letter-fits (a .n) (a .i) 40 (now (a .incoming)) (now (a .starts)) (now (a .lens)) (s .pre .1) (a .k) (s .pre .0 .1 .0) (c .before .before .before .before .if1 .taken)
+    letter-fits (a .n) (a .i) 40 (now (a .incoming)) (now (a .starts)) (now (a .lens)) (s .pre .1) (a .k) (s .pre .0 .1 .1 .0) (c .before .before .before .before .if1 .taken)
 
 part-xor-inplace-end : tie.Need-part-xor-inplace-end
 part-xor-inplace-end c =
     let s = c .before .before .before .before .before .before .before .before .before .before .before in
     let a = s .args in
-    omega (arith, ap length (c .before .letter .ensures), letter-long (a .n) (a .i) 40 (now (a .incoming)) (now (a .starts)) (now (a .lens)) (s .pre .1) (a .k) (s .pre .0 .1 .0) (c .before .before .before .before .before .before .if1 .taken))
+    omega (arith, ap length (c .before .letter .ensures), letter-long (a .n) (a .i) 40 (now (a .incoming)) (now (a .starts)) (now (a .lens)) (s .pre .1) (a .k) (s .pre .0 .1 .1 .0) (c .before .before .before .before .before .before .if1 .taken))
 
 returns : tie.Need-returns
 unfolding told

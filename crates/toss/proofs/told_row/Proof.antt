@@ -19,8 +19,11 @@ letter-requires c κs =
 part-copy-end : tie.Need-part-copy-end
 part-copy-end c =
     let s = c .before .before .before .before .before .before in
-    omega (arith, ap length (c .before .letter .ensures),
-    letter-long (s .args .n) (s .args .i) 40 (now (s .args .incoming)) (now (s .args .starts)) (now (s .args .lens)) (s .pre .1) (s .args .k) (s .pre .0) (c .before .before .if1 .taken))
+    omega (
+      arith,
+      ap length (c .before .letter .ensures),
+      letter-long (s .args .n) (s .args .i) 40 (now (s .args .incoming)) (now (s .args .starts)) (now (s .args .lens)) (s .pre .1) (s .args .k) (s .pre .0) (c .before .before .if1 .taken),
+    )
 
 returns : tie.Need-returns
 unfolding told

@@ -28,9 +28,11 @@ loop-again c =
     let l = p .before .before .before in
     let s = l .before .before .before .before in
     let a = s .args in
-    let e = comm-put (now (a .seed)) (bytes (l .before .commitment .result .0)) (p .put-commitment .last .0) (a .i) (p .put-commitment .ensures) (l .before .commitment .ensures) in
-    (omega (arith, p .before .before), sent-turn (a .n) (a .i) (λ r. commMsg (now (a .seed)) (a .i)) 40 (now (a .out)) (s .pre .1 .0) (l .loop .q) (l .loop .out)
-    (p .put-commitment .last .0) (p .before .before .loop-test .taken) (l .loop .inv .1) e (p .put-commitment .kept .0))
+    let e = comm-put (now (a .seed)) (bytes (l .before .commitment .result .0)) (p .put-commitment .last .0) (a .i) (p .put-commitment .ensures) (l .before .commitment .ensures) in (
+      omega (arith, p .before .before),
+      sent-turn (a .n) (a .i) (λ r. commMsg (now (a .seed)) (a .i)) 40 (now (a .out)) (s .pre .1 .0) (l .loop .q) (l .loop .out)
+          (p .put-commitment .last .0) (p .before .before .loop-test .taken) (l .loop .inv .1) e (p .put-commitment .kept .0),
+    )
 
 same-length : tie.Need-same-length Inv-loop μ-loop
 same-length c = c .before .loop .inv .1 .same

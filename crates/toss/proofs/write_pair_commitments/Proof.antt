@@ -50,10 +50,12 @@ loop-again c =
     let a = s .args in
     let seed = chunk 32 (other (a .i) (l .loop .q)) (now (a .pairs)) in
     let e =
-        comm-put seed (bytes (d .commitment .result .0)) (p .put-commitment .last .0) (a .i) (p .put-commitment .ensures)
-        (d .commitment .ensures ∙ ap (λ x. commitment x (a .i)) (row-part 32 (o .other .result) (now (a .pairs)) ∙ ap (λ r. chunk 32 r (now (a .pairs))) (o .other .ensures))) in
-    (omega (arith, o .before), sent-turn (a .n) (a .i) (λ r. commMsg (chunk 32 r (now (a .pairs))) (a .i)) 40 (now (a .out)) (s .pre .1 .0) (l .loop .q) (l .loop .out)
-    (p .put-commitment .last .0) (o .before .loop-test .taken) (l .loop .inv .1) e (p .put-commitment .kept .0))
+    comm-put seed (bytes (d .commitment .result .0)) (p .put-commitment .last .0) (a .i) (p .put-commitment .ensures)
+    (d .commitment .ensures ∙ ap (λ x. commitment x (a .i)) (row-part 32 (o .other .result) (now (a .pairs)) ∙ ap (λ r. chunk 32 r (now (a .pairs))) (o .other .ensures))) in (
+      omega (arith, o .before),
+      sent-turn (a .n) (a .i) (λ r. commMsg (chunk 32 r (now (a .pairs))) (a .i)) 40 (now (a .out)) (s .pre .1 .0) (l .loop .q) (l .loop .out)
+          (p .put-commitment .last .0) (o .before .loop-test .taken) (l .loop .inv .1) e (p .put-commitment .kept .0),
+    )
 
 same-length : tie.Need-same-length Inv-loop μ-loop
 same-length c = c .before .loop .inv .1 .same

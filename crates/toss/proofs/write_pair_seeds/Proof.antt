@@ -58,11 +58,13 @@ loop-again c =
     let r = other (a .i) (l .loop .q) in
     let seed = chunk 32 r (now (a .pairs)) in
     let e =
-        ver-put seed (p .put-bytes .last .0)
-        (p .put-bytes .ensures ∙ ap dmItem (row-part 32 (o .other .result) (now (a .pairs)) ∙ ap (λ k. chunk 32 k (now (a .pairs))) (o .other .ensures)))
-        (length-chunk 32 (a .n) r (now (a .pairs)) (other-below (a .n) (a .i) (l .loop .q) (o .before .loop-test .taken)) (omega (arith, s .pre))) in
-    (omega (arith, o .before), sent-turn (a .n) (a .i) (λ k. verMsg (chunk 32 k (now (a .pairs)))) 40 (now (a .out)) (s .pre .1 .0) (l .loop .q) (l .loop .out)
-    (p .put-bytes .last .0) (o .before .loop-test .taken) (l .loop .inv .1) e (p .put-bytes .kept .0))
+    ver-put seed (p .put-bytes .last .0)
+    (p .put-bytes .ensures ∙ ap dmItem (row-part 32 (o .other .result) (now (a .pairs)) ∙ ap (λ k. chunk 32 k (now (a .pairs))) (o .other .ensures)))
+    (length-chunk 32 (a .n) r (now (a .pairs)) (other-below (a .n) (a .i) (l .loop .q) (o .before .loop-test .taken)) (omega (arith, s .pre))) in (
+      omega (arith, o .before),
+      sent-turn (a .n) (a .i) (λ k. verMsg (chunk 32 k (now (a .pairs)))) 40 (now (a .out)) (s .pre .1 .0) (l .loop .q) (l .loop .out)
+          (p .put-bytes .last .0) (o .before .loop-test .taken) (l .loop .inv .1) e (p .put-bytes .kept .0),
+    )
 
 same-length : tie.Need-same-length Inv-loop μ-loop
 same-length c = c .before .loop .inv .1 .same

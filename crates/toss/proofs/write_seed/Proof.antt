@@ -27,9 +27,11 @@ loop-again c =
     let l = p .before .before .before in
     let s = l .before .before .before in
     let a = s .args in
-    let e = ver-put (now (a .seed)) (p .put-bytes .last .0) (p .put-bytes .ensures) (s .pre .1 .1) in
-    (omega (arith, p .before .before), sent-turn (a .n) (a .i) (λ r. verMsg (now (a .seed))) 40 (now (a .out)) (s .pre .1 .0) (l .loop .q) (l .loop .out) (p .put-bytes .last .0)
-    (p .before .before .loop-test .taken) (l .loop .inv .1) e (p .put-bytes .kept .0))
+    let e = ver-put (now (a .seed)) (p .put-bytes .last .0) (p .put-bytes .ensures) (s .pre .1 .1) in (
+      omega (arith, p .before .before),
+      sent-turn (a .n) (a .i) (λ r. verMsg (now (a .seed))) 40 (now (a .out)) (s .pre .1 .0) (l .loop .q) (l .loop .out) (p .put-bytes .last .0)
+          (p .before .before .loop-test .taken) (l .loop .inv .1) e (p .put-bytes .kept .0),
+    )
 
 same-length : tie.Need-same-length Inv-loop μ-loop
 same-length c = c .before .loop .inv .1 .same
