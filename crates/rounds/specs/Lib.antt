@@ -15,3 +15,10 @@ pub mod RowsLaws
 pub mod FaultLaws
 pub mod TossLaws
 pub mod MailLaws
+pub mod AreaLaws
+pub mod FabitnLaws
+pub mod SentLaws
+pub mod StringLaws
+pub mod LetterLaws
+pub mod HaandLaws
+pub mod Loops

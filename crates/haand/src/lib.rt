@@ -1,0 +1,244 @@
+// Round 14, `fhaand` of src/mpc/faand.rs: the half AND (WRK17b, Pi_HaAND). What `flaand` needs of the same hashes, phi, u and the sums of G, is
+// computed here too: a key is hashed once, with and without delta, and a MAC once.
+// Bits, MACs, keys, delta and masks are secret: they decide no branch and no index.
+ghost use mathlib.Core.Path.{_≡_};
+ghost use mathlib.Core.List.{_++_};
+ghost use Prim.Native.Nat.{_+_, _-_, _*_, _<_, _≤_};
+ghost use lib.ListN.{length, take, replicate};
+ghost use Rattle.lists.specs.Over.{cat};
+ghost use Rattle.algebra.specs.Group.{XorGroup, sel};
+ghost use Rattle.algebra.specs.Sum.{others, neq};
+ghost use Rattle.block.specs.Group.{blocks};
+ghost use Rattle.share.specs.Record.{recordLen, macAt, keyAt};
+ghost use Rattle.plan.specs.Plan as Plan;
+ghost use Rattle.encode.specs.Encode.{encode};
+ghost use Rattle.engine.specs.Step.{frame};
+ghost use Rattle.engine.specs.Area.{toOthers};
+ghost use Rattle.rounds.specs.Area.{BITS, LEAKY, leakyLen, at, keep};
+ghost use Rattle.rounds.specs.Loops.{rowOf};
+ghost use Rattle.rounds.specs.Haand as R;
+ghost use Rattle.haand.specs.Given.{Ranges, Asked, Kept, Work, Starts};
+ghost use Rattle.haand.specs.Sent as S;
+ghost use Rattle.haand.specs.Parts.{entry};
+use block::Block;
+
+// The bytes of a row of LEAKY.
+pub fn leaky_len(n: usize) -> usize
+    requires { ⌜ n ≤ 8 ⌝ }
+    ensures { λ r. ⌜ r ≡ leakyLen n ⌝ }
+{
+    32 + n * 18
+}
+
+// Where the x record of position t starts.
+pub fn x_at(n: usize, t: usize) -> usize
+    requires { ⌜ (n ≤ 8) × (t ≤ 1500000) ⌝ }
+    ensures { λ r. ⌜ r ≡ t * recordLen n ⌝ }
+{
+    t * share::record_len(n)
+}
+
+// Where the y record of position t starts.
+pub fn y_at(n: usize, l: usize, t: usize) -> usize
+    requires { ⌜ (n ≤ 8) × ((l ≤ 300000) × (t ≤ 1500000)) ⌝ }
+    ensures { λ r. ⌜ r ≡ (Plan.leaky l + t) * recordLen n ⌝ }
+{
+    (plan::leaky(l) + t) * share::record_len(n)
+}
+
+// Zeros.
+pub fn clear(out: &mut [u8])
+    ensures { λ _. ⌜ now (out .exit) ≡ replicate (length (now (out .entry))) 0 ⌝ }
+{
+    let mut j = 0;
+    while j < out.len() {
+        out[j] = 0;
+        j += 1;
+    }
+}
+
+// The sum of the keys and MACs of the record at `at`, the own ones left out.
+fn keys_and_macs(recs: &[u8], at: usize, n: usize, i: usize) -> Block
+    requires { ⌜ (n ≤ 8) × (at + recordLen n ≤ length (now recs)) ⌝ }
+    ensures { λ r. ⌜ r ≡ others blocks i n (λ k. blocks .op (keyAt (now (recs .entry)) at k) (macAt (now (recs .entry)) at k)) ⌝ }
+{
+    let mut sum = Block::zero();
+    let mut k = 0;
+    while k < n {
+        let e = share::key_at(recs, at, k).0.xor(share::mac_at(recs, at, k).0);
+        sum = sum.xor(e.const_mul(i != k));
+        k += 1;
+    }
+    sum
+}
+
+// phi at position t.
+pub fn phi(recs: &[u8], delta: Block, n: usize, i: usize, l: usize, t: usize) -> Block
+    requires { ⌜ Asked n i l t (now recs) ⌝ }
+    ensures { λ r. ⌜ r ≡ R.phi (frame n l i) delta (now (recs .entry)) t ⌝ }
+{
+    let at = y_at(n, l, t);
+    keys_and_macs(recs, at, n, i).xor(delta.const_mul(share::bit_at(recs, at)))
+}
+
+// G and H of a Block: one hash.
+pub struct Hashes(pub Block, pub bool);
+
+pub fn hashed(b: Block) -> Hashes
+    ensures { λ r. ⌜ (r .0 ≡ R.G b) × (r .1 ≡ R.H b) ⌝ }
+{
+    let d = blake3::hash_block(b);
+    Hashes(d.block(), d.bit())
+}
+
+// The entry of a party with the x key `key`. Returns G of the key.
+fn put_entry(out: &mut [u8], key: Block, delta: Block, p: Block) -> Block
+    requires { ⌜ length (now out) ≡ 18 ⌝ }
+    ensures { λ r. ⌜ (now (out .exit) ≡ entry key delta p) × (r ≡ R.G key) ⌝ }
+{
+    let a = hashed(key);
+    let b = hashed(key.xor(delta));
+    block::store(&mut out[0..16], a.0.xor(b.0).xor(p));
+    encode::put_two_bits(&mut out[16..18], a.1, b.1);
+    a.0
+}
+
+// The entry of party k, zero where it is the own one. Returns what it adds to the sum of G.
+fn put_entry_of(out: &mut [u8], recs: &[u8], at: usize, i: usize, k: usize, delta: Block, p: Block) -> Block
+    requires { ⌜ (length (now out) ≡ 18) × (k < 8) ⌝ }
+    requires { ⌜ at + recordLen (k + 1) ≤ length (now recs) ⌝ }
+    ensures { λ r. ⌜ (now (out .exit) ≡ rowOf i 18 (λ k. entry (keyAt (now (recs .entry)) at k) delta p) k)
+        × (r ≡ sel blocks (neq i k) (R.G (keyAt (now (recs .entry)) at k))) ⌝ }
+{
+    if i == k {
+        clear(out);
+        return Block::zero();
+    }
+    put_entry(out, share::key_at(recs, at, k).0, delta, p)
+}
+
+// The entries of all parties. Returns the sum of G over the x keys.
+fn put_entries(out: &mut [u8], recs: &[u8], at: usize, n: usize, i: usize, delta: Block, p: Block) -> Block
+    requires { ⌜ (n ≤ 8) × (length (now out) ≡ n * 18) ⌝ }
+    requires { ⌜ at + recordLen n ≤ length (now recs) ⌝ }
+    ensures { λ r. ⌜ (now (out .exit) ≡ cat n (rowOf i 18 (λ k. entry (keyAt (now (recs .entry)) at k) delta p)))
+        × (r ≡ others blocks i n (λ k. R.G (keyAt (now (recs .entry)) at k))) ⌝ }
+{
+    let mut sum = Block::zero();
+    let mut k = 0;
+    while k < n {
+        let a = k * 18;
+        let e = a + 18;
+        let g = put_entry_of(&mut out[a..e], recs, at, i, k, delta, p);
+        sum = sum.xor(g);
+        k += 1;
+    }
+    sum
+}
+
+// The row of position t: all that is hashed of its x keys.
+fn put_row(out: &mut [u8], recs: &[u8], delta: Block, n: usize, i: usize, l: usize, t: usize)
+    requires { ⌜ Asked n i l t (now recs) ⌝ }
+    requires { ⌜ length (now out) ≡ leakyLen n ⌝ }
+    ensures { λ _. ⌜ now (out .exit) ≡ R.leakyRow (frame n l i) delta (now (recs .entry)) t ⌝ }
+{
+    let p = phi(recs, delta, n, i, l, t);
+    let at = x_at(n, t);
+    let g = put_entries(&mut out[32..], recs, at, n, i, delta, p);
+    block::store(&mut out[0..16], p);
+    block::store(&mut out[16..32], g);
+}
+
+// The same by value, with zeros behind it.
+pub fn leaky_row(recs: &[u8], delta: Block, n: usize, i: usize, l: usize, t: usize) -> [u8; 176]
+    requires { ⌜ Asked n i l t (now recs) ⌝ }
+    ensures { λ r. ⌜ r ≡ R.leakyRow (frame n l i) delta (now (recs .entry)) t ++ replicate (176 - leakyLen n) 0 ⌝ }
+{
+    let mut row = [0u8; 176];
+    let e = leaky_len(n);
+    put_row(&mut row[..e], recs, delta, n, i, l, t);
+    row
+}
+
+// As many bytes of s as out has.
+pub fn copy(out: &mut [u8], s: &[u8])
+    requires { ⌜ length (now out) ≤ length (now s) ⌝ }
+    ensures { λ _. ⌜ now (out .exit) ≡ take (length (now (out .entry))) (now (s .entry)) ⌝ }
+{
+    let mut j = 0;
+    while j < out.len() {
+        out[j] = s[j];
+        j += 1;
+    }
+}
+
+// Keeps the rows of LEAKY, which starts at `rows`; BITS starts at `recs`.
+pub fn keep_leaky(work: &mut [u8], recs: usize, rows: usize, delta: Block, n: usize, i: usize, l: usize)
+    requires { ⌜ Work n i l (now work) ⌝ }
+    requires { ⌜ (Starts n i l BITS recs) × (Starts n i l LEAKY rows) ⌝ }
+    ensures { λ _. ⌜ now (work .exit) ≡ keep (frame n l i) LEAKY
+        (R.leakyRows (frame n l i) delta (at (frame n l i) BITS (now (work .entry)))) (now (work .entry)) ⌝ }
+{
+    let count = plan::leaky(l);
+    let end = recs + plan::bits_len(n, l);
+    let len = leaky_len(n);
+    let mut t = 0;
+    while t < count {
+        let row = leaky_row(&work[recs..end], delta, n, i, l, t);
+        let a = rows + t * len;
+        let e = a + len;
+        copy(&mut work[a..e], &row);
+        t += 1;
+    }
+}
+
+// The item for party k at position t. Its bits H stand in the rows of LEAKY.
+fn put_item(out: &mut [u8], rows: &[u8], masks: &[u8], recs: &[u8], n: usize, i: usize, l: usize, k: usize, t: usize)
+    requires { ⌜ (length (now out) ≡ 2) × (k < n) ⌝ }
+    requires { ⌜ Asked n i l t (now recs) ⌝ }
+    requires { ⌜ Kept n l (now rows) (now masks) ⌝ }
+    ensures { λ _. ⌜ now (out .exit) ≡ S.item (frame n l i) (now (rows .entry)) (now (masks .entry)) (now (recs .entry)) k t ⌝ }
+{
+    let at = t * leaky_len(n) + (32 + k * 18);
+    let s = block::bit(masks, k * plan::leaky(l) + t);
+    let y = share::bit_at(recs, y_at(n, l, t));
+    encode::put_two_bits(out, block::bit(rows, at + 16) ^ s, block::bit(rows, at + 17) ^ s ^ y);
+}
+
+// The message to party k.
+fn put_message(out: &mut [u8], rows: &[u8], masks: &[u8], recs: &[u8], n: usize, i: usize, l: usize, k: usize)
+    requires { ⌜ (length (now out) ≡ 8 + Plan.leaky l * 2) × (k < n) ⌝ }
+    requires { ⌜ (Ranges n i l) × (length (now recs) ≡ Plan.bitsCount l * recordLen n) ⌝ }
+    requires { ⌜ Kept n l (now rows) (now masks) ⌝ }
+    ensures { λ _. ⌜ now (out .exit) ≡ encode (Plan.leaky l) (S.item (frame n l i) (now (rows .entry)) (now (masks .entry)) (now (recs .entry)) k) ⌝ }
+{
+    let count = plan::leaky(l);
+    encode::put_count(&mut out[0..8], count);
+    let mut t = 0;
+    while t < count {
+        let a = 8 + t * 2;
+        let e = a + 2;
+        put_item(&mut out[a..e], rows, masks, recs, n, i, l, k, t);
+        t += 1;
+    }
+}
+
+// The messages of round 14, from the rows that `keep_leaky` kept.
+pub fn write_haand(out: &mut [u8], rows: &[u8], masks: &[u8], recs: &[u8], n: usize, i: usize, l: usize)
+    requires { ⌜ length (now out) ≡ (n - 1) * (8 + Plan.leaky l * 2) ⌝ }
+    requires { ⌜ (Ranges n i l) × (length (now recs) ≡ Plan.bitsCount l * recordLen n) ⌝ }
+    requires { ⌜ Kept n l (now rows) (now masks) ⌝ }
+    ensures { λ _. ⌜ ((delta : Block) → now (rows .entry) ≡ R.leakyRows (frame n l i) delta (now (recs .entry))
+        → now (out .exit) ≡ toOthers n i (R.haandMsg (frame n l i) delta (now (masks .entry)) (now (recs .entry)))) ⌝ }
+{
+    let len = 8 + plan::leaky(l) * 2;
+    let last = n - 1;
+    let mut q = 0;
+    while q < last {
+        let a = q * len;
+        let e = a + len;
+        let k = plan::other(i, q);
+        put_message(&mut out[a..e], rows, masks, recs, n, i, l, k);
+        q += 1;
+    }
+}

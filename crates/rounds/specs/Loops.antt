@@ -1,0 +1,194 @@
+-- Loops in the code of the rounds, turn by turn: sums over the other parties, a row for each party, a message to each other party, and a section of
+-- the work area that is written row by row while other sections are read.
+use mathlib.Core.Path.{_≡_, refl, sym, ap, ap₂, _∙_, subst}
+use mathlib.Core.Bool.{Bool, true, false, _&&_}
+use mathlib.Core.Logic.{_≢_}
+use mathlib.Core.List.{List, _++_, append-assoc}
+use Prim.Native.Nat.{ℕ, zero, suc, _+_, _-_, _*_, _<_, _≤_, min}
+use native.Mathlib.Nat.{zero-mul}
+use native.Mathlib.Numerals.{add-one}
+use native.Mathlib.Omega.{arith}
+use lib.ListN.{length, take, drop, replicate, length-append, length-drop, length-take, length-replicate, take-append-drop}
+use lib.Dec.{ltb}
+use borrow.Author.Tests.{lt-ltb}
+use borrow.Rule.Slice.PartMut.{putMid}
+use Rattle.lists.specs.Pick.{pick}
+use Rattle.lists.specs.Over.{cat, length-cat, over-put, length-over, over-full, in-chunks, next-chunk, Written, written-zero, written-turn, written-end}
+use Rattle.lists.specs.Rows.{cat-ext}
+use Rattle.lists.specs.Sect.{length-get}
+use Rattle.algebra.specs.Group.{XorGroup, sel}
+use Rattle.algebra.specs.Sum.{neq, neq-self, neq-true, sum, others}
+use Rattle.block.specs.Block.{le8}
+use Rattle.block.specs.Trip.{length-le8}
+use Rattle.encode.specs.Encode.{encode}
+use Rattle.plan.specs.Plan as Plan
+use Rattle.plan.specs.PlanLaws.{other-below}
+use Rattle.engine.specs.declared.Frame.{Frame}
+use Rattle.engine.specs.Step.{other}
+use Rattle.engine.specs.Area.{off, sec, putSec, nth, toOthers, length-sec, length-putSec, sec-same, sec-other, putSec-twice, put-sec}
+use Rattle.rounds.specs.Area.{rows}
+
+-- ---- sums over all parties but one
+module _ {A : Type 0} (G : XorGroup A) (i : ℕ) (f : ℕ → A) where
+  pub others-none : G .nil ≡ others G i 0 f
+  unfolding others sum
+  others-none = refl
+
+  pub others-turn : (k : ℕ) (s x : A) → s ≡ others G i k f → x ≡ sel G (neq i k) (f k) → G .op s x ≡ others G i (k + 1) f
+  unfolding others sum
+  others-turn k s x hs hx = ap₂ (G .op) hs hx ∙ rw (add-one k) refl
+
+-- ---- a row for each party, zero for party i
+unfoldable pub rowOf : ℕ → ℕ → (ℕ → List ℕ) → ℕ → List ℕ
+rowOf i m g k = pick (neq i k) (g k) (replicate m 0)
+
+pub rows-of : (f : Frame) (m : ℕ) (g : ℕ → List ℕ) → cat (f .n) (rowOf (f .i) m g) ≡ rows f m g
+unfolding rows rowOf other
+rows-of f m g = cat-ext (f .n) _ _ (λ k l. ap (λ b. pick b (g k) (replicate m 0)) (at (neq (f .i) k) (ltb k (f .n)) (lt-ltb k (f .n) l)))
+  where
+    at : (a b : Bool) → b ≡ true → a ≡ (a && b)
+    at true b e = sym e
+    at false b e = refl
+
+pub length-rowOf : (i m : ℕ) (g : ℕ → List ℕ) (k : ℕ) → length (g k) ≡ m → length (rowOf i m g k) ≡ m
+unfolding rowOf
+length-rowOf i m g k h = go (neq i k)
+  where
+    go : (b : Bool) → length (pick b (g k) (replicate m 0)) ≡ m
+    go true = h
+    go false = length-replicate m 0
+
+pub length-rows : (f : Frame) (m : ℕ) (g : ℕ → List ℕ) → ((k : ℕ) → k < f .n → length (g k) ≡ m) → length (rows f m g) ≡ f .n * m
+length-rows f m g h =
+    ap length (sym (rows-of f m g)) ∙ length-cat (f .n) m (rowOf (f .i) m g) (λ k l. length-rowOf (f .i) m g k (h k l))
+
+pub neq-own : (i k : ℕ) → i ≡ k → neq i k ≡ false
+neq-own i k e = ap (neq i) (sym e) ∙ neq-self i
+
+pub row-own : (i m : ℕ) (g : ℕ → List ℕ) (k : ℕ) → i ≡ k → rowOf i m g k ≡ replicate m 0
+unfolding rowOf
+row-own i m g k e = ap (λ b. pick b (g k) (replicate m 0)) (neq-own i k e)
+
+pub row-other : (i m : ℕ) (g : ℕ → List ℕ) (k : ℕ) → i ≢ k → rowOf i m g k ≡ g k
+unfolding rowOf
+row-other i m g k e = ap (λ b. pick b (g k) (replicate m 0)) (neq-true i k e)
+
+-- ---- a list of c items of one length
+pub length-encode : (c size : ℕ) (g : ℕ → List ℕ) → ((t : ℕ) → t < c → length (g t) ≡ size) → length (encode c g) ≡ 8 + c * size
+unfolding encode
+length-encode c size g h = length-append (le8 c) (cat c g) ∙ ap₂ _+_ (length-le8 c) (length-cat c size g h)
+
+-- ---- the q-th party but i
+pub nth-other : (i q : ℕ) → Plan.other i q ≡ nth i q
+unfolding Plan.other nth
+nth-other i q = ap (λ k. pick (ltb q i) q k) (add-one q)
+
+-- ---- a message of m bytes to each other party, one after another; len is m as the code has it
+module _ (n i m : ℕ) (g : ℕ → List ℕ) where
+  -- d is l with the messages of the first q in place of its first bytes
+  abbrev pub Sent : ℕ → List ℕ → List ℕ → Type 0
+  Sent q l d = Written (λ q. g (nth i q)) q (q * m) l d
+
+  pub sent-none : (l : List ℕ) → Sent 0 l l
+  sent-none l = rw (zero-mul m) (written-zero _ l)
+
+  module _ (len q : ℕ) (l d : List ℕ) (is : len ≡ m) (whole : length l ≡ (n - 1) * m) (w : Sent q l d) where
+    pub sent-in : q < n - 1 → q * len + len ≤ length d
+    sent-in h = omega (arith, in-chunks q (n - 1) m h, w .same, ap (λ k. q * k) is)
+
+    pub sent-turn : ((k : ℕ) → k < n → length (g k) ≡ m) → (k : ℕ) (x : List ℕ) → q < n - 1 → k ≡ Plan.other i q → x ≡ g k → Sent (q + 1) l (putMid (q * len) (q * len + len - q * len) d x)
+    sent-turn long k x h hk hx =
+        subst (λ z. Sent (q + 1) l (putMid (q * z) (q * z + z - q * z) d x)) (sym is)
+        (written-turn (λ q. g (nth i q)) q (q * m) (q * m + m) ((q + 1) * m) l d x w (hx ∙ ap g (hk ∙ nth-other i q))
+        (ap (λ k. q * m + k) (ap (λ k. length (g k)) (sym (nth-other i q)) ∙ long (Plan.other i q) (other-below n i q h)))
+        (omega (arith, in-chunks q (n - 1) m h)) (sym (next-chunk q m)))
+
+    pub sent-end : q ≡ n - 1 → d ≡ toOthers n i g
+    unfolding toOthers
+    sent-end e = written-end _ q (n - 1) (q * m) l d w e (omega (arith, ap (λ k. k * m) e))
+
+-- ---- a section, lent as `&w[a..e]`
+pub part-sec : (size : ℕ → ℕ) (s a e : ℕ) (w : List ℕ) → a ≡ off size s → e ≡ a + size s → take (e - a) (drop a w) ≡ sec size s w
+unfolding sec
+part-sec size s a e w ha he = ap₂ (λ m o. take m (drop o w)) (let q : e - a ≡ size s = omega arith in q) ha
+
+-- a part of m bytes, lent as `&mut w[p..e]`
+pub lent-part : (p m k : ℕ) (w : List ℕ) → m ≡ k → p + m ≤ length w → length (take (p + m - p) (drop p w)) ≡ k
+lent-part p m k w e h =
+    ap (λ j. length (take j (drop p w))) (let q : p + m - p ≡ k = omega arith in q) ∙ length-get p k w (omega arith)
+
+-- ---- a section that is written row by row
+-- w is w₀ with the first j rows of section s in place of its first a bytes
+pub record Keeping (size : ℕ → ℕ) (S s : ℕ) (g : ℕ → List ℕ) (j a : ℕ) (w₀ w : List ℕ) : Type 0 where
+  pub here : w ≡ putSec size s (cat j g ++ drop a (sec size s w₀)) w₀
+  pub at : length (cat j g) ≡ a
+  pub fits : a ≤ size s
+  pub same : length w ≡ length w₀
+
+module _ (size : ℕ → ℕ) (S s : ℕ) (in-S : s < S) (w₀ : List ℕ) (h : length w₀ ≡ off size S) where
+  -- a section that has a byte lies within
+  pub sec-inside : 0 < size s → off size s + size s ≤ length w₀
+  unfolding sec
+  sec-inside p =
+      let e : min (size s) (length w₀ - off size s) ≡ size s =
+      sym (length-take (size s) (drop (off size s) w₀) ∙ ap (min (size s)) (length-drop (off size s) w₀)) ∙ length-sec size S w₀ h s in-S in
+      omega (arith, e)
+
+  module _ (g : ℕ → List ℕ) where
+    whole : (j a : ℕ) → length (cat j g) ≡ a → a ≤ size s → length (cat j g ++ drop a (sec size s w₀)) ≡ size s
+    whole j a n l =
+        let e : length (sec size s w₀) ≡ size s = length-sec size S w₀ h s in-S in
+        length-over (cat j g) (sec size s w₀) a n (omega arith) ∙ e
+
+    pub keeping-none : Keeping size S s g 0 0 w₀ w₀
+    unfolding cat sec putSec
+    keeping-none = record { here = self; at = refl; fits = omega arith; same = refl }
+      where
+        self : w₀ ≡ putMid (off size s) (size s) w₀ (take (size s) (drop (off size s) w₀))
+        self =
+            sym (ap (λ (r : List ℕ). take (off size s) w₀ ++ r) (take-append-drop (size s) (drop (off size s) w₀))
+            ∙ take-append-drop (off size s) w₀)
+
+    -- one more row, written through the part of w from p to e
+    pub keeping-turn : (j a k p e e′ : ℕ) (w x : List ℕ) → Keeping size S s g j a w₀ w → x ≡ g j → length (g j) ≡ k → p ≡ off size s + a → e ≡ p + k
+        → a + k ≡ e′ → e′ ≤ size s → Keeping size S s g (j + 1) e′ w₀ (putMid p (e - p) w x)
+    unfolding cat
+    keeping-turn j a k p e e′ w x v hx hk hp he ha hs = record { here = now; at = long; fits = hs; same = ap length now ∙ kept }
+      where
+        body : List ℕ
+        body = cat j g ++ drop a (sec size s w₀)
+
+        filled : length body ≡ size s
+        filled = whole j a (v .at) (v .fits)
+
+        next : List ℕ
+        next = cat (j + 1) g ++ drop e′ (sec size s w₀)
+
+        long : length (cat (j + 1) g) ≡ e′
+        long = rw (add-one j, cat, length-append) (omega (arith, v .at))
+
+        kept : length (putSec size s next w₀) ≡ length w₀
+        kept = length-putSec size S w₀ h s next in-S (whole (j + 1) e′ long hs) ∙ sym h
+
+        row : putMid a k body x ≡ next
+        row =
+            ap (putMid a k body) hx ∙ over-put (cat j g) (g j) (sec size s w₀) a k (v .at)
+            ∙ ap₂ (λ (y : List ℕ) m. y ++ drop m (sec size s w₀)) (let q : cat j g ++ g j ≡ cat (j + 1) g = rw (add-one j) refl in q) ha
+
+        now : putMid p (e - p) w x ≡ putSec size s next w₀
+        now =
+            ap₂ (λ b m. putMid b m w x) hp (let q : e - p ≡ k = omega arith in q)
+            ∙ put-sec size S w (v .same ∙ h) s a k x in-S (omega arith)
+            ∙ ap₂ (λ (y z : List ℕ). putSec size s (putMid a k y x) z) (ap (sec size s) (v .here) ∙ sec-same size S w₀ h s body in-S filled) (v .here)
+            ∙ ap (λ (y : List ℕ). putSec size s y (putSec size s body w₀)) row
+            ∙ putSec-twice size S w₀ h s next body in-S filled
+
+    pub keeping-end : (j n a : ℕ) (w : List ℕ) → Keeping size S s g j a w₀ w → j ≡ n → size s ≤ a → w ≡ putSec size s (cat n g) w₀
+    keeping-end j n a w v hj ha =
+        let e : length (sec size s w₀) ≡ size s = length-sec size S w₀ h s in-S in
+        v .here ∙ ap (λ (x : List ℕ). putSec size s x w₀) (over-full (cat j g) (sec size s w₀) a (omega arith) ∙ ap (λ m. cat m g) hj)
+
+    -- the other sections are as they were
+    pub keeping-other : (j a t : ℕ) (w : List ℕ) → Keeping size S s g j a w₀ w → t ≢ s → sec size t w ≡ sec size t w₀
+    keeping-other j a t w v ne =
+        ap (sec size t) (v .here) ∙ sec-other size S w₀ h t s (cat j g ++ drop a (sec size s w₀)) in-S ne (whole j a (v .at) (v .fits))
