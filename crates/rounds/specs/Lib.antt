@@ -22,3 +22,6 @@ pub mod StringLaws
 pub mod LetterLaws
 pub mod HaandLaws
 pub mod Loops
+pub mod BucketsLaws
+pub mod Combine
+pub mod CombineLaws
