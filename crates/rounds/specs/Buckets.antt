@@ -45,9 +45,10 @@ word4 s at = ((getD s (at + 3) 0 * 256 + getD s (at + 2) 0) * 256 + getD s (at +
 unfoldable pub permBytes : Frame → List ℕ → List ℕ
 permBytes f p = cat (leaky (f .l)) (λ t. le4 (getD p t 0))
 
--- "Bucket j takes entries j·b onward of the permutation": its entry e
+-- "Bucket j takes entries j·b onward of the permutation": its entry e. The numbers of a permutation are below l·b already; the remainder is for a
+-- work area that holds anything else, so that no entry points outside the runs.
 unfoldable pub entry : Frame → List ℕ → ℕ → ℕ → ℕ
-entry f perm j e = word4 perm ((j * bucketSize (f .l) + e) * 4)
+entry f perm j e = word4 perm ((j * bucketSize (f .l) + e) * 4) % leaky (f .l)
 
 -- how many later entries a bucket has
 unfoldable pub later : Frame → ℕ
