@@ -5,3 +5,8 @@ pub mod Toss
 pub mod Echo
 pub mod Opening
 pub mod Supply
+pub mod Firsts
+pub mod Cells
+pub mod Fabitn
+pub mod Values
+pub mod Haand

@@ -62,7 +62,7 @@ module _ (seed : List ℕ) (j : ℕ) where
       even-item (Items 32 0) 32 1 comm (λ t l. length-commitment seed j) (encode 1 comm)
       (trip-whole (Items 32 0) 1 comm (omega arith) (λ t l. coded-hash (commitment seed j) (length-commitment seed j))) 0 (omega arith)
 
-cat-tab : (n : ℕ) (f : ℕ → ℕ) → cat n (λ t. f t ∷ []) ≡ tab n f
+pub cat-tab : (n : ℕ) (f : ℕ → ℕ) → cat n (λ t. f t ∷ []) ≡ tab n f
 unfolding cat tab
 cat-tab zero f = refl
 cat-tab (suc n) f = ap (λ (x : List ℕ). x ++ (f n ∷ [])) (cat-tab n f)
