@@ -10,3 +10,5 @@ pub mod Cells
 pub mod Fabitn
 pub mod Values
 pub mod Haand
+pub mod Combining
+pub mod Buckets
