@@ -15,7 +15,7 @@ use Rattle.lists.specs.Over.{tab, cat, length-tab, getD-tab, length-cat, in-chu
 use Rattle.lists.specs.Rows.{chunk, chunk-cat, cat-ext, tab-ext}
 use Rattle.lists.specs.Bytes.{Bytes, bytes-append, bytes-cat}
 use Rattle.algebra.specs.Group.{XorGroup, bits, addb, addb-comm, sel, odd, num, odd-num}
-use Rattle.algebra.specs.Sum.{others, others-ext, others-all}
+use Rattle.algebra.specs.Sum.{sum, others, others-ext, others-all}
 use Rattle.algebra.specs.Share.{Shared, shared, total, Good, good-op, Triple}
 use Rattle.block.specs.declared.Block.{Block}
 use Rattle.block.specs.Block.{blockAt, le8, bytesOf, eqBlock, Small}
@@ -75,6 +75,14 @@ pub length-perm : (f : Frame) (p : List ℕ) → length (permBytes f p) ≡ leak
 unfolding permBytes le4
 length-perm f p = length-cat (leaky (f .l)) 4 (λ t. le4 (getD p t 0)) (λ t l. refl)
 
+-- ---- what is read of an item that stands at a place in a message
+module _ (m g : List ℕ) (at size : ℕ) (here : take size (drop at m) ≡ g) where
+  pub item-byte : (o : ℕ) → o < size → getD m (at + o) 0 ≡ getD g o 0
+  item-byte o h = sym (getD-drop at m o 0) ∙ sym (getD-take size (drop at m) o 0 h) ∙ ap (λ (s : List ℕ). getD s o 0) here
+
+  pub item-block : (o : ℕ) → o + 16 ≤ size → blockAt m (at + o) ≡ blockAt g o
+  item-block o h = sym (block-drop m at o) ∙ sym (block-take (drop at m) size o h) ∙ ap (λ (s : List ℕ). blockAt s o) here
+
 -- ---- a bucket's d values and MACs, read where they lie in an item
 behind-count : (c : ℕ) (g : ℕ → List ℕ) (o : ℕ) → blockAt (encode c g) (8 + o) ≡ blockAt (cat c g) o
 unfolding encode
@@ -128,17 +136,15 @@ module _ (l c : ℕ) (b : ℕ → ℕ → Bool) (x : ℕ → ℕ → Block) (sma
   bit-read : odd (getD (encode l (λ j. dvalueItem c (b j) (x j))) (8 + j * (8 + c + (8 + 16 * c)) + 8 + e) 0) ≡ b j e
   bit-read =
       ap odd
-      (ap (λ a. getD msg a 0) (split (8 + j * size)) ∙ sym (getD-drop (8 + j * size) msg (8 + e) 0)
-      ∙ sym (getD-take size (drop (8 + j * size) msg) (8 + e) 0 (omega arith))
-      ∙ ap (λ (s : List ℕ). getD s (8 + e) 0) item ∙ dvalue-bit c (b j) (x j) e le)
+      (ap (λ a. getD msg a 0) (split (8 + j * size)) ∙ item-byte msg _ (8 + j * size) size item (8 + e) (omega arith)
+      ∙ dvalue-bit c (b j) (x j) e le)
       ∙ odd-num (b j e)
 
   mac-read : Small (x j e)
       → blockAt (encode l (λ j. dvalueItem c (b j) (x j))) (8 + j * (8 + c + (8 + 16 * c)) + 8 + c + 8 + e * 16) ≡ x j e
   mac-read s =
-      ap (blockAt msg) (split-mac (8 + j * size)) ∙ sym (block-drop msg (8 + j * size) (8 + c + (8 + e * 16)))
-      ∙ sym (block-take (drop (8 + j * size) msg) size (8 + c + (8 + e * 16)) (omega arith))
-      ∙ ap (λ (s : List ℕ). blockAt s (8 + c + (8 + e * 16))) item ∙ dvalue-mac c (b j) (x j) e le s
+      ap (blockAt msg) (split-mac (8 + j * size)) ∙ item-block msg _ (8 + j * size) size item (8 + c + (8 + e * 16)) (omega arith)
+      ∙ dvalue-mac c (b j) (x j) e le s
 
 -- ---- what stands in a row behind p
 part-in : (s p q r : List ℕ) (a m o k : ℕ) → take m (drop a s) ≡ p ++ (q ++ r) → length p ≡ o → length q ≡ k → take k (drop (a + o) s) ≡ q
@@ -184,7 +190,13 @@ module _ (n l : ℕ) (args : ℕ → Args) (strings order : List ℕ) where
   abbrev pub cOf : ℕ → Shared Block
   cOf j = sumZ (xIn j) (yIn j) (zIn j) (λ e. total n (dOf j e)) (more l)
 
-passes : (code : ℕ) (b : Bool) → b ≡ true → pick b 0 code ≡ 0
+-- the own bit and those told by all others are the XOR of all
+pub open-all : (i n : ℕ) (v : ℕ → Bool) (own : Bool) (told : ℕ → Bool) → i < n → own ≡ v i → ((k : ℕ) → k < n → i ≢ k → told k ≡ v k)
+    → addb own (others bits i n told) ≡ sum bits n v
+open-all i n v own told li e h =
+    ap₂ addb e (others-ext bits i n told v h) ∙ addb-comm (v i) (others bits i n v) ∙ others-all bits i n v li
+
+pub passes : (code : ℕ) (b : Bool) → b ≡ true → pick b 0 code ≡ 0
 passes code b e = rw e refl
 
 module _ (n l : ℕ) (args : ℕ → Args) (strings order : List ℕ) (I : Inputs n l args order) where
@@ -214,7 +226,7 @@ module _ (n l : ℕ) (args : ℕ → Args) (strings order : List ℕ) (I : Input
       ∙ mod-eq-of-lt (place-below j e lj le)
 
   -- an entry, by the number of later ones
-  first-in : 0 < bucketSize l
+  pub first-in : 0 < bucketSize l
   first-in = omega (arith, bucket-low l)
 
   later-in : (e : ℕ) → e < more l → suc e < bucketSize l
@@ -246,7 +258,7 @@ module _ (n l : ℕ) (args : ℕ → Args) (strings order : List ℕ) (I : Input
   small-d i j e li = small-share-op n _ _ (small-bits n l args X i li _) (small-bits n l args X i li _)
 
   -- ---- the messages
-  l-small : l < 2 ^ 64
+  pub l-small : l < 2 ^ 64
   l-small = omega (arith, X .range .most)
 
   more-small : more l < 2 ^ 64
@@ -300,10 +312,8 @@ module _ (n l : ℕ) (args : ℕ → Args) (strings order : List ℕ) (I : Input
       → dOpened (frame n l i) (args i .bits) (perm i) m j e ≡ total n (dOf n l args strings order j e)
   unfolding dOpened shareOf
   opened-is i j e li lj le m M =
-      let v : Shared Block = dOf n l args strings order j e in
-      ap₂ addb (ap (λ (s : Share). s .bit) (d-share i j e lj le))
-      (others-ext bits i n (λ k. dTold (frame n l i) m k j e) (v .bit) (λ k lk ne. told i k j e li lk lj le m (M k lk ne)))
-      ∙ addb-comm (v .bit i) (others bits i n (v .bit)) ∙ others-all bits i n (v .bit) li
+      open-all i n (dOf n l args strings order j e .bit) _ (λ k. dTold (frame n l i) m k j e) li (ap (λ (s : Share). s .bit) (d-share i j e lj le))
+      (λ k lk ne. told i k j e li lk lj le m (M k lk ne))
 
   ds-is : (i : ℕ) → i < n → (m : ℕ → List ℕ) → Mail n (S.sent21 n l args strings order) i m
       → B.ds (frame n l i) (args i .bits) (perm i) m ≡ cat l (λ j. tab (more l) (λ e. num (total n (dOf n l args strings order j e))))
@@ -362,21 +372,34 @@ module _ (n l : ℕ) (args : ℕ → Args) (strings order : List ℕ) (I : Input
   }
 
   -- ---- what TRIPLES holds
-  abbrev a : ℕ → Shared Block
-  a j = aOf n l args strings order j
+  abbrev xs : ℕ → ℕ → Shared Block
+  xs = xIn n l args strings order
 
-  abbrev c : ℕ → Shared Block
-  c j = cOf n l args strings order j
+  abbrev ys : ℕ → ℕ → Shared Block
+  ys = yIn n l args strings order
 
+  abbrev zs : ℕ → ℕ → Shared Block
+  zs = zIn n l args strings order
+
+  abbrev opened : ℕ → ℕ → Bool
+  opened j e = total n (dOf n l args strings order j e)
+
+  abbrev own : ℕ → ℕ → B.Triple
+  own i = abc (frame n l i) (deltas args i) (args i .bits) (S.zRows n l args strings order i) (S.es n l args strings order i) (perm i)
+      (S.ds n l args strings order i)
+
+  -- each box combines its shares of a and c
   abc-is : (i j : ℕ) → i < n → j < l
-      → abc (frame n l i) (deltas args i) (args i .bits) (S.zRows n l args strings order i) (S.es n l args strings order i) (perm i)
-      (S.ds n l args strings order i) j
-      ≡ record { tx = shareOf i (a j); ty = shareOf i (bOf n l args strings order j); tz = shareOf i (c j) }
+      → own i j
+      ≡ record {
+        tx = shareOf i (aOf n l args strings order j);
+        ty = shareOf i (bOf n l args strings order j);
+        tz = shareOf i (cOf n l args strings order j);
+      }
   unfolding abc later leakyAnd
   abc-is i j li lj =
-      combine-ext _ (tripleOf (xIn n l args strings order j) (yIn n l args strings order j) (zIn n l args strings order j) (λ e. total n (dOf n l args strings order j e)) i) _ _ (more l) entry-triple
-      (λ e le. ds-read i j e li lj le)
-      ∙ combined (xIn n l args strings order j) (yIn n l args strings order j) (zIn n l args strings order j) (λ e. total n (dOf n l args strings order j e)) i (more l)
+      combine-ext _ (tripleOf (xs j) (ys j) (zs j) (opened j) i) _ _ (more l) entry-triple (λ e le. ds-read i j e li lj le)
+      ∙ combined (xs j) (ys j) (zs j) (opened j) i (more l)
     where
       at-place : ℕ → B.Triple
       at-place t = record {
@@ -387,7 +410,7 @@ module _ (n l : ℕ) (args : ℕ → Args) (strings order : List ℕ) (I : Input
 
       entry-triple : (e : ℕ) → e < suc (more l)
           → leakyAnd (frame n l i) (deltas args i) (args i .bits) (S.zRows n l args strings order i) (S.es n l args strings order i) (perm i) j e
-          ≡ record { tx = shareOf i (xIn n l args strings order j e); ty = shareOf i (yIn n l args strings order j e); tz = shareOf i (zIn n l args strings order j e) }
+          ≡ tripleOf (xs j) (ys j) (zs j) (opened j) i e
       entry-triple e le =
           ap at-place (entry-is i j e lj (all-in e le))
           ∙ (λ q. record {
@@ -395,3 +418,75 @@ module _ (n l : ℕ) (args : ℕ → Args) (strings order : List ℕ) (I : Input
             ty = sym (share-y n l args i (place l order j e)) q;
             tz = sym (share-z n l args strings order i (place l order j e)) q;
           })
+
+  row-len : (i j : ℕ) → length (tripleRow (frame n l i) (own i j)) ≡ 2 * recordLen n
+  unfolding tripleRow
+  row-len i j =
+      length-append (recordOf n i (own i j .tx)) (recordOf n i (own i j .tz))
+      ∙ ap₂ _+_ (length-recordOf n i (own i j .tx)) (length-recordOf n i (own i j .tz))
+      ∙ (let q : recordLen n + recordLen n ≡ 2 * recordLen n = omega arith in q)
+
+  pub length-triples : (i : ℕ) → length (S.tripleRows n l args strings order i) ≡ l * (2 * recordLen n)
+  unfolding S.tripleRows tripleRows
+  length-triples i = length-cat l (2 * recordLen n) _ (λ j lj. row-len i j)
+
+  pub bytes-triples : (i : ℕ) → Bytes (S.tripleRows n l args strings order i)
+  unfolding S.tripleRows tripleRows tripleRow
+  bytes-triples i = bytes-cat l _ (λ j lj.
+      bytes-append (recordOf n i (own i j .tx)) (recordOf n i (own i j .tz)) (bytes-recordOf n i (own i j .tx)) (bytes-recordOf n i (own i j .tz)))
+
+  row-is : (i j : ℕ) → j < l
+      → take (2 * recordLen n) (drop (j * (2 * recordLen n)) (S.tripleRows n l args strings order i))
+      ≡ recordOf n i (own i j .tx) ++ recordOf n i (own i j .tz)
+  unfolding S.tripleRows tripleRows tripleRow chunk
+  row-is i j lj = chunk-cat (2 * recordLen n) l (λ j. tripleRow (frame n l i) (own i j)) (λ j lj. row-len i j) j lj
+
+  a-here : (i j : ℕ) → i < n → j < l
+      → take (recordLen n) (drop (j * (2 * recordLen n)) (S.tripleRows n l args strings order i))
+      ≡ recordOf n i (shareOf i (aOf n l args strings order j))
+  a-here i j li lj =
+      ap (λ k. take (recordLen n) (drop k (S.tripleRows n l args strings order i))) (sym (add-zero (j * (2 * recordLen n))))
+      ∙ part-in (S.tripleRows n l args strings order i) [] (recordOf n i (own i j .tx)) (recordOf n i (own i j .tz)) (j * (2 * recordLen n))
+      (2 * recordLen n) 0 (recordLen n) (row-is i j lj) refl (length-recordOf n i (own i j .tx))
+      ∙ ap (λ (g : B.Triple). recordOf n i (g .tx)) (abc-is i j li lj)
+
+  c-here : (i j : ℕ) → i < n → j < l
+      → take (recordLen n) (drop (j * (2 * recordLen n) + recordLen n) (S.tripleRows n l args strings order i))
+      ≡ recordOf n i (shareOf i (cOf n l args strings order j))
+  c-here i j li lj =
+      let tx : List ℕ = recordOf n i (own i j .tx) in
+      part-in (S.tripleRows n l args strings order i) tx (recordOf n i (own i j .tz)) [] (j * (2 * recordLen n)) (2 * recordLen n) (recordLen n)
+      (recordLen n) (row-is i j lj ∙ ap (λ (s : List ℕ). tx ++ s) (sym (append-nil (recordOf n i (own i j .tz)))))
+      (length-recordOf n i (own i j .tx)) (length-recordOf n i (own i j .tz))
+      ∙ ap (λ (g : B.Triple). recordOf n i (g .tz)) (abc-is i j li lj)
+
+  small-x : (i j e : ℕ) → i < n → SmallShare n (shareOf i (xs j e))
+  unfolding x
+  small-x i j e li = rw (share-x n l args i (place l order j e)) (small-bits n l args X i li _)
+
+  pub small-a : (i j : ℕ) → i < n → SmallShare n (shareOf i (aOf n l args strings order j))
+  small-a i j li = small-sumX (xs j) (ys j) (zs j) (opened j) n i (more l) (λ e le. small-x i j e li)
+
+  pub small-c : (i j : ℕ) → i < n → SmallShare n (shareOf i (cOf n l args strings order j))
+  small-c i j li =
+      small-sumZ (xs j) (ys j) (zs j) (opened j) n i (more l) (λ e le. small-x i j e li)
+      (λ e le. small-z n l args strings order X i li (place l order j e))
+
+  -- read back
+  pub a-read : (i j : ℕ) → i < n → j < l
+      → Agree n i (Beaver.a (frame n l i) (S.tripleRows n l args strings order i) j) (shareOf i (aOf n l args strings order j))
+  unfolding Beaver.a
+  a-read i j li lj = read-here n i _ (S.tripleRows n l args strings order i) (j * (2 * recordLen n)) (a-here i j li lj) (small-a i j li)
+
+  pub c-read : (i j : ℕ) → i < n → j < l
+      → Agree n i (Beaver.c (frame n l i) (S.tripleRows n l args strings order i) j) (shareOf i (cOf n l args strings order j))
+  unfolding Beaver.c
+  c-read i j li lj =
+      read-here n i _ (S.tripleRows n l args strings order i) (j * (2 * recordLen n) + recordLen n) (c-here i j li lj) (small-c i j li)
+
+  -- c is the AND of a and b
+  pub abc-triple : LeakyTriples n l args strings order → (j : ℕ) → j < l
+      → Triple blocks n (deltas args) (aOf n l args strings order j) (bOf n l args strings order j) (cOf n l args strings order j)
+  abc-triple L j lj =
+      sum-triple (xs j) (ys j) (zs j) (opened j) n (deltas args) (more l) (λ e le. L (place l order j e) (place-below j e lj (all-in e le)))
+      (λ e le. refl)

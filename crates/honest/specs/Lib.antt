@@ -12,3 +12,4 @@ pub mod Values
 pub mod Haand
 pub mod Combining
 pub mod Buckets
+pub mod Beaver
