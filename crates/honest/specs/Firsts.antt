@@ -4,10 +4,9 @@ use mathlib.Core.Path.{_≡_, refl, sym, ap, ap₂, _∙_}
 use mathlib.Core.Bool.{Bool, true, _||_}
 use mathlib.Core.List.{List, [], _∷_, _++_, append-nil}
 use Prim.Native.Nat.{ℕ, _+_, _-_, _*_, _/_, _^_, _<_}
-use native.Mathlib.Nat.{add-zero}
 use native.Mathlib.Omega.{arith}
 use lib.ListN.{length, getD, take, drop}
-use lib.Seq.{take-at, getD-take, getD-drop}
+use lib.Seq.{take-at}
 use lib.Dec.{eqb}
 use Rattle.lists.specs.Pick.{pick}
 use Rattle.lists.specs.Over.{tab, cat}
@@ -27,6 +26,7 @@ use Rattle.encode.specs.RoundTrip.{Trip, trip-whole, even-item}
 use Rattle.plan.specs.Plan.{kindOf}
 use Rattle.rounds.specs.Echo.{hashVec}
 use Rattle.honest.specs.Toss.{cat-tab}
+use Rattle.honest.specs.Cells.{head-part}
 
 module _ (c : ℕ) (b : ℕ → Bool) (x : ℕ → Block) (small : c < 2 ^ 64) where
   abbrev msg : List ℕ
@@ -41,9 +41,7 @@ module _ (c : ℕ) (b : ℕ → Bool) (x : ℕ → Block) (small : c < 2 ^ 64) w
 
   bit-byte : (t : ℕ) → t < c → getD msg (8 + t * 17) 0 ≡ num (b t)
   unfolding bitBlock
-  bit-byte t l =
-      ap (λ a. getD msg a 0) (sym (add-zero (8 + t * 17))) ∙ sym (getD-drop (8 + t * 17) msg 0 0)
-      ∙ sym (getD-take 17 (drop (8 + t * 17) msg) 0 0 (omega arith)) ∙ ap (λ (s : List ℕ). getD s 0 0) (item t l)
+  bit-byte t l = head-part 17 (8 + t * 17) msg (bitBlock (b t) (x t)) (omega arith) (item t l)
 
   pub bit-read : (t : ℕ) → t < c → odd (getD (encode c (λ t. bitBlock (b t) (x t))) (8 + t * 17) 0) ≡ b t
   bit-read t l = ap odd (bit-byte t l) ∙ odd-num (b t)

@@ -10,9 +10,9 @@ use lib.ListN.{length, getD, take, drop, length-append}
 use lib.Seq.{drop-at, getD-take, getD-drop}
 use Rattle.lists.specs.All.{allOf}
 use Rattle.lists.specs.Over.{cat, length-cat}
-use Rattle.lists.specs.Rows.{chunk, chunk-cat, getD-chunk, cat-ext}
+use Rattle.lists.specs.Rows.{chunk-cat, getD-chunk, cat-ext}
 use Rattle.lists.specs.Bytes.{Bytes}
-use Rattle.algebra.specs.Group.{XorGroup, bits, addb, sel, odd, num, odd-num}
+use Rattle.algebra.specs.Group.{bits, addb, sel, odd, num, odd-num}
 use Rattle.algebra.specs.Sum.{others, others-ext, sum-ext}
 use Rattle.algebra.specs.Half.{halfV, halfZ, and-of-xors}
 use Rattle.algebra.specs.Share.{total}
@@ -42,7 +42,7 @@ use Rattle.rounds.specs.Opening.{Args}
 use Rattle.rounds.specs.Table.{table, judge, kept, held, written}
 use Rattle.rounds.specs.Haand.{x, y, H, G, mask, h0, h1, haandMsg, phi, u, leakyEntry, leakyRow, leakyRows, phiAt, keyHash, uAt, v, z, zRow, zRows, zAt, macHash}
 use Rattle.honest.specs.Script as S
-use Rattle.honest.specs.Inputs.{Boxes, deltas, bitsOf, small-delta}
+use Rattle.honest.specs.Inputs.{Boxes, deltas}
 use Rattle.honest.specs.Base.{length-rows, chunk-rows, bytes-hash, list-form, list-len, Fit, delta-is, masks-at, bits-at, keep-one}
 use Rattle.honest.specs.Values.{xOf, yOf, zOf}
 
@@ -188,7 +188,7 @@ module _ (n l : ℕ) (args : ℕ → Args) (strings order : List ℕ) (X : Boxes
   abbrev run : Script
   run = S.script n l args strings order
 
-  leaky-small : leaky l < 2 ^ 64
+  pub leaky-small : leaky l < 2 ^ 64
   leaky-small = omega (arith, leaky-most l (X .range .most))
 
   -- ---- the messages
@@ -231,3 +231,34 @@ module _ (n l : ℕ) (args : ℕ → Args) (strings order : List ℕ) (X : Boxes
         (ap₂ (λ (a b : List ℕ). zRows (frame n l i) a b m) (masks-at n l args strings order K) (bits-at n l args strings order K)
         ∙ z-ext (frame n l i) (args i .masks) (args i .bits) m _ M);
   }
+
+  -- ---- the value of z
+  -- what box i read back of its own rows
+  pub z-at : (i t : ℕ) → t < leaky l
+      → zAt (S.zRows n l args strings order i) t
+      ≡ z (frame n l i) (args i .masks) (args i .bits) (λ j. S.sent14 n l args strings order j i) t
+  unfolding S.zRows
+  z-at i t lt = z-read (frame n l i) (args i .masks) (args i .bits) (λ j. S.sent14 n l args strings order j i) t lt
+
+  -- the mask of box i for box j
+  abbrev s : ℕ → ℕ → ℕ → Bool
+  s t i j = mask (frame n l i) (args i .masks) j t
+
+  -- it is the z of the half AND
+  z-half : (i t : ℕ) → t < leaky l
+      → z (frame n l i) (args i .masks) (args i .bits) (λ j. S.sent14 n l args strings order j i) t
+      ≡ halfZ blocks H n (deltas args) (xOf n l args t .bit) (yOf n l args t .bit) (xOf n l args t .mac) (xOf n l args t .key) (s t) i
+  unfolding z v halfZ halfV x y shareAt sharedAt S.sent14 haandMsg h0 h1
+  z-half i t lt =
+      ap (λ (b : Bool). addb b (sel bits (xOf n l args t .bit i) (yOf n l args t .bit i)))
+      (others-ext bits i n _ _ (λ j lj ne.
+      ap₂ (λ (b a : Bool). addb (s t i j) (addb (H (xOf n l args t .mac i j)) (cond (xOf n l args t .bit i) b a)))
+      (second-read (leaky l) _ _ leaky-small t lt) (first-read (leaky l) _ _ leaky-small t lt)))
+
+  pub and-z : (t : ℕ) → t < leaky l
+      → total n (zOf n l args strings order t) ≡ sel bits (total n (xOf n l args t)) (total n (yOf n l args t))
+  unfolding zOf bitsCount
+  and-z t lt =
+      sum-ext bits n _ _ (λ i li. z-at i t lt ∙ z-half i t lt)
+      ∙ and-of-xors blocks H n (deltas args) (xOf n l args t .bit) (yOf n l args t .bit) (xOf n l args t .mac) (xOf n l args t .key) (s t)
+      (X .bits-mac t (omega arith))

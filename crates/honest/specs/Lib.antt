@@ -10,6 +10,8 @@ pub mod Cells
 pub mod Fabitn
 pub mod Values
 pub mod Haand
+pub mod Flaand
+pub mod Fashare
 pub mod Combining
 pub mod Buckets
 pub mod Beaver
