@@ -15,3 +15,5 @@ pub mod Fashare
 pub mod Combining
 pub mod Buckets
 pub mod Beaver
+pub mod Results
+pub mod Theorem
