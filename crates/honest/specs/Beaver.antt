@@ -1,7 +1,7 @@
 -- Round 22, `faand`, in an honest run: every MAC of d and e fits, all boxes open the same d and e, and the result records hold the shares of
 -- Beaver's sum.
 use mathlib.Core.Path.{_≡_, refl, sym, ap, ap₂, _∙_, subst}
-use mathlib.Core.Bool.{Bool, true, _&&_}
+use mathlib.Core.Bool.{Bool, _&&_}
 use mathlib.Core.Logic.{_≢_}
 use mathlib.Core.List.{List, [], _∷_, _++_, append-nil}
 use Prim.Native.Nat.{ℕ, suc, _+_, _*_, _^_, _<_}
@@ -11,14 +11,14 @@ use lib.ListN.{length, getD, take, drop}
 use Rattle.lists.specs.All.{allOf, all-of}
 use Rattle.lists.specs.Over.{cat}
 use Rattle.lists.specs.Rows.{cat-ext}
-use Rattle.algebra.specs.Group.{XorGroup, bits, addb, sel, odd, num, odd-num}
-use Rattle.algebra.specs.Share.{Shared, shared, total, Good, good-op, Triple, beaverOut}
+use Rattle.algebra.specs.Group.{sel, odd, num, odd-num}
+use Rattle.algebra.specs.Share.{Shared, shared, total, Good, good-op, beaverOut}
 use Rattle.block.specs.declared.Block.{Block}
-use Rattle.block.specs.Block.{blockAt, bytesOf, eqBlock, Small}
+use Rattle.block.specs.Block.{blockAt, bytesOf, Small}
 use Rattle.block.specs.Group.{blocks, eq-block}
 use Rattle.block.specs.Trip.{length-bytesOf, block-at}
 use Rattle.share.specs.Record.{recordLen}
-use Rattle.share.specs.Share.{Share, shareAt, shares, recordOf}
+use Rattle.share.specs.Share.{Share, shares, recordOf}
 use Rattle.share.specs.ShareLaws.{SmallShare, small-share-at, small-share-op, small-share-sel, Agree, agree-record, agree-op, agree-refl, agree-sel}
 use Rattle.share.specs.Parties.{shareOf, share-of-op, share-of-sel, share-of-at}
 use Rattle.message.specs.declared.Kind.the-variants.{Items}
@@ -41,7 +41,7 @@ use Rattle.rounds.specs.Beaver as B
 use Rattle.honest.specs.Script as S
 use Rattle.honest.specs.Inputs.{Boxes, Inputs, deltas, alphasOf, betasOf, small-bits, small-alpha, small-beta}
 use Rattle.honest.specs.Base.{list-form, list-len, Fit, delta-is, bits-at, alpha-at, beta-at, zs-at, es-at, perm-at, ds-at, triples-at, keep-one}
-use Rattle.honest.specs.Values.{yOf, share-y, LeakyTriples}
+use Rattle.honest.specs.Values.{share-y, LeakyTriples}
 use Rattle.honest.specs.Buckets.{item-byte, item-block, open-all, passes, aOf, bOf, cOf, place, entry-is, first-in, good-y, l-small, length-triples, bytes-triples, a-read, c-read, small-a, small-c, abc-triple}
 
 -- ---- a message of two bits and two Blocks each

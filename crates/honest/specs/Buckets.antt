@@ -14,17 +14,17 @@ use Rattle.lists.specs.All.{allOf, all-of}
 use Rattle.lists.specs.Over.{tab, cat, length-tab, getD-tab, length-cat, in-chunks}
 use Rattle.lists.specs.Rows.{chunk, chunk-cat, cat-ext, tab-ext}
 use Rattle.lists.specs.Bytes.{Bytes, bytes-append, bytes-cat}
-use Rattle.algebra.specs.Group.{XorGroup, bits, addb, addb-comm, sel, odd, num, odd-num}
+use Rattle.algebra.specs.Group.{bits, addb, addb-comm, sel, odd, num, odd-num}
 use Rattle.algebra.specs.Sum.{sum, others, others-ext, others-all}
 use Rattle.algebra.specs.Share.{Shared, shared, total, Good, good-op, Triple}
 use Rattle.block.specs.declared.Block.{Block}
-use Rattle.block.specs.Block.{blockAt, le8, bytesOf, eqBlock, Small}
+use Rattle.block.specs.Block.{blockAt, le8, bytesOf, Small}
 use Rattle.block.specs.Group.{blocks, eq-block}
 use Rattle.block.specs.Trip.{length-le8, length-bytesOf, block-bytesOf, block-drop, block-take}
 use Rattle.share.specs.Record.{recordLen}
-use Rattle.share.specs.Share.{Share, shareAt, shares, recordOf}
+use Rattle.share.specs.Share.{Share, shares, recordOf}
 use Rattle.share.specs.ShareLaws.{SmallShare, small-share-op, Agree, length-recordOf, bytes-recordOf, read-here}
-use Rattle.share.specs.Parties.{sharedAt, shareOf, share-of-op, share-of-at}
+use Rattle.share.specs.Parties.{shareOf, share-of-op}
 use Rattle.permutation.specs.PermutationLaws.{perm-below}
 use Rattle.message.specs.declared.Kind.the-variants.{Dvalues}
 use Rattle.message.specs.Format.{formOf}
@@ -40,11 +40,11 @@ use Rattle.engine.specs.Area.{mem}
 use Rattle.engine.specs.Sheet.{staysTest, Mail}
 use Rattle.engine.specs.Plain.{isEcho}
 use Rattle.engine.specs.Honest.{Script, before, due, plainAfter, RecvAt, SendAt}
-use Rattle.rounds.specs.Area.{PERM, DS, TRIPLES, sizes, sizeOf}
+use Rattle.rounds.specs.Area.{PERM, DS, sizes, sizeOf}
 use Rattle.rounds.specs.Opening.{Args}
 use Rattle.rounds.specs.Table.{table, judge, kept, held, written}
 use Rattle.rounds.specs.Haand.{x, y}
-use Rattle.rounds.specs.Buckets.{combine, le4, word4, permBytes, entry, later, d, dvalueMsg, bucketAt, dTold, dMacTold, dFaults, dOpened, leakyAnd, abc, tripleRow, tripleRows}
+use Rattle.rounds.specs.Buckets.{le4, word4, permBytes, entry, later, d, dvalueMsg, bucketAt, dTold, dMacTold, dFaults, dOpened, leakyAnd, abc, tripleRow, tripleRows}
 use Rattle.rounds.specs.Buckets as B
 use Rattle.rounds.specs.Beaver as Beaver
 use Rattle.honest.specs.Script as S

@@ -5,7 +5,7 @@ use mathlib.Core.Bool.{Bool}
 use Prim.Native.Nat.{ℕ, zero, suc, _<_}
 use native.Mathlib.Nat.{le-refl}
 use native.Mathlib.Omega.{arith}
-use Rattle.algebra.specs.Group.{XorGroup, bits, addb, sel}
+use Rattle.algebra.specs.Group.{bits, addb, sel}
 use Rattle.algebra.specs.Share.{Shared, shared, total, Triple, good-op, good-sel, total-op, total-sel}
 use Rattle.algebra.specs.Taut.{taut4}
 use Rattle.block.specs.declared.Block.{Block}

@@ -1,20 +1,18 @@
 -- DEMAND 3: two to eight boxes with one l, inputs that opening has no reason to refuse and that keep the MAC rule, equal r strings and
 -- permutation. The claim is on every list of openings and round calls; and there are lists that meet its premises and end with all boxes done.
-use mathlib.Core.Path.{_≡_, refl, sym, ap, ap₂, _∙_}
+use mathlib.Core.Path.{_≡_, refl, sym, ap, _∙_}
 use mathlib.Core.Bool.{Bool, true, false, _&&_}
 use mathlib.Core.Logic.{_≢_, _↔_}
 use mathlib.Core.List.{List, [], _∷_}
 use mathlib.Core.Option.{some}
-use Prim.Native.Nat.{ℕ, suc, _*_, _<_}
-use native.Mathlib.Omega.{arith}
+use Prim.Native.Nat.{ℕ, _*_, _<_}
 use lib.ListN.{length, replicate, length-replicate}
 use lib.Dec.{eqb}
 use Rattle.lists.specs.Pick.{pick}
 use Rattle.lists.specs.All.{allOf}
-use Rattle.algebra.specs.Group.{XorGroup, bits, sel}
+use Rattle.algebra.specs.Group.{bits, sel}
 use Rattle.algebra.specs.Sum.{sum, sum-ext}
 use Rattle.algebra.specs.Share.{total}
-use Rattle.block.specs.declared.Block.{Block}
 use Rattle.block.specs.Group.{blocks}
 use Rattle.share.specs.Record.{recordLen, bitAt, macAt, keyAt}
 use Rattle.share.specs.Parties.{sharedAt}
@@ -24,9 +22,9 @@ use Rattle.engine.specs.Step.{frame, Protocol}
 use Rattle.engine.specs.World.{Box, Call, Scene, start, runs, FairList, AllRight, Done}
 use Rattle.engine.specs.Engine.{Duty, every-call, every-done, every-long}
 use Rattle.engine.specs.Live.{Cast, robin, fair-robin, robin-done}
-use Rattle.engine.specs.Area.{mem, off}
+use Rattle.engine.specs.Area.{mem}
 use Rattle.engine.specs.Plain.{isEcho, stepsOf, protocolOf}
-use Rattle.engine.specs.Honest.{Lawful, plainAfter, prior, Script, Honest}
+use Rattle.engine.specs.Honest.{Lawful, plainAfter, Honest}
 use Rattle.engine.specs.PlainSession.{HonestOpening, sceneOf, dutyOf, every-written, castOf}
 use Rattle.rounds.specs.Area.{workLen}
 use Rattle.rounds.specs.Opening.{Args, opening}
