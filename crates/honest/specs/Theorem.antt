@@ -86,6 +86,9 @@ module _ (n l : ℕ) (args : ℕ → Args) (strings order : List ℕ) (X : Boxes
         ≡ (sum bits n (λ b. bitAt (args b .alpha) (t * recordLen n)) && sum bits n (λ b. bitAt (args b .beta) (t * recordLen n)))
 
 -- ---- all rounds are honest
+also : {A C : Type 0} → A → C → A × C
+also a c = (a, c)
+
 module _ (n l : ℕ) (args : ℕ → Args) (strings order : List ℕ) (I : Inputs n l args order) where
   abbrev B : Boxes n l args
   B = I .boxes
@@ -95,23 +98,46 @@ module _ (n l : ℕ) (args : ℕ → Args) (strings order : List ℕ) (I : Input
   honest = record {
     plain = 1 ∷ 3 ∷ 4 ∷ 5 ∷ 6 ∷ 8 ∷ 10 ∷ 12 ∷ 14 ∷ 15 ∷ 17 ∷ 19 ∷ 21 ∷ [];
     whole = refl;
-    recv = (
-      recv-1 n l args strings order B, (recv-3 n l args strings order B, (recv-4 n l args strings order B, (recv-5 n l args strings order B,
-      (recv-6 n l args strings order B, (recv-8 n l args strings order B, (recv-10 n l args strings order B, (recv-12 n l args strings order B,
-      (recv-14 n l args strings order B, (recv-15 n l args strings order B, (recv-17 n l args strings order B, (recv-19 n l args strings order B,
-      (recv-21 n l args strings order I, tt))))))))))))
-    );
-    send = (
-      send-3 n l args strings order B, (send-4 n l args strings order B, (send-5 n l args strings order B, (send-6 n l args strings order B,
-      (send-8 n l args strings order B, (send-10 n l args strings order B, (send-12 n l args strings order B, (send-14 n l args strings order B,
-      (send-15 n l args strings order B, (send-17 n l args strings order B, (send-19 n l args strings order B, (send-21 n l args strings order I,
-      (send-22 n l args strings order I, tt))))))))))))
-    );
-    lists = (
-      list-1 n l args strings order B, (list-6 n l args strings order B, (list-8 n l args strings order B, (list-10 n l args strings order B,
-      (list-12 n l args strings order B, (list-15 n l args strings order B, (list-17 n l args strings order B, (list-19 n l args strings order B,
-      tt)))))))
-    );
+    recv =
+        (also (recv-1 n l args strings order B)
+        (also (recv-3 n l args strings order B)
+        (also (recv-4 n l args strings order B)
+        (also (recv-5 n l args strings order B)
+        (also (recv-6 n l args strings order B)
+        (also (recv-8 n l args strings order B)
+        (also (recv-10 n l args strings order B)
+        (also (recv-12 n l args strings order B)
+        (also (recv-14 n l args strings order B)
+        (also (recv-15 n l args strings order B)
+        (also (recv-17 n l args strings order B)
+        (also (recv-19 n l args strings order B)
+        (also (recv-21 n l args strings order I)
+        tt)))))))))))));
+    send =
+        (also (send-3 n l args strings order B)
+        (also (send-4 n l args strings order B)
+        (also (send-5 n l args strings order B)
+        (also (send-6 n l args strings order B)
+        (also (send-8 n l args strings order B)
+        (also (send-10 n l args strings order B)
+        (also (send-12 n l args strings order B)
+        (also (send-14 n l args strings order B)
+        (also (send-15 n l args strings order B)
+        (also (send-17 n l args strings order B)
+        (also (send-19 n l args strings order B)
+        (also (send-21 n l args strings order I)
+        (also (send-22 n l args strings order I)
+        tt)))))))))))));
+    lists =
+        (also (list-1 n l args strings order B)
+        (also (list-6 n l args strings order B)
+        (also (list-8 n l args strings order B)
+        (also (list-10 n l args strings order B)
+        (also (list-12 n l args strings order B)
+        (also (list-15 n l args strings order B)
+        (also (list-17 n l args strings order B)
+        (also (list-19 n l args strings order B)
+        tt))))))));
     last = last-22 n l args strings order I (leaky-triple n l args strings order B);
   }
 
