@@ -12,3 +12,8 @@ pub mod Values
 pub mod Haand
 pub mod Flaand
 pub mod Fashare
+pub mod Combining
+pub mod Buckets
+pub mod Beaver
+pub mod Results
+pub mod Theorem

@@ -1,0 +1,492 @@
+-- Round 21, `dvalue`, in an honest run: the permutation is read back, every MAC of d fits, all boxes open the same d, and what TRIPLES holds is
+-- read back as shares of an AND.
+use mathlib.Core.Path.{_≡_, refl, sym, ap, ap₂, _∙_}
+use mathlib.Core.Bool.{Bool, true}
+use mathlib.Core.Logic.{_≢_}
+use mathlib.Core.List.{List, [], _∷_, _++_, append-assoc, append-nil}
+use Prim.Native.Nat.{ℕ, suc, _+_, _-_, _*_, _/_, _%_, _^_, _<_, _≤_}
+use native.Mathlib.Nat.{add-zero, mod-eq-of-lt}
+use native.Mathlib.Omega.{arith}
+use lib.ListN.{length, getD, take, drop, length-append, take-append-drop}
+use lib.Seq.{take-at, drop-at, drop-drop, getD-take, getD-drop, getD-append-add}
+use Rattle.lists.specs.Pick.{pick}
+use Rattle.lists.specs.All.{allOf, all-of}
+use Rattle.lists.specs.Over.{tab, cat, length-tab, getD-tab, length-cat, in-chunks}
+use Rattle.lists.specs.Rows.{chunk, chunk-cat, cat-ext, tab-ext}
+use Rattle.lists.specs.Bytes.{Bytes, bytes-append, bytes-cat}
+use Rattle.algebra.specs.Group.{bits, addb, addb-comm, sel, odd, num, odd-num}
+use Rattle.algebra.specs.Sum.{sum, others, others-ext, others-all}
+use Rattle.algebra.specs.Share.{Shared, shared, total, Good, good-op, Triple}
+use Rattle.block.specs.declared.Block.{Block}
+use Rattle.block.specs.Block.{blockAt, le8, bytesOf, Small}
+use Rattle.block.specs.Group.{blocks, eq-block}
+use Rattle.block.specs.Trip.{length-le8, length-bytesOf, block-bytesOf, block-drop, block-take}
+use Rattle.share.specs.Record.{recordLen}
+use Rattle.share.specs.Share.{Share, shares, recordOf}
+use Rattle.share.specs.ShareLaws.{SmallShare, small-share-op, Agree, length-recordOf, bytes-recordOf, read-here}
+use Rattle.share.specs.Parties.{shareOf, share-of-op}
+use Rattle.permutation.specs.PermutationLaws.{perm-below}
+use Rattle.message.specs.declared.Kind.the-variants.{Dvalues}
+use Rattle.message.specs.Format.{formOf}
+use Rattle.encode.specs.Encode.{encode, dvalueItem}
+use Rattle.encode.specs.Coded.{ds, macs, length-ds, length-dvalue, coded-dvalue, length-encode}
+use Rattle.encode.specs.RoundTrip.{trip-whole, even-item}
+use Rattle.plan.specs.Plan.{kindOf, countDue, listLen, msgLen, leaky, bucketSize, bitsCount}
+use Rattle.plan.specs.PlanLaws.{leaky-most, bucket-low, bucket-high}
+use Rattle.engine.specs.declared.Frame.{Frame}
+use Rattle.engine.specs.Step.{frame}
+use Rattle.engine.specs.StepLaws.{by-none}
+use Rattle.engine.specs.Area.{mem}
+use Rattle.engine.specs.Sheet.{staysTest, Mail}
+use Rattle.engine.specs.Plain.{isEcho}
+use Rattle.engine.specs.Honest.{Script, before, due, plainAfter, RecvAt, SendAt}
+use Rattle.rounds.specs.Area.{PERM, DS, sizes, sizeOf}
+use Rattle.rounds.specs.Opening.{Args}
+use Rattle.rounds.specs.Table.{table, judge, kept, held, written}
+use Rattle.rounds.specs.Haand.{x, y}
+use Rattle.rounds.specs.Buckets.{le4, word4, permBytes, entry, later, d, dvalueMsg, bucketAt, dTold, dMacTold, dFaults, dOpened, leakyAnd, abc, tripleRow, tripleRows}
+use Rattle.rounds.specs.Buckets as B
+use Rattle.rounds.specs.Beaver as Beaver
+use Rattle.honest.specs.Script as S
+use Rattle.honest.specs.Inputs.{Boxes, Inputs, deltas, small-bits}
+use Rattle.honest.specs.Base.{list-form, Fit, delta-is, bits-at, perm-at, keep-one}
+use Rattle.honest.specs.Haand.{row-byte, row-block}
+use Rattle.honest.specs.Values.{xOf, yOf, zOf, share-x, share-y, share-z, small-z, LeakyTriples}
+use Rattle.honest.specs.Combining.{sumX, sumZ, sum-triple, tripleOf, combined, small-sumX, small-sumZ, combine-ext}
+
+-- ---- the permutation in bytes
+module _ (f : Frame) (p : List ℕ) (t : ℕ) (lt : t < leaky (f .l)) where
+  perm-byte : (o : ℕ) → o < 4 → getD (permBytes f p) (t * 4 + o) 0 ≡ getD (le4 (getD p t 0)) o 0
+  unfolding permBytes le4
+  perm-byte o w = row-byte 4 (leaky (f .l)) (λ t. le4 (getD p t 0)) (λ t l. refl) t o lt w
+
+  word-read : getD p t 0 < 2 ^ 32 → word4 (permBytes f p) (t * 4) ≡ getD p t 0
+  unfolding word4 le4
+  word-read small =
+      let v : ℕ = getD p t 0 in
+      let e0 : getD (permBytes f p) (t * 4) 0 ≡ v % 256 =
+      ap (λ a. getD (permBytes f p) a 0) (sym (add-zero (t * 4))) ∙ perm-byte 0 (omega arith) in
+      let s2 : v / 0x100_0000 % 256 * 256 + v / 0x1_0000 % 256 ≡ v / 0x1_0000 = omega arith in
+      let s1 : v / 0x1_0000 * 256 + v / 0x100 % 256 ≡ v / 0x100 = omega arith in
+      let s0 : v / 0x100 * 256 + v % 256 ≡ v = omega arith in
+      rw (perm-byte 3 (omega arith), perm-byte 2 (omega arith), perm-byte 1 (omega arith), e0, s2, s1, s0)
+
+pub length-perm : (f : Frame) (p : List ℕ) → length (permBytes f p) ≡ leaky (f .l) * 4
+unfolding permBytes le4
+length-perm f p = length-cat (leaky (f .l)) 4 (λ t. le4 (getD p t 0)) (λ t l. refl)
+
+-- ---- what is read of an item that stands at a place in a message
+module _ (m g : List ℕ) (at size : ℕ) (here : take size (drop at m) ≡ g) where
+  pub item-byte : (o : ℕ) → o < size → getD m (at + o) 0 ≡ getD g o 0
+  item-byte o h = sym (getD-drop at m o 0) ∙ sym (getD-take size (drop at m) o 0 h) ∙ ap (λ (s : List ℕ). getD s o 0) here
+
+  pub item-block : (o : ℕ) → o + 16 ≤ size → blockAt m (at + o) ≡ blockAt g o
+  item-block o h = sym (block-drop m at o) ∙ sym (block-take (drop at m) size o h) ∙ ap (λ (s : List ℕ). blockAt s o) here
+
+-- ---- a bucket's d values and MACs, read where they lie in an item
+behind-count : (c : ℕ) (g : ℕ → List ℕ) (o : ℕ) → blockAt (encode c g) (8 + o) ≡ blockAt (cat c g) o
+unfolding encode
+behind-count c g o =
+    sym (block-drop (le8 c ++ cat c g) 8 o) ∙ ap (λ (s : List ℕ). blockAt s o) (drop-at (le8 c) (cat c g) 8 (length-le8 c))
+
+module _ (c : ℕ) (b : ℕ → Bool) (x : ℕ → Block) (e : ℕ) (le : e < c) where
+  dvalue-bit : getD (dvalueItem c b x) (8 + e) 0 ≡ num (b e)
+  unfolding dvalueItem encode
+  dvalue-bit =
+      let v : List ℕ = cat c (λ k. num (b k) ∷ []) in
+      ap (λ (s : List ℕ). getD s (8 + e) 0) (append-assoc (le8 c) v (macs c b x))
+      ∙ ap (λ a. getD (le8 c ++ (v ++ macs c b x)) (a + e) 0) (sym (length-le8 c))
+      ∙ getD-append-add (le8 c) (v ++ macs c b x) e 0
+      ∙ sym (getD-take c (v ++ macs c b x) e 0 le)
+      ∙ ap (λ (s : List ℕ). getD s e 0) (take-at v (macs c b x) c (let q : c * 1 ≡ c = omega arith in length-cat c 1 _ (λ t l. refl) ∙ q))
+      ∙ ap (λ a. getD v a 0) (let q : e ≡ e * 1 + 0 = omega arith in q)
+      ∙ row-byte 1 c (λ k. num (b k) ∷ []) (λ t l. refl) e 0 le (omega arith)
+
+  dvalue-mac : Small (x e) → blockAt (dvalueItem c b x) (8 + c + (8 + e * 16)) ≡ x e
+  unfolding dvalueItem
+  dvalue-mac s =
+      let v : List ℕ = cat c (λ k. bytesOf (x k)) in
+      sym (block-drop (ds c b x ++ macs c b x) (8 + c) (8 + e * 16))
+      ∙ ap (λ (s : List ℕ). blockAt s (8 + e * 16)) (drop-at (ds c b x) (macs c b x) (8 + c) (length-ds c b x))
+      ∙ behind-count c (λ k. bytesOf (x k)) (e * 16)
+      ∙ ap (blockAt v) (sym (add-zero (e * 16)))
+      ∙ row-block 16 c (λ k. bytesOf (x k)) (λ t l. length-bytesOf (x t)) e 0 le (omega arith)
+      ∙ ap (λ (s : List ℕ). blockAt s 0) (sym (append-nil (bytesOf (x e)))) ∙ block-bytesOf (x e) [] s
+
+-- a message of l buckets
+module _ (l c : ℕ) (b : ℕ → ℕ → Bool) (x : ℕ → ℕ → Block) (small : l < 2 ^ 64) (few : c < 2 ^ 64) (j e : ℕ) (lj : j < l) (le : e < c) where
+  abbrev size : ℕ
+  size = 8 + c + (8 + 16 * c)
+
+  abbrev msg : List ℕ
+  msg = encode l (λ j. dvalueItem c (b j) (x j))
+
+  item : take size (drop (8 + j * size) msg) ≡ dvalueItem c (b j) (x j)
+  item =
+      even-item (Dvalues c) size l (λ j. dvalueItem c (b j) (x j))
+      (λ t lt. length-dvalue c (b t) (x t) ∙ (let q : 16 + c * 17 ≡ 8 + c + (8 + 16 * c) = omega arith in q)) msg
+      (trip-whole (Dvalues c) l (λ j. dvalueItem c (b j) (x j)) small (λ t lt. coded-dvalue c (b t) (x t) few)) j lj
+
+  split : (a : ℕ) → a + 8 + e ≡ a + (8 + e)
+  split a = omega arith
+
+  split-mac : (a : ℕ) → a + 8 + c + 8 + e * 16 ≡ a + (8 + c + (8 + e * 16))
+  split-mac a = omega arith
+
+  bit-read : odd (getD (encode l (λ j. dvalueItem c (b j) (x j))) (8 + j * (8 + c + (8 + 16 * c)) + 8 + e) 0) ≡ b j e
+  bit-read =
+      ap odd
+      (ap (λ a. getD msg a 0) (split (8 + j * size)) ∙ item-byte msg _ (8 + j * size) size item (8 + e) (omega arith)
+      ∙ dvalue-bit c (b j) (x j) e le)
+      ∙ odd-num (b j e)
+
+  mac-read : Small (x j e)
+      → blockAt (encode l (λ j. dvalueItem c (b j) (x j))) (8 + j * (8 + c + (8 + 16 * c)) + 8 + c + 8 + e * 16) ≡ x j e
+  mac-read s =
+      ap (blockAt msg) (split-mac (8 + j * size)) ∙ item-block msg _ (8 + j * size) size item (8 + c + (8 + e * 16)) (omega arith)
+      ∙ dvalue-mac c (b j) (x j) e le s
+
+-- ---- what stands in a row behind p
+part-in : (s p q r : List ℕ) (a m o k : ℕ) → take m (drop a s) ≡ p ++ (q ++ r) → length p ≡ o → length q ≡ k → take k (drop (a + o) s) ≡ q
+part-in s p q r a m o k h lp lq =
+    let rest : List ℕ = drop m (drop a s) in
+    ap (take k)
+    (sym (drop-drop o a s)
+    ∙ ap (drop o) (sym (take-append-drop m (drop a s)) ∙ ap (λ (x : List ℕ). x ++ rest) h ∙ append-assoc p (q ++ r) rest)
+    ∙ drop-at p ((q ++ r) ++ rest) o lp ∙ append-assoc q r rest)
+    ∙ take-at q (r ++ rest) k lq
+
+-- ---- the values
+-- entry e of bucket j
+abbrev pub place : ℕ → List ℕ → ℕ → ℕ → ℕ
+place l order j e = getD order (j * bucketSize l + e) 0
+
+-- how many later entries a bucket has
+abbrev pub more : ℕ → ℕ
+more l = bucketSize l - 1
+
+module _ (n l : ℕ) (args : ℕ → Args) (strings order : List ℕ) where
+  -- the entries of bucket j
+  abbrev pub xIn : ℕ → ℕ → Shared Block
+  xIn j e = xOf n l args (place l order j e)
+
+  abbrev pub yIn : ℕ → ℕ → Shared Block
+  yIn j e = yOf n l args (place l order j e)
+
+  abbrev pub zIn : ℕ → ℕ → Shared Block
+  zIn j e = zOf n l args strings order (place l order j e)
+
+  -- "d = first y + later y"
+  abbrev pub dOf : ℕ → ℕ → Shared Block
+  dOf j e = shared blocks .op (yIn j 0) (yIn j (suc e))
+
+  -- the combined x and z: a and c of bucket j; b is its first y
+  abbrev pub aOf : ℕ → Shared Block
+  aOf j = sumX (xIn j) (yIn j) (zIn j) (λ e. total n (dOf j e)) (more l)
+
+  abbrev pub bOf : ℕ → Shared Block
+  bOf j = yIn j 0
+
+  abbrev pub cOf : ℕ → Shared Block
+  cOf j = sumZ (xIn j) (yIn j) (zIn j) (λ e. total n (dOf j e)) (more l)
+
+-- the own bit and those told by all others are the XOR of all
+pub open-all : (i n : ℕ) (v : ℕ → Bool) (own : Bool) (told : ℕ → Bool) → i < n → own ≡ v i → ((k : ℕ) → k < n → i ≢ k → told k ≡ v k)
+    → addb own (others bits i n told) ≡ sum bits n v
+open-all i n v own told li e h =
+    ap₂ addb e (others-ext bits i n told v h) ∙ addb-comm (v i) (others bits i n v) ∙ others-all bits i n v li
+
+pub passes : (code : ℕ) (b : Bool) → b ≡ true → pick b 0 code ≡ 0
+passes code b e = rw e refl
+
+module _ (n l : ℕ) (args : ℕ → Args) (strings order : List ℕ) (I : Inputs n l args order) where
+  abbrev run : Script
+  run = S.script n l args strings order
+
+  abbrev X : Boxes n l args
+  X = I .boxes
+
+  abbrev perm : ℕ → List ℕ
+  perm i = S.perms n l args strings order i
+
+  -- ---- the entries
+  inside : (j e : ℕ) → j < l → e < bucketSize l → j * bucketSize l + e < leaky l
+  unfolding leaky
+  inside j e lj le = omega (arith, in-chunks j l (bucketSize l) lj)
+
+  pub place-below : (j e : ℕ) → j < l → e < bucketSize l → place l order j e < leaky l
+  place-below j e lj le =
+      rw (← I .order-len) (perm-below order (I .order-perm) (j * bucketSize l + e) (rw (I .order-len) (inside j e lj le)))
+
+  pub entry-is : (i j e : ℕ) → j < l → e < bucketSize l → entry (frame n l i) (perm i) j e ≡ place l order j e
+  unfolding entry S.perms
+  entry-is i j e lj le =
+      ap (λ v. v % leaky l) (word-read (frame n l i) order (j * bucketSize l + e) (inside j e lj le)
+      (omega (arith, place-below j e lj le, leaky-most l (X .range .most))))
+      ∙ mod-eq-of-lt (place-below j e lj le)
+
+  -- an entry, by the number of later ones
+  pub first-in : 0 < bucketSize l
+  first-in = omega (arith, bucket-low l)
+
+  later-in : (e : ℕ) → e < more l → suc e < bucketSize l
+  later-in e le = omega arith
+
+  all-in : (e : ℕ) → e < suc (more l) → e < bucketSize l
+  all-in e le = omega (arith, bucket-low l)
+
+  -- ---- d
+  d-share : (i j e : ℕ) → j < l → e < more l → d (frame n l i) (args i .bits) (perm i) j e ≡ shareOf i (dOf n l args strings order j e)
+  unfolding d
+  d-share i j e lj le =
+      ap₂ (λ a b. shares .op (y (frame n l i) (args i .bits) a) (y (frame n l i) (args i .bits) b))
+      (entry-is i j 0 lj first-in) (entry-is i j (suc e) lj (later-in e le))
+      ∙ sym (ap₂ (shares .op) (share-y n l args i (place l order j 0)) (share-y n l args i (place l order j (suc e))))
+      ∙ sym (share-of-op i (yIn n l args strings order j 0) (yIn n l args strings order j (suc e)))
+
+  pub good-y : (j e : ℕ) → j < l → e < bucketSize l → Good blocks n (deltas args) (yIn n l args strings order j e)
+  unfolding bitsCount
+  good-y j e lj le = X .bits-mac (leaky l + place l order j e) (omega (arith, place-below j e lj le))
+
+  good-d : (j e : ℕ) → j < l → e < more l → Good blocks n (deltas args) (dOf n l args strings order j e)
+  good-d j e lj le =
+      good-op blocks n (deltas args) (yIn n l args strings order j 0) (yIn n l args strings order j (suc e))
+      (good-y j 0 lj first-in) (good-y j (suc e) lj (later-in e le))
+
+  small-d : (i j e : ℕ) → i < n → SmallShare n (d (frame n l i) (args i .bits) (perm i) j e)
+  unfolding d y
+  small-d i j e li = small-share-op n _ _ (small-bits n l args X i li _) (small-bits n l args X i li _)
+
+  -- ---- the messages
+  pub l-small : l < 2 ^ 64
+  l-small = omega (arith, X .range .most)
+
+  more-small : more l < 2 ^ 64
+  more-small = omega (arith, bucket-high l)
+
+  dvalue-len : (j r : ℕ) → length (S.sent21 n l args strings order j r) ≡ msgLen n l 21
+  unfolding S.sent21 dvalueMsg later msgLen listLen kindOf countDue
+  dvalue-len j r =
+      length-encode (8 + more l + (8 + 16 * more l)) l _
+      (λ t i. length-dvalue (more l) _ _ ∙ (let q : 16 + more l * 17 ≡ 8 + more l + (8 + 16 * more l) = omega arith in q))
+
+  dvalue-form : (j r : ℕ) → formOf (kindOf l 21) (countDue n l 21) (S.sent21 n l args strings order j r) ≡ 0
+  unfolding S.sent21 dvalueMsg later kindOf countDue
+  dvalue-form j r = list-form (Dvalues (more l)) l _ l-small (λ t i. coded-dvalue (more l) _ _ more-small)
+
+  module _ (i k j e : ℕ) (li : i < n) (lk : k < n) (lj : j < l) (le : e < more l) (m : ℕ → List ℕ)
+      (h : m k ≡ S.sent21 n l args strings order k i) where
+    told : dTold (frame n l i) m k j e ≡ dOf n l args strings order j e .bit k
+    unfolding dTold bucketAt later S.sent21 dvalueMsg shareOf
+    told =
+        ap (λ (s : List ℕ). odd (getD s (8 + j * (8 + more l + (8 + 16 * more l)) + 8 + e) 0)) h
+        ∙ bit-read l (more l) (λ j e. d (frame n l k) (args k .bits) (perm k) j e .bit)
+        (λ j e. d (frame n l k) (args k .bits) (perm k) j e .mac i) l-small more-small j e lj le
+        ∙ ap (λ (s : Share). s .bit) (d-share k j e lj le)
+
+    mac-told : dMacTold (frame n l i) m k j e ≡ dOf n l args strings order j e .mac k i
+    unfolding dMacTold bucketAt later S.sent21 dvalueMsg shareOf
+    mac-told =
+        ap (λ (s : List ℕ). blockAt s (8 + j * (8 + more l + (8 + 16 * more l)) + 8 + more l + 8 + e * 16)) h
+        ∙ mac-read l (more l) (λ j e. d (frame n l k) (args k .bits) (perm k) j e .bit)
+        (λ j e. d (frame n l k) (args k .bits) (perm k) j e .mac i) l-small more-small j e lj le (small-d k j e lk .mac i li)
+        ∙ ap (λ (s : Share). s .mac i) (d-share k j e lj le)
+
+    fits : i ≢ k
+        → dMacTold (frame n l i) m k j e
+        ≡ blocks .op (d (frame n l i) (args i .bits) (perm i) j e .key k) (sel blocks (dTold (frame n l i) m k j e) (deltas args i))
+    unfolding shareOf
+    fits ne =
+        mac-told ∙ good-d j e lj le k i lk li (λ z. ne (sym z))
+        ∙ ap₂ (λ (a : Block) (b : Bool). blocks .op a (sel blocks b (deltas args i))) (ap (λ (s : Share). s .key k) (sym (d-share i j e lj le))) (sym told)
+
+  d-passes : (i : ℕ) → i < n → (m : ℕ → List ℕ) → Mail n (S.sent21 n l args strings order) i m
+      → dFaults (frame n l i) (deltas args i) (args i .bits) (perm i) m .code ≡ 0
+  unfolding dFaults later
+  d-passes i li m M =
+      by-none (frame n l i) _ (λ k lk ne. passes 11 _
+      (all-of l _ (λ j lj. all-of (more l) _ (λ e le. eq-block _ _ (fits i k j e li lk lj le m (M k lk ne) ne)))))
+
+  -- ---- what is opened: all boxes have the XOR of all bits
+  opened-is : (i j e : ℕ) → i < n → j < l → e < more l → (m : ℕ → List ℕ) → Mail n (S.sent21 n l args strings order) i m
+      → dOpened (frame n l i) (args i .bits) (perm i) m j e ≡ total n (dOf n l args strings order j e)
+  unfolding dOpened shareOf
+  opened-is i j e li lj le m M =
+      open-all i n (dOf n l args strings order j e .bit) _ (λ k. dTold (frame n l i) m k j e) li (ap (λ (s : Share). s .bit) (d-share i j e lj le))
+      (λ k lk ne. told i k j e li lk lj le m (M k lk ne))
+
+  ds-is : (i : ℕ) → i < n → (m : ℕ → List ℕ) → Mail n (S.sent21 n l args strings order) i m
+      → B.ds (frame n l i) (args i .bits) (perm i) m ≡ cat l (λ j. tab (more l) (λ e. num (total n (dOf n l args strings order j e))))
+  unfolding B.ds later
+  ds-is i li m M =
+      cat-ext l _ _ (λ j lj. tab-ext (more l) _ _ (λ e le. ap num (opened-is i j e li lj le m M)))
+
+  -- what DS holds
+  pub ds-value : (i : ℕ) → i < n
+      → S.ds n l args strings order i ≡ cat l (λ j. tab (more l) (λ e. num (total n (dOf n l args strings order j e))))
+  unfolding S.ds
+  ds-value i li = ds-is i li _ (λ k lk ne. refl)
+
+  pub ds-read : (i j e : ℕ) → i < n → j < l → e < more l
+      → odd (getD (S.ds n l args strings order i) (j * more l + e) 0) ≡ total n (dOf n l args strings order j e)
+  ds-read i j e li lj le =
+      let row : ℕ → List ℕ = λ j. tab (more l) (λ e. num (total n (dOf n l args strings order j e))) in
+      ap (λ (s : List ℕ). odd (getD s (j * more l + e) 0)) (ds-value i li)
+      ∙ ap odd (row-byte (more l) l row (λ t lt. length-tab (more l) _) j e lj le ∙ getD-tab (more l) e _ 0 le)
+      ∙ odd-num (total n (dOf n l args strings order j e))
+
+  -- ---- the round
+  fit-perm : Fit n l args strings order PERM
+  unfolding S.holds S.perms sizeOf sizes
+  fit-perm = (omega arith, λ i li. length-perm (frame n l i) order)
+
+  fit-ds : Fit n l args strings order DS
+  unfolding S.holds sizeOf sizes
+  fit-ds = (
+    omega arith,
+    λ i li. ap length (ds-value i li) ∙ length-cat l (more l) _ (λ j lj. length-tab (more l) _),
+  )
+
+  pub send-21 : SendAt table run n l 21
+  unfolding staysTest allOf mem S.since S.holds S.perms S.sent S.sent21 held written
+  send-21 = record {
+    keeps = λ v i li w K. keep-one n l args strings order (before 21) (due 21) i li K PERM _ refl fit-perm refl;
+    writes = λ v i r li lr ne w K.
+        ap₂ (λ (a b : List ℕ). dvalueMsg (frame n l i) a b r) (bits-at n l args strings order K) (perm-at n l args strings order K refl);
+  }
+
+  pub recv-21 : RecvAt table run n l 21
+  unfolding plainAfter isEcho mem staysTest allOf S.since S.holds S.sent judge kept
+  recv-21 = record {
+    heard = record {
+      lens = λ j r lj lr ne. dvalue-len j r;
+      formed = λ i j li lj ne. dvalue-form j i;
+      judged = λ i li w K m M.
+          (λ q. dFaults (frame n l i) (delta-is n l args strings order K q) (bits-at n l args strings order K q)
+          (perm-at n l args strings order K refl q) m .code)
+          ∙ d-passes i li m M;
+    };
+    keeps = λ i li w K m M. keep-one n l args strings order (due 21) (before 22) i li K DS _ refl fit-ds
+        (ap₂ (λ (a b : List ℕ). B.ds (frame n l i) a b m) (bits-at n l args strings order K) (perm-at n l args strings order K refl)
+        ∙ ds-is i li m M ∙ sym (ds-value i li));
+  }
+
+  -- ---- what TRIPLES holds
+  abbrev xs : ℕ → ℕ → Shared Block
+  xs = xIn n l args strings order
+
+  abbrev ys : ℕ → ℕ → Shared Block
+  ys = yIn n l args strings order
+
+  abbrev zs : ℕ → ℕ → Shared Block
+  zs = zIn n l args strings order
+
+  abbrev opened : ℕ → ℕ → Bool
+  opened j e = total n (dOf n l args strings order j e)
+
+  abbrev own : ℕ → ℕ → B.Triple
+  own i = abc (frame n l i) (deltas args i) (args i .bits) (S.zRows n l args strings order i) (S.es n l args strings order i) (perm i)
+      (S.ds n l args strings order i)
+
+  -- each box combines its shares of a and c
+  abc-is : (i j : ℕ) → i < n → j < l
+      → own i j
+      ≡ record {
+        tx = shareOf i (aOf n l args strings order j);
+        ty = shareOf i (bOf n l args strings order j);
+        tz = shareOf i (cOf n l args strings order j);
+      }
+  unfolding abc later leakyAnd
+  abc-is i j li lj =
+      combine-ext _ (tripleOf (xs j) (ys j) (zs j) (opened j) i) _ _ (more l) entry-triple (λ e le. ds-read i j e li lj le)
+      ∙ combined (xs j) (ys j) (zs j) (opened j) i (more l)
+    where
+      at-place : ℕ → B.Triple
+      at-place t = record {
+        tx = x (frame n l i) (args i .bits) t;
+        ty = y (frame n l i) (args i .bits) t;
+        tz = B.zShare (frame n l i) (deltas args i) (args i .bits) (S.zRows n l args strings order i) (S.es n l args strings order i) t;
+      }
+
+      entry-triple : (e : ℕ) → e < suc (more l)
+          → leakyAnd (frame n l i) (deltas args i) (args i .bits) (S.zRows n l args strings order i) (S.es n l args strings order i) (perm i) j e
+          ≡ tripleOf (xs j) (ys j) (zs j) (opened j) i e
+      entry-triple e le =
+          ap at-place (entry-is i j e lj (all-in e le))
+          ∙ (λ q. record {
+            tx = sym (share-x n l args i (place l order j e)) q;
+            ty = sym (share-y n l args i (place l order j e)) q;
+            tz = sym (share-z n l args strings order i (place l order j e)) q;
+          })
+
+  row-len : (i j : ℕ) → length (tripleRow (frame n l i) (own i j)) ≡ 2 * recordLen n
+  unfolding tripleRow
+  row-len i j =
+      length-append (recordOf n i (own i j .tx)) (recordOf n i (own i j .tz))
+      ∙ ap₂ _+_ (length-recordOf n i (own i j .tx)) (length-recordOf n i (own i j .tz))
+      ∙ (let q : recordLen n + recordLen n ≡ 2 * recordLen n = omega arith in q)
+
+  pub length-triples : (i : ℕ) → length (S.tripleRows n l args strings order i) ≡ l * (2 * recordLen n)
+  unfolding S.tripleRows tripleRows
+  length-triples i = length-cat l (2 * recordLen n) _ (λ j lj. row-len i j)
+
+  pub bytes-triples : (i : ℕ) → Bytes (S.tripleRows n l args strings order i)
+  unfolding S.tripleRows tripleRows tripleRow
+  bytes-triples i = bytes-cat l _ (λ j lj.
+      bytes-append (recordOf n i (own i j .tx)) (recordOf n i (own i j .tz)) (bytes-recordOf n i (own i j .tx)) (bytes-recordOf n i (own i j .tz)))
+
+  row-is : (i j : ℕ) → j < l
+      → take (2 * recordLen n) (drop (j * (2 * recordLen n)) (S.tripleRows n l args strings order i))
+      ≡ recordOf n i (own i j .tx) ++ recordOf n i (own i j .tz)
+  unfolding S.tripleRows tripleRows tripleRow chunk
+  row-is i j lj = chunk-cat (2 * recordLen n) l (λ j. tripleRow (frame n l i) (own i j)) (λ j lj. row-len i j) j lj
+
+  a-here : (i j : ℕ) → i < n → j < l
+      → take (recordLen n) (drop (j * (2 * recordLen n)) (S.tripleRows n l args strings order i))
+      ≡ recordOf n i (shareOf i (aOf n l args strings order j))
+  a-here i j li lj =
+      ap (λ k. take (recordLen n) (drop k (S.tripleRows n l args strings order i))) (sym (add-zero (j * (2 * recordLen n))))
+      ∙ part-in (S.tripleRows n l args strings order i) [] (recordOf n i (own i j .tx)) (recordOf n i (own i j .tz)) (j * (2 * recordLen n))
+      (2 * recordLen n) 0 (recordLen n) (row-is i j lj) refl (length-recordOf n i (own i j .tx))
+      ∙ ap (λ (g : B.Triple). recordOf n i (g .tx)) (abc-is i j li lj)
+
+  c-here : (i j : ℕ) → i < n → j < l
+      → take (recordLen n) (drop (j * (2 * recordLen n) + recordLen n) (S.tripleRows n l args strings order i))
+      ≡ recordOf n i (shareOf i (cOf n l args strings order j))
+  c-here i j li lj =
+      let tx : List ℕ = recordOf n i (own i j .tx) in
+      part-in (S.tripleRows n l args strings order i) tx (recordOf n i (own i j .tz)) [] (j * (2 * recordLen n)) (2 * recordLen n) (recordLen n)
+      (recordLen n) (row-is i j lj ∙ ap (λ (s : List ℕ). tx ++ s) (sym (append-nil (recordOf n i (own i j .tz)))))
+      (length-recordOf n i (own i j .tx)) (length-recordOf n i (own i j .tz))
+      ∙ ap (λ (g : B.Triple). recordOf n i (g .tz)) (abc-is i j li lj)
+
+  small-x : (i j e : ℕ) → i < n → SmallShare n (shareOf i (xs j e))
+  unfolding x
+  small-x i j e li = rw (share-x n l args i (place l order j e)) (small-bits n l args X i li _)
+
+  pub small-a : (i j : ℕ) → i < n → SmallShare n (shareOf i (aOf n l args strings order j))
+  small-a i j li = small-sumX (xs j) (ys j) (zs j) (opened j) n i (more l) (λ e le. small-x i j e li)
+
+  pub small-c : (i j : ℕ) → i < n → SmallShare n (shareOf i (cOf n l args strings order j))
+  small-c i j li =
+      small-sumZ (xs j) (ys j) (zs j) (opened j) n i (more l) (λ e le. small-x i j e li)
+      (λ e le. small-z n l args strings order X i li (place l order j e))
+
+  -- read back
+  pub a-read : (i j : ℕ) → i < n → j < l
+      → Agree n i (Beaver.a (frame n l i) (S.tripleRows n l args strings order i) j) (shareOf i (aOf n l args strings order j))
+  unfolding Beaver.a
+  a-read i j li lj = read-here n i _ (S.tripleRows n l args strings order i) (j * (2 * recordLen n)) (a-here i j li lj) (small-a i j li)
+
+  pub c-read : (i j : ℕ) → i < n → j < l
+      → Agree n i (Beaver.c (frame n l i) (S.tripleRows n l args strings order i) j) (shareOf i (cOf n l args strings order j))
+  unfolding Beaver.c
+  c-read i j li lj =
+      read-here n i _ (S.tripleRows n l args strings order i) (j * (2 * recordLen n) + recordLen n) (c-here i j li lj) (small-c i j li)
+
+  -- c is the AND of a and b
+  pub abc-triple : LeakyTriples n l args strings order → (j : ℕ) → j < l
+      → Triple blocks n (deltas args) (aOf n l args strings order j) (bOf n l args strings order j) (cOf n l args strings order j)
+  abc-triple L j lj =
+      sum-triple (xs j) (ys j) (zs j) (opened j) n (deltas args) (more l) (λ e le. L (place l order j e) (place-below j e lj (all-in e le)))
+      (λ e le. refl)
