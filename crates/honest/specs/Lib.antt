@@ -16,4 +16,5 @@ pub mod Combining
 pub mod Buckets
 pub mod Beaver
 pub mod Results
+pub mod Premises
 pub mod Theorem

@@ -1,5 +1,5 @@
--- DEMAND 3: two to eight boxes with one l, inputs that opening has no reason to refuse and that keep the MAC rule, equal r strings and
--- permutation. The claim is on every list of openings and round calls; and there are lists that meet its premises and end with all boxes done.
+-- DEMAND 3. The premises on the inputs are in Premises.antt, the lists of calls in engine/World.antt; the claim stands here. It is proved of every
+-- list; and there are lists that meet its premises and end with all boxes done.
 use mathlib.Core.Path.{_≡_, refl, sym, ap, _∙_}
 use mathlib.Core.Bool.{Bool, true, false, _&&_}
 use mathlib.Core.Logic.{_≢_, _↔_}
@@ -33,7 +33,8 @@ use Rattle.honest.specs.Script as S
 use Rattle.honest.specs.Inputs.{Boxes, Inputs, deltas, alphasOf, betasOf}
 use Rattle.honest.specs.Echo.{lawful}
 use Rattle.honest.specs.Opening.{Given, Agree, orderFor, inputs-for, honest-opening}
-use Rattle.honest.specs.Supply.{zeroArgs, zero-boxes, supply}
+use Rattle.honest.specs.Supply.{supply}
+use Rattle.honest.specs.Premises.{Premises, boxes-of, zeroInputs, zero-premises}
 use Rattle.honest.specs.Toss.{recv-1, list-1, send-3, recv-3, send-4, recv-4, send-5, recv-5}
 use Rattle.honest.specs.Fabitn.{send-6, recv-6, list-6}
 use Rattle.honest.specs.Fashare.{send-8, recv-8, list-8, send-10, recv-10, list-10, send-12, recv-12, list-12}
@@ -47,10 +48,11 @@ use Rattle.honest.specs.Results.{length-result, good-result, total-resul
 abbrev pub session : Protocol
 session = protocolOf table
 
--- ---- WHAT IS CLAIMED, of n boxes with one l, box b opened with the inputs args b, all lent the r strings `strings` and the permutation `order`
-module _ (n l : ℕ) (args : ℕ → Args) (strings order : List ℕ) (X : Boxes n l args) where
+-- ---- WHAT IS CLAIMED, of n boxes with one l, box b opened with the inputs args b, all lent the r strings `strings` and the permutation `order`.
+-- Nothing is asked of these two: a list that is no permutation is refused by every box, with 18.
+module _ (n l : ℕ) (args : ℕ → Args) (strings order : List ℕ) (P : Premises n l args) where
   abbrev pub scene : Scene Args
-  scene = sceneOf table n l opening (Agree strings order) (Given n l args) (lawful n l (X .range))
+  scene = sceneOf table n l opening (Agree strings order) (Given n l args) (lawful n l (boxes-of n l args P .range))
 
   -- "every list of openings and round calls in which a box takes a round only once its messages are there, whatever the order among boxes and
   -- whichever calls stand between that 01 refuses without ending a session"
@@ -69,23 +71,24 @@ module _ (n l : ℕ) (args : ℕ → Args) (strings order : List ℕ) (X : Boxes
     -- "exactly those are refused, and change nothing": of every call of the list
     pub exactly : AllRight scene start cs
     -- and none for a work area that the box's last call left: it is as long as it should, until the box is done
-    pub area : (b : ℕ) (x : Box) → Stands cs b x → x .rounds < pick (eqb n 2) 14 22 → length (x .work) ≡ workLen (frame n l b)
+    pub area : (b : ℕ) (x : Box) → Stands cs b x → x .rounds < all-rounds → length (x .work) ≡ workLen (frame n l b)
     -- "a box is done exactly when 22 of its rounds (14 for two boxes) were accepted"
-    pub done : (b : ℕ) (x : Box) → Stands cs b x → Done (protocolOf table) (x .session) ↔ x .rounds ≡ pick (eqb n 2) 14 22
+    pub done : (b : ℕ) (x : Box) → Stands cs b x → Done session (x .session) ↔ x .rounds ≡ all-rounds
     -- "Its result shares are the l records its accepted round 22 call wrote"
-    pub records : (b : ℕ) (x : Box) → Stands cs b x → Done (protocolOf table) (x .session) → length (x .wrote) ≡ l * recordLen n
+    pub records : (b : ℕ) (x : Box) → Stands cs b x → Done session (x .session) → length (x .wrote) ≡ l * recordLen n
     -- "that MAC rule holds between the result shares of any two done boxes": at position t j's MAC for k equals k's key for j, plus the delta
     -- k was opened with where j's bit is 1
     pub macs : (j k : ℕ) (x y : Box) → Stands cs j x → Stands cs k y → j ≢ k
-        → Done (protocolOf table) (x .session) → Done (protocolOf table) (y .session) → (t : ℕ) → t < l
+        → Done session (x .session) → Done session (y .session) → (t : ℕ) → t < l
         → macAt (x .wrote) (t * recordLen n) k
         ≡ blocks .op (keyAt (y .wrote) (t * recordLen n) j) (sel blocks (bitAt (x .wrote) (t * recordLen n)) (deltas args k))
     -- "and once all are done, the bits of each result XOR to (XOR of alphas) AND (XOR of betas)"
-    pub ands : (x : ℕ → Box) → ((b : ℕ) → b < n → Stands cs b (x b) × Done (protocolOf table) (x b .session)) → (t : ℕ) → t < l
+    pub ands : (x : ℕ → Box) → ((b : ℕ) → b < n → Stands cs b (x b) × Done session (x b .session)) → (t : ℕ) → t < l
         → sum bits n (λ b. bitAt (x b .wrote) (t * recordLen n))
         ≡ (sum bits n (λ b. bitAt (args b .alpha) (t * recordLen n)) && sum bits n (λ b. bitAt (args b .beta) (t * recordLen n)))
 
 -- ---- all rounds are honest
+-- the records of the rounds, one after another
 also : {A C : Type 0} → A → C → A × C
 also a c = (a, c)
 
@@ -150,7 +153,11 @@ and-is : (a b : Bool) → sel bits a b ≡ (a && b)
 and-is true b = refl
 and-is false b = refl
 
-module _ (n l : ℕ) (args : ℕ → Args) (strings order : List ℕ) (X : Boxes n l args) where
+module _ (n l : ℕ) (args : ℕ → Args) (strings order : List ℕ) (P : Premises n l args) where
+  abbrev X : Boxes n l args
+  X = boxes-of n l args P
+
+  -- the permutation, or some other where that is none
   abbrev order′ : List ℕ
   order′ = orderFor l order
 
@@ -160,20 +167,20 @@ module _ (n l : ℕ) (args : ℕ → Args) (strings order : List ℕ) (X : Boxes
   abbrev W : Lawful table n l
   W = lawful n l (X .range)
 
-  abbrev H : Honest table (S.script n l args strings (orderFor l order)) n l
+  abbrev H : Honest table (S.script n l args strings order′) n l
   H = honest n l args strings order′ I′
 
-  abbrev opens : HonestOpening table (S.script n l args strings (orderFor l order)) n l opening (Agree strings order) (Given n l args) (lawful n l (X .range))
+  abbrev opens : HonestOpening table (S.script n l args strings order′) n l opening (Agree strings order) (Given n l args) W
   opens = honest-opening n l args strings order X W
 
-  abbrev duty : Duty (scene n l args strings order X)
+  abbrev duty : Duty (scene n l args strings order P)
   duty = dutyOf table (S.script n l args strings order′) n l opening (Agree strings order) (Given n l args) W H opens
 
   abbrev result : ℕ → List ℕ
   result b = S.resultOf n l args strings order′ b
 
   -- what a done box wrote last
-  wrote-is : (cs : List (Call Args)) → Fine n l args strings order X cs → (b : ℕ) (x : Box) → Stands n l args strings order X cs b x
+  wrote-is : (cs : List (Call Args)) → Fine n l args strings order P cs → (b : ℕ) (x : Box) → Stands n l args strings order P cs b x
       → Done session (x .session) → (b < n) × (x .wrote ≡ result b)
   wrote-is = every-written table (S.script n l args strings order′) n l opening (Agree strings order) (Given n l args) W H opens
 
@@ -192,13 +199,13 @@ module _ (n l : ℕ) (args : ℕ → Args) (strings order : List ℕ) (X : Boxes
       ∙ and-is (total n (alphasOf n args t)) (total n (betasOf n args t))
 
   -- ---- DEMAND 3
-  pub every-list : (cs : List (Call Args)) → Fine n l args strings order X cs → Claim n l args strings order X cs
+  pub every-list : (cs : List (Call Args)) → Fine n l args strings order P cs → Claim n l args strings order P cs
   unfolding workLen
   every-list cs fair = record {
-    exactly = every-call (scene n l args strings order X) duty cs fair;
-    area = λ b x e h. every-long (scene n l args strings order X) duty cs fair b x e (rw (steps-are (eqb n 2)) h);
+    exactly = every-call (scene n l args strings order P) duty cs fair;
+    area = λ b x e h. every-long (scene n l args strings order P) duty cs fair b x e (rw (steps-are (eqb n 2)) h);
     done = λ b x e.
-        let h = every-done (scene n l args strings order X) duty cs fair b x e in
+        let h = every-done (scene n l args strings order P) duty cs fair b x e in
         (λ d. h .0 d ∙ steps-are (eqb n 2), λ r. h .1 (r ∙ sym (steps-are (eqb n 2))));
     records = λ b x e d.
         let p = wrote-is cs fair b x e d in
@@ -214,19 +221,19 @@ module _ (n l : ℕ) (args : ℕ → Args) (strings order : List ℕ) (X : Boxes
 
   -- ---- its premises can be met, and all boxes come to be done, where r strings and permutation are of due length and the permutation is one
   module _ (hs : length strings ≡ rLen l) (ho : length order ≡ leaky l) (hp : isPerm order ≡ true) where
-    abbrev cast : Cast (scene n l args strings order X) duty
+    abbrev cast : Cast (scene n l args strings order P) duty
     cast = castOf table (S.script n l args strings order′) n l opening (Agree strings order) (Given n l args) W H opens
         (supply n l args strings order X hs ho hp W H)
 
-    pub some-list : (cs : List (Call Args)) × Fine n l args strings order X cs
-        × ((b : ℕ) → b < n → (x : Box) × Stands n l args strings order X cs b x × Done (protocolOf table) (x .session))
+    pub some-list : (cs : List (Call Args)) × Fine n l args strings order P cs
+        × ((b : ℕ) → b < n → (x : Box) × Stands n l args strings order P cs b x × Done session (x .session))
     some-list = (
-      robin (scene n l args strings order X) duty cast (stepsOf table (eqb n 2)),
-      fair-robin (scene n l args strings order X) duty cast,
-      robin-done (scene n l args strings order X) duty cast,
+      robin (scene n l args strings order P) duty cast (stepsOf table (eqb n 2)),
+      fair-robin (scene n l args strings order P) duty cast,
+      robin-done (scene n l args strings order P) duty cast,
     )
 
--- for every n and l there are inputs as demand 3 has them: with all zero the boxes come to be done
+-- for every n and l there are inputs as demand 3 has them, and a list after which all boxes are done
 module _ (n l : ℕ) (r : InRange n l) where
   abbrev pub zeroStrings : List ℕ
   zeroStrings = replicate (rLen l) 0
@@ -234,8 +241,8 @@ module _ (n l : ℕ) (r : InRange n l) where
   abbrev pub someOrder : List ℕ
   someOrder = orderFor l []
 
-  pub some-inputs : (cs : List (Call Args)) × Fine n l (zeroArgs n l) zeroStrings someOrder (zero-boxes n l r) cs
-      × ((b : ℕ) → b < n → (x : Box) × Stands n l (zeroArgs n l) zeroStrings someOrder (zero-boxes n l r) cs b x × Done (protocolOf table) (x .session))
-  some-inputs =
-      let I = inputs-for n l (zeroArgs n l) [] (zero-boxes n l r) in
-      some-list n l (zeroArgs n l) zeroStrings someOrder (zero-boxes n l r) (length-replicate {A = ℕ} (rLen l) 0) (I .order-len) (I .order-perm)
+  pub some-run : (cs : List (Call Args)) × Fine n l (zeroInputs n l) zeroStrings someOrder (zero-premises n l r) cs
+      × ((b : ℕ) → b < n → (x : Box) × Stands n l (zeroInputs n l) zeroStrings someOrder (zero-premises n l r) cs b x × Done session (x .session))
+  some-run =
+      let I = inputs-for n l (zeroInputs n l) [] (boxes-of n l (zeroInputs n l) (zero-premises n l r)) in
+      some-list n l (zeroInputs n l) zeroStrings someOrder (zero-premises n l r) (length-replicate {A = ℕ} (rLen l) 0) (I .order-len) (I .order-perm)

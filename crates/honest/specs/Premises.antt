@@ -1,0 +1,207 @@
+-- The premises of demand 3 in its own words: "inputs that 01 gives opening no reason to refuse" are those that Inputs.antt lists.
+use mathlib.Core.Path.{_≡_, refl, sym, ap, _∙_, subst}
+use mathlib.Core.Bool.{Bool, true, false, _&&_}
+use mathlib.Core.Logic.{_≢_}
+use mathlib.Core.List.{[]}
+use Prim.Native.Nat.{ℕ, suc, _+_, _-_, _*_, _<_, _≤_}
+use native.Mathlib.Omega.{arith}
+use lib.ListN.{length, getD, replicate, length-replicate}
+use lib.Dec.{ltb, leb, eqb}
+use borrow.Author.Tests.{leb-true, eqb-true, eqb-false}
+use Rattle.lists.specs.Pick.{pick, pick-then, pick-else}
+use Rattle.lists.specs.All.{allOf, of-all, true-false}
+use Rattle.lists.specs.Bytes.{Bytes}
+use Rattle.algebra.specs.Sum.{neq, neq-true}
+use Rattle.algebra.specs.Share.{Good}
+use Rattle.block.specs.Group.{blocks}
+use Rattle.share.specs.Record.{recordLen, recordsFault}
+use Rattle.share.specs.RecordLaws.{faults-valid}
+use Rattle.plan.specs.Plan.{InRange, leaky, bitsCount, msgLen}
+use Rattle.engine.specs.declared.Frame.{Frame}
+use Rattle.engine.specs.Step.{frame}
+use Rattle.rounds.specs.Area.{workLen}
+use Rattle.rounds.specs.Opening.{Args, listsDue, buffersDue, masksFault, orFault, bytesFault, reason}
+use Rattle.honest.specs.Inputs.{Own, Boxes, deltas, bitsOf, alphasOf, betasOf}
+use Rattle.honest.specs.Echo.{lawful}
+use Rattle.honest.specs.Opening.{lend, Given, honest-opening}
+use Rattle.honest.specs.Supply.{zeroArgs, zero-boxes}
+
+-- the lists that a box is opened with hold bytes
+pub record InBytes (a : Args) : Type 0 where
+  pub delta : Bytes (a .delta)
+  pub bits : Bytes (a .bits)
+  pub alpha : Bytes (a .alpha)
+  pub beta : Bytes (a .beta)
+
+-- "Let two to eight boxes, numbered from 0, be given their count as n, each its number as i, one l from 1 to 300,000, .. inputs that 01 gives
+-- opening no reason to refuse, and bit, alpha and beta MACs that each equal the other box's key, plus that box's delta where the bit is 1"
+pub record Premises (n l : ℕ) (args : ℕ → Args) : Type 0 where
+  pub two : 2 ≤ n
+  pub eight : n ≤ 8
+  pub one : 1 ≤ l
+  pub most : l ≤ 300000
+  pub party : (b : ℕ) → b < n → args b .party ≡ frame n l b
+  pub fine : (b : ℕ) → b < n → reason (args b) ≡ 0
+  pub bytes : (b : ℕ) → b < n → InBytes (args b)
+  pub bits-mac : (t : ℕ) → t < bitsCount l → Good blocks n (deltas args) (bitsOf n args t)
+  pub alpha-mac : (t : ℕ) → t < l → Good blocks n (deltas args) (alphasOf n args t)
+  pub beta-mac : (t : ℕ) → t < l → Good blocks n (deltas args) (betasOf n args t)
+
+-- ---- what an opening without a reason was given
+both : (p q : Bool) → (p && q) ≡ true → (p ≡ true) × (q ≡ true)
+both true true h = (h, h)
+both true false h = absurd (true-false (sym h))
+both false q h = absurd (true-false (sym h))
+
+not-zero : (k : ℕ) → _≡_ {A = ℕ} (suc k) 0 → ⊥
+not-zero k e = omega arith
+
+neither : (x y : ℕ) → orFault x y ≡ 0 → (x ≡ 0) × (y ≡ 0)
+unfolding orFault
+neither x y = go (eqb x 0) refl
+  where
+    go : (b : Bool) → eqb x 0 ≡ b → pick b y x ≡ 0 → (x ≡ 0) × (y ≡ 0)
+    go true e h = (eqb-true x 0 e, h)
+    go false e h = absurd (eqb-false x 0 e h)
+
+-- what is left of the reasons, one after another
+record Passed (a : Args) : Type 0 where
+  lists : listsDue a ≡ true
+  buffers : buffersDue a ≡ true
+  bytes : bytesFault a ≡ 0
+
+passed : (a : Args) → reason a ≡ 0 → Passed a
+unfolding reason
+passed a h =
+    let e15 = pick-then (leb 2 (a .party .n) && leb (a .party .n) 8 && ltb (a .party .i) (a .party .n)) _ _ _ (not-zero 14) h in
+    let e16 = pick-then (leb (a .party .l) 300000) _ _ _ (not-zero 15) (e15 .1) in
+    let e3 = pick-else (eqb (a .party .l) 0) _ _ _ (not-zero 2) (e16 .1) in
+    let e6 = pick-then (listsDue a) _ _ _ (not-zero 5) (e3 .1) in
+    let e17 = pick-then (buffersDue a) _ _ _ (not-zero 16) (e6 .1) in
+    record { lists = e6 .0; buffers = e17 .0; bytes = e17 .1 }
+
+mask-bit : (a : Args) → masksFault a ≡ 0 → (k t : ℕ) → k < a .party .n → a .party .i ≢ k → t < leaky (a .party .l)
+    → getD (a .masks) (k * leaky (a .party .l) + t) 0 ≤ 1
+unfolding masksFault
+mask-bit a h k t lk ne lt =
+    let row : ℕ → Bool = λ k. allOf (leaky (a .party .l)) (λ t. leb (getD (a .masks) (k * leaky (a .party .l) + t) 0) 1) in
+    let all = pick-then (allOf (a .party .n) (λ k. pick (neq (a .party .i) k) (row k) true)) _ _ _ (not-zero 0) h .0 in
+    let mine : row k ≡ true =
+    ap (λ b. pick b (row k) true) (sym (neq-true (a .party .i) k ne)) ∙ of-all (a .party .n) (λ k. pick (neq (a .party .i) k) (row k) true) all k lk in
+    leb-true _ 1 (of-all (leaky (a .party .l)) _ mine t lt)
+
+-- the lengths of the lists, and of the buffers
+record Lists (a : Args) : Type 0 where
+  bits : length (a .bits) ≡ bitsCount (a .party .l) * recordLen (a .party .n)
+  alpha : length (a .alpha) ≡ a .party .l * recordLen (a .party .n)
+  beta : length (a .beta) ≡ a .party .l * recordLen (a .party .n)
+
+lists-of : (a : Args) → listsDue a ≡ true → Lists a
+unfolding listsDue
+lists-of a h =
+    let p = both _ (eqb (length (a .beta)) (a .party .l * recordLen (a .party .n))) h in
+    let q = both (eqb (length (a .bits)) (bitsCount (a .party .l) * recordLen (a .party .n))) _ (p .0) in
+    record { bits = eqb-true _ _ (q .0); alpha = eqb-true _ _ (q .1); beta = eqb-true _ _ (p .1) }
+
+record Buffers (a : Args) : Type 0 where
+  delta : length (a .delta) ≡ 16
+  seed : length (a .seed) ≡ 32
+  pairs : length (a .pairs) ≡ 32 * a .party .n
+  masks : length (a .masks) ≡ a .party .n * leaky (a .party .l)
+  work : length (a .work) ≡ workLen (a .party)
+  out : length (a .out) ≡ (a .party .n - 1) * msgLen (a .party .n) (a .party .l) 1
+
+buffers-of : (a : Args) → buffersDue a ≡ true → Buffers a
+unfolding buffersDue
+buffers-of a h =
+    let o = both _ (eqb (length (a .out)) ((a .party .n - 1) * msgLen (a .party .n) (a .party .l) 1)) h in
+    let w = both _ (eqb (length (a .work)) (workLen (a .party))) (o .0) in
+    let m = both _ (eqb (length (a .masks)) (a .party .n * leaky (a .party .l))) (w .0) in
+    let p = both _ (eqb (length (a .pairs)) (32 * a .party .n)) (m .0) in
+    let s = both (eqb (length (a .delta)) 16) (eqb (length (a .seed)) 32) (p .0) in
+    record {
+      delta = eqb-true _ _ (s .0);
+      seed = eqb-true _ _ (s .1);
+      pairs = eqb-true _ _ (p .1);
+      masks = eqb-true _ _ (m .1);
+      work = eqb-true _ _ (w .1);
+      out = eqb-true _ _ (o .1);
+    }
+
+-- its inputs
+module _ (a : Args) (h : reason a ≡ 0) (y : InBytes a) where
+  own-here : Own (a .party .n) (a .party .l) (a .party .i) a
+  unfolding bytesFault
+  own-here =
+      let p = passed a h in
+      let ls = lists-of a (p .lists) in
+      let bs = buffers-of a (p .buffers) in
+      let bits = neither (recordsFault (a .party .n) (a .party .i) (a .bits) (bitsCount (a .party .l))) _ (p .bytes) in
+      let alpha = neither (recordsFault (a .party .n) (a .party .i) (a .alpha) (a .party .l)) _ (bits .1) in
+      let beta = neither (recordsFault (a .party .n) (a .party .i) (a .beta) (a .party .l)) _ (alpha .1) in
+      record {
+        party = refl;
+        delta-len = bs .delta;
+        seed-len = bs .seed;
+        pairs-len = bs .pairs;
+        bits-len = ls .bits;
+        alpha-len = ls .alpha;
+        beta-len = ls .beta;
+        masks-len = bs .masks;
+        delta-bytes = y .delta;
+        bits-bytes = y .bits;
+        alpha-bytes = y .alpha;
+        beta-bytes = y .beta;
+        bits-valid = faults-valid (a .party .n) (a .party .i) (a .bits) (bitsCount (a .party .l)) (bits .0);
+        alpha-valid = faults-valid (a .party .n) (a .party .i) (a .alpha) (a .party .l) (alpha .0);
+        beta-valid = faults-valid (a .party .n) (a .party .i) (a .beta) (a .party .l) (beta .0);
+        mask-bits = mask-bit a (beta .1);
+      }
+
+-- ---- the premises are those that the rounds' proofs go by
+module _ (n l : ℕ) (args : ℕ → Args) (P : Premises n l args) where
+  pub boxes-of : Boxes n l args
+  boxes-of = record {
+    range = record { two = P .two; eight = P .eight; one = P .one; most = P .most };
+    own = λ b lb. subst (λ (f : Frame). Own (f .n) (f .l) (f .i) (args b)) (P .party b lb) (own-here (args b) (P .fine b lb) (P .bytes b lb));
+    bits-mac = P .bits-mac;
+    alpha-mac = P .alpha-mac;
+    beta-mac = P .beta-mac;
+  }
+
+  -- an opening with them, in buffers that opening takes, is box b's own
+  pub given-of : (b : ℕ) → b < n → Given n l args b (args b)
+  given-of b lb =
+      let bs = buffers-of (args b) (passed (args b) (P .fine b lb) .buffers) in
+      record {
+        inputs-are = refl;
+        work-len = bs .work ∙ ap workLen (P .party b lb);
+        out-len = bs .out ∙ ap (λ (f : Frame). (f .n - 1) * msgLen (f .n) (f .l) 1) (P .party b lb);
+      }
+
+-- ---- for every n and l there are inputs that meet them: all-zero ones
+abbrev pub zeroInputs : ℕ → ℕ → ℕ → Args
+zeroInputs n l b = lend (zeroArgs n l b) (replicate (workLen (frame n l b)) 0) (replicate ((n - 1) * msgLen n l 1) 0)
+
+pub zero-premises : (n l : ℕ) → InRange n l → Premises n l (zeroInputs n l)
+zero-premises n l r =
+    let X = zero-boxes n l r in
+    record {
+      two = r .two;
+      eight = r .eight;
+      one = r .one;
+      most = r .most;
+      party = λ b lb. refl;
+      fine = λ b lb.
+          honest-opening n l (zeroArgs n l) [] [] X (lawful n l r) .takes b (zeroInputs n l b) lb
+          (record { inputs-are = refl; work-len = length-replicate {A = ℕ} _ 0; out-len = length-replicate {A = ℕ} _ 0 }) .0;
+      bytes = λ b lb. record {
+        delta = X .own b lb .delta-bytes;
+        bits = X .own b lb .bits-bytes;
+        alpha = X .own b lb .alpha-bytes;
+        beta = X .own b lb .beta-bytes;
+      };
+      bits-mac = X .bits-mac;
+      alpha-mac = X .alpha-mac;
+      beta-mac = X .beta-mac;
+    }
