@@ -39,15 +39,12 @@ module _ {n i l t : ℕ} {recs : List ℕ} (a : Asked n i l t recs) where
   unfolding bitsCount
   r-in = record-in (2 * leaky l + t) (omega (arith, a .below))
 
-  -- the entry of party k in the row of the position, and its mask
+  -- the entry of party k in the row of the position
   module _ {rows masks : List ℕ} (q : Kept n l rows masks) (k : ℕ) (h : k < n) where
     pub entry-in : t * leakyLen n + (32 + k * 18) + 18 ≤ length rows
     unfolding leakyLen
     entry-in =
         let e = in-record t (leaky l) (leakyLen n) (32 + k * 18) 18 (length rows) (a .below) (omega (arith, in-chunks k n 18 h)) (omega (arith, q .rows)) in e
-
-    pub mask-in : k * leaky l + t < length masks
-    mask-in = omega (arith, in-chunks k n (leaky l) h, q .bytes, a .below)
 
 -- ---- sections of the work area
 pub bits-len-is : {n i l : ℕ} → Ranges n i l → bitsLen n l ≡ bitsCount l * recordLen n
@@ -97,6 +94,13 @@ module _ {n i l : ℕ} {w : List ℕ} (h : Work n i l w) where
       let r : 1 ≤ recordLen n = omega arith in
       let e : 1 * 1 ≤ bitsCount l * recordLen n = mul-le-mul b r in
       inside BITS a (bitsCount l * recordLen n) (omega arith) ha (sym (size-bits (frame n l i))) (omega arith)
+
+  pub masks-inside : (a : ℕ) → Starts n i l MASKS a → a + n * leaky l ≤ length w
+  masks-inside a ha =
+      let b : 1 ≤ n = omega (arith, h .ranges .two) in
+      let r : 1 ≤ leaky l = leaky-some l (h .ranges .one) in
+      let e : 1 * 1 ≤ n * leaky l = mul-le-mul b r in
+      inside MASKS a (n * leaky l) (omega arith) ha (sym (size-masks (frame n l i))) (omega arith)
 
   -- its records, lent as a part
   pub asked-sec : (t : ℕ) (x : List ℕ) → t < leaky l → x ≡ sec (sizeOf (frame n l i)) BITS w → Asked n i l t x

@@ -2,3 +2,4 @@ pub mod Given
 pub mod GivenLaws
 pub mod Parts
 pub mod Sent
+pub mod Received

@@ -4,21 +4,23 @@
 ghost use mathlib.Core.Path.{_≡_};
 ghost use mathlib.Core.List.{_++_};
 ghost use Prim.Native.Nat.{_+_, _-_, _*_, _<_, _≤_};
-ghost use lib.ListN.{length, take, replicate};
+ghost use lib.ListN.{length, getD, take, replicate};
 ghost use Rattle.lists.specs.Over.{cat};
-ghost use Rattle.algebra.specs.Group.{XorGroup, sel};
+ghost use Rattle.algebra.specs.Group.{XorGroup, bits, sel, odd};
 ghost use Rattle.algebra.specs.Sum.{others, neq};
 ghost use Rattle.block.specs.Group.{blocks};
 ghost use Rattle.share.specs.Record.{recordLen, macAt, keyAt};
 ghost use Rattle.plan.specs.Plan as Plan;
-ghost use Rattle.encode.specs.Encode.{encode};
+ghost use Rattle.encode.specs.Encode.{encode, bitBlock};
 ghost use Rattle.engine.specs.Step.{frame};
 ghost use Rattle.engine.specs.Area.{toOthers};
-ghost use Rattle.rounds.specs.Area.{BITS, LEAKY, leakyLen, at, keep};
+ghost use Rattle.rounds.specs.Area.{MASKS, BITS, LEAKY, ZS, leakyLen, at, keep};
+ghost use Rattle.rounds.specs.Mail.{letter, Arrived};
 ghost use Rattle.rounds.specs.Loops.{rowOf};
 ghost use Rattle.rounds.specs.Haand as R;
 ghost use Rattle.haand.specs.Given.{Ranges, Asked, Kept, Work, Starts};
 ghost use Rattle.haand.specs.Sent as S;
+ghost use Rattle.haand.specs.Received as Got;
 ghost use Rattle.haand.specs.Parts.{entry};
 use block::Block;
 
@@ -65,7 +67,9 @@ fn keys_and_macs(recs: &[u8], at: usize, n: usize, i: usize) -> Block
     let mut sum = Block::zero();
     let mut k = 0;
     while k < n {
-        let e = share::key_at(recs, at, k).0.xor(share::mac_at(recs, at, k).0);
+        let e = share::key_at(recs, at, k)
+            .0
+            .xor(share::mac_at(recs, at, k).0);
         sum = sum.xor(e.const_mul(i != k));
         k += 1;
     }
@@ -104,7 +108,15 @@ fn put_entry(out: &mut [u8], key: Block, delta: Block, p: Block) -> Block
 }
 
 // The entry of party k, zero where it is the own one. Returns what it adds to the sum of G.
-fn put_entry_of(out: &mut [u8], recs: &[u8], at: usize, i: usize, k: usize, delta: Block, p: Block) -> Block
+fn put_entry_of(
+    out: &mut [u8],
+    recs: &[u8],
+    at: usize,
+    i: usize,
+    k: usize,
+    delta: Block,
+    p: Block,
+) -> Block
     requires { ⌜ (length (now out) ≡ 18) × (k < 8) ⌝ }
     requires { ⌜ at + recordLen (k + 1) ≤ length (now recs) ⌝ }
     ensures { λ r. ⌜ (now (out .exit) ≡ rowOf i 18 (λ k. entry (keyAt (now (recs .entry)) at k) delta p) k)
@@ -118,7 +130,15 @@ fn put_entry_of(out: &mut [u8], recs: &[u8], at: usize, i: usize, k: usize, delt
 }
 
 // The entries of all parties. Returns the sum of G over the x keys.
-fn put_entries(out: &mut [u8], recs: &[u8], at: usize, n: usize, i: usize, delta: Block, p: Block) -> Block
+fn put_entries(
+    out: &mut [u8],
+    recs: &[u8],
+    at: usize,
+    n: usize,
+    i: usize,
+    delta: Block,
+    p: Block,
+) -> Block
     requires { ⌜ (n ≤ 8) × (length (now out) ≡ n * 18) ⌝ }
     requires { ⌜ at + recordLen n ≤ length (now recs) ⌝ }
     ensures { λ r. ⌜ (now (out .exit) ≡ cat n (rowOf i 18 (λ k. entry (keyAt (now (recs .entry)) at k) delta p)))
@@ -173,7 +193,15 @@ pub fn copy(out: &mut [u8], s: &[u8])
 }
 
 // Keeps the rows of LEAKY, which starts at `rows`; BITS starts at `recs`.
-pub fn keep_leaky(work: &mut [u8], recs: usize, rows: usize, delta: Block, n: usize, i: usize, l: usize)
+pub fn keep_leaky(
+    work: &mut [u8],
+    recs: usize,
+    rows: usize,
+    delta: Block,
+    n: usize,
+    i: usize,
+    l: usize,
+)
     requires { ⌜ Work n i l (now work) ⌝ }
     requires { ⌜ (Starts n i l BITS recs) × (Starts n i l LEAKY rows) ⌝ }
     ensures { λ _. ⌜ now (work .exit) ≡ keep (frame n l i) LEAKY
@@ -192,21 +220,53 @@ pub fn keep_leaky(work: &mut [u8], recs: usize, rows: usize, delta: Block, n: us
     }
 }
 
+// The mask for party k at position t.
+fn mask_bit(masks: &[u8], n: usize, l: usize, k: usize, t: usize) -> bool
+    requires { ⌜ (l ≤ 300000) × ((k < n) × (t < Plan.leaky l)) ⌝ }
+    requires { ⌜ length (now masks) ≡ n * Plan.leaky l ⌝ }
+    ensures { λ r. ⌜ r ≡ odd (getD (now (masks .entry)) (k * Plan.leaky l + t) 0) ⌝ }
+{
+    block::bit(masks, k * plan::leaky(l) + t)
+}
+
 // The item for party k at position t. Its bits H stand in the rows of LEAKY.
-fn put_item(out: &mut [u8], rows: &[u8], masks: &[u8], recs: &[u8], n: usize, i: usize, l: usize, k: usize, t: usize)
+fn put_item(
+    out: &mut [u8],
+    rows: &[u8],
+    masks: &[u8],
+    recs: &[u8],
+    n: usize,
+    i: usize,
+    l: usize,
+    k: usize,
+    t: usize,
+)
     requires { ⌜ (length (now out) ≡ 2) × (k < n) ⌝ }
     requires { ⌜ Asked n i l t (now recs) ⌝ }
     requires { ⌜ Kept n l (now rows) (now masks) ⌝ }
     ensures { λ _. ⌜ now (out .exit) ≡ S.item (frame n l i) (now (rows .entry)) (now (masks .entry)) (now (recs .entry)) k t ⌝ }
 {
     let at = t * leaky_len(n) + (32 + k * 18);
-    let s = block::bit(masks, k * plan::leaky(l) + t);
+    let mask = mask_bit(masks, n, l, k, t);
     let y = share::bit_at(recs, y_at(n, l, t));
-    encode::put_two_bits(out, block::bit(rows, at + 16) ^ s, block::bit(rows, at + 17) ^ s ^ y);
+    encode::put_two_bits(
+        out,
+        block::bit(rows, at + 16) ^ mask,
+        block::bit(rows, at + 17) ^ mask ^ y,
+    );
 }
 
 // The message to party k.
-fn put_message(out: &mut [u8], rows: &[u8], masks: &[u8], recs: &[u8], n: usize, i: usize, l: usize, k: usize)
+fn put_message(
+    out: &mut [u8],
+    rows: &[u8],
+    masks: &[u8],
+    recs: &[u8],
+    n: usize,
+    i: usize,
+    l: usize,
+    k: usize,
+)
     requires { ⌜ (length (now out) ≡ 8 + Plan.leaky l * 2) × (k < n) ⌝ }
     requires { ⌜ (Ranges n i l) × (length (now recs) ≡ Plan.bitsCount l * recordLen n) ⌝ }
     requires { ⌜ Kept n l (now rows) (now masks) ⌝ }
@@ -224,7 +284,15 @@ fn put_message(out: &mut [u8], rows: &[u8], masks: &[u8], recs: &[u8], n: usize,
 }
 
 // The messages of round 14, from the rows that `keep_leaky` kept.
-pub fn write_haand(out: &mut [u8], rows: &[u8], masks: &[u8], recs: &[u8], n: usize, i: usize, l: usize)
+pub fn write_haand(
+    out: &mut [u8],
+    rows: &[u8],
+    masks: &[u8],
+    recs: &[u8],
+    n: usize,
+    i: usize,
+    l: usize,
+)
     requires { ⌜ length (now out) ≡ (n - 1) * (8 + Plan.leaky l * 2) ⌝ }
     requires { ⌜ (Ranges n i l) × (length (now recs) ≡ Plan.bitsCount l * recordLen n) ⌝ }
     requires { ⌜ Kept n l (now rows) (now masks) ⌝ }
@@ -240,5 +308,149 @@ pub fn write_haand(out: &mut [u8], rows: &[u8], masks: &[u8], recs: &[u8], n: us
         let k = plan::other(i, q);
         put_message(&mut out[a..e], rows, masks, recs, n, i, l, k);
         q += 1;
+    }
+}
+
+// A row of ZS: a bit, and a sum of G over x MACs.
+pub struct ZRow(pub bool, pub Block);
+
+// The bit that m has for position t: the second where x is 1, chosen by arithmetic.
+fn received(m: &[u8], t: usize, x: bool) -> bool
+    requires { ⌜ (t ≤ 1500000) × (8 + t * 2 + 2 ≤ length (now m)) ⌝ }
+    ensures { λ r. ⌜ r ≡ Got.received (now (m .entry)) t x ⌝ }
+{
+    let a = block::bit(m, 8 + t * 2);
+    let b = block::bit(m, 8 + t * 2 + 1);
+    a ^ (x & (a ^ b))
+}
+
+// What party k adds to v and to the sum of G: one hash, of the MAC.
+fn z_term<'a>(
+    recs: &'a [u8],
+    masks: &'a [u8],
+    incoming: &[u8],
+    starts: &[usize],
+    lens: &[usize],
+    n: usize,
+    i: usize,
+    l: usize,
+    t: usize,
+    k: usize,
+) -> ZRow
+    requires { ⌜ (Asked n i l t (now recs)) × (k < n) ⌝ }
+    requires { ⌜ length (now masks) ≡ n * Plan.leaky l ⌝ }
+    requires { ⌜ Arrived n i (8 + Plan.leaky l * 2) (now incoming) (now starts) (now lens) ⌝ }
+    ensures { λ r. ⌜ (r .0 ≡ sel bits (neq i k) (Got.vTerm (frame n l i) (now (masks .entry)) (now (recs .entry))
+        (letter (now (incoming .entry)) (now (starts .entry)) (now (lens .entry))) t k))
+        × (r .1 ≡ sel blocks (neq i k) (R.G (macAt (now (recs .entry)) (t * recordLen n) k))) ⌝ }
+{
+    if i == k {
+        return ZRow(false, Block::zero());
+    }
+    let m = rounds::letter(incoming, starts, lens, k);
+    let at = x_at(n, t);
+    let h = hashed(share::mac_at(recs, at, k).0);
+    let g = h.0;
+    let s = mask_bit(masks, n, l, k, t);
+    ZRow(s ^ (h.1 ^ received(m, t, share::bit_at(recs, at))), g)
+}
+
+// v, and the sum of G over the x MACs.
+fn z_sums<'a>(
+    recs: &'a [u8],
+    masks: &'a [u8],
+    incoming: &[u8],
+    starts: &[usize],
+    lens: &[usize],
+    n: usize,
+    i: usize,
+    l: usize,
+    t: usize,
+) -> ZRow
+    requires { ⌜ Asked n i l t (now recs) ⌝ }
+    requires { ⌜ length (now masks) ≡ n * Plan.leaky l ⌝ }
+    requires { ⌜ Arrived n i (8 + Plan.leaky l * 2) (now incoming) (now starts) (now lens) ⌝ }
+    ensures { λ r. ⌜ (r .0 ≡ R.v (frame n l i) (now (masks .entry)) (now (recs .entry))
+        (letter (now (incoming .entry)) (now (starts .entry)) (now (lens .entry))) t)
+        × (r .1 ≡ others blocks i n (λ j. R.G (R.x (frame n l i) (now (recs .entry)) t .mac j))) ⌝ }
+{
+    let mut v = false;
+    let mut g = Block::zero();
+    let mut k = 0;
+    while k < n {
+        let z = z_term(recs, masks, incoming, starts, lens, n, i, l, t, k);
+        v = v ^ z.0;
+        g = g.xor(z.1);
+        k += 1;
+    }
+    ZRow(v, g)
+}
+
+// The row of position t.
+pub fn z_row<'a>(
+    recs: &'a [u8],
+    masks: &'a [u8],
+    incoming: &[u8],
+    starts: &[usize],
+    lens: &[usize],
+    n: usize,
+    i: usize,
+    l: usize,
+    t: usize,
+) -> ZRow
+    requires { ⌜ Asked n i l t (now recs) ⌝ }
+    requires { ⌜ length (now masks) ≡ n * Plan.leaky l ⌝ }
+    requires { ⌜ Arrived n i (8 + Plan.leaky l * 2) (now incoming) (now starts) (now lens) ⌝ }
+    ensures { λ r. ⌜ bitBlock (r .0) (r .1) ≡ R.zRow (frame n l i) (now (masks .entry)) (now (recs .entry))
+        (letter (now (incoming .entry)) (now (starts .entry)) (now (lens .entry))) t ⌝ }
+{
+    let z = z_sums(recs, masks, incoming, starts, lens, n, i, l, t);
+    let x = share::bit_at(recs, x_at(n, t));
+    let y = share::bit_at(recs, y_at(n, l, t));
+    let g = z.1;
+    ZRow(z.0 ^ (x & y), g)
+}
+
+// Keeps the rows of ZS, which starts at `rows`; MASKS starts at `masks`, BITS at `recs`.
+pub fn keep_z(
+    work: &mut [u8],
+    masks: usize,
+    recs: usize,
+    rows: usize,
+    incoming: &[u8],
+    starts: &[usize],
+    lens: &[usize],
+    n: usize,
+    i: usize,
+    l: usize,
+)
+    requires { ⌜ Work n i l (now work) ⌝ }
+    requires { ⌜ (Starts n i l MASKS masks) × ((Starts n i l BITS recs) × (Starts n i l ZS rows)) ⌝ }
+    requires { ⌜ Arrived n i (8 + Plan.leaky l * 2) (now incoming) (now starts) (now lens) ⌝ }
+    ensures { λ _. ⌜ now (work .exit) ≡ keep (frame n l i) ZS
+        (R.zRows (frame n l i) (at (frame n l i) MASKS (now (work .entry))) (at (frame n l i) BITS (now (work .entry)))
+        (letter (now (incoming .entry)) (now (starts .entry)) (now (lens .entry)))) (now (work .entry)) ⌝ }
+{
+    let count = plan::leaky(l);
+    let me = masks + n * count;
+    let re = recs + plan::bits_len(n, l);
+    let mut t = 0;
+    while t < count {
+        let w = &work[..];
+        let z = z_row(
+            &w[recs..re],
+            &w[masks..me],
+            incoming,
+            starts,
+            lens,
+            n,
+            i,
+            l,
+            t,
+        );
+        let a = rows + t * 17;
+        let e = a + 17;
+        encode::put_bit_block(&mut work[a..e], z.0, z.1);
+        t += 1;
     }
 }

@@ -2,20 +2,18 @@
 use mathlib.Core.Path.{_≡_, refl, sym, ap, ap₂, _∙_}
 use mathlib.Core.Bool.{Bool, true, false, _&&_}
 use mathlib.Core.Logic.{_≢_}
-use mathlib.Core.List.{List, [], _∷_, _++_}
-use Prim.Native.Nat.{ℕ, zero, suc, _+_, _-_, _*_, _^_, _<_, _≤_}
-use native.Mathlib.Nat.{le-refl, add-zero}
+use mathlib.Core.List.{List, [], _∷_}
+use Prim.Native.Nat.{ℕ, suc, _+_, _-_, _*_, _^_, _<_}
+use native.Mathlib.Nat.{add-zero}
 use native.Mathlib.Omega.{arith}
-use lib.ListN.{length, getD, take, drop, length-append}
+use lib.ListN.{length, getD, take, drop}
 use lib.Seq.{getD-take, getD-drop, drop-drop, take-nil}
-use lib.Dec.{ltb}
-use borrow.Author.Tests.{ltb-true, ltb-false, lt-ltb, le-ltb, le-leb}
+use borrow.Author.Tests.{lt-ltb, le-leb}
 use Rattle.lists.specs.Pick.{pick}
 use Rattle.lists.specs.All.{allOf}
-use Rattle.lists.specs.Over.{cat}
 use Rattle.lists.specs.Rows.{chunk, length-chunk}
 use Rattle.lists.specs.Same.{same-eq}
-use Rattle.algebra.specs.Sum.{neq, neq-true, Same, same, apart, apart?}
+use Rattle.algebra.specs.Sum.{neq, neq-true, Same, apart, apart?}
 use Rattle.message.specs.declared.Kind.the-variants.{Options}
 use Rattle.message.specs.Format.{itemAt}
 use Rattle.encode.specs.Encode.{encode, noneItem, someItem}
@@ -28,6 +26,7 @@ use Rattle.engine.specs.Plain.{isEcho, nextOf, isRound, numberOf, stepsOf}
 use Rattle.engine.specs.Honest.{EchoLaws, orderTest, courseTest, Lawful}
 use Rattle.rounds.specs.Area.{sizes, sizeOf}
 use Rattle.rounds.specs.Echo.{echoMsg, entryFault, echoFault, echo}
+use Rattle.rounds.specs.EchoLaws.{entries-length, echo-len}
 use Rattle.rounds.specs.Table.{fine, table}
 
 -- ---- a list that begins with a byte
@@ -36,17 +35,6 @@ tail-take a [] = sym (take-nil a)
 tail-take a (y ∷ x) = refl
 
 -- ---- an echo's entries
--- 16 for a party below m: an entry that is there is 16 bytes longer than one that is absent
-abbrev past : ℕ → ℕ → ℕ
-past m k = pick (ltb k m) 16 0
-
-same-past : (k m : ℕ) → k ≢ m → past (suc m) k ≡ past m k
-same-past k m z = ap (λ b. pick b 16 0) (by (ltb k m) refl)
-  where
-    by : (b : Bool) → ltb k m ≡ b → ltb k (suc m) ≡ b
-    by true e = lt-ltb k (suc m) (omega (arith, ltb-true k m e))
-    by false e = le-ltb k (suc m) (omega (arith, z, ltb-false k m e))
-
 module _ (n i r : ℕ) (rows : List ℕ) (h : length rows ≡ n * 16) where
   abbrev opt : Bool → ℕ → List ℕ
   opt b k = pick b (1 ∷ chunk 16 k rows) (0 ∷ [])
@@ -65,31 +53,8 @@ module _ (n i r : ℕ) (rows : List ℕ) (h : length rows ≡ n * 16) where
   echo-trip : n < 2 ^ 64 → Trip Options n entry (encode n entry)
   echo-trip small = trip-whole Options n entry small (λ k l. coded-opt (neq i k && neq r k) k l)
 
-  count : (m : ℕ) → m ≤ n → i ≢ r → length (cat m entry) + past m i + past m r ≡ 17 * m
-  unfolding cat
-  count zero lm ne = rw (le-ltb i 0 (omega arith), le-ltb r 0 (omega arith)) refl
-  count (suc m) lm ne = go (neq i m) (apart? i m) (neq r m) (apart? r m) (count m (omega arith) ne)
-    where
-      go : (p : Bool) → Same i m p → (q : Bool) → Same r m q → length (cat m entry) + past m i + past m r ≡ 17 * m
-          → length (cat m entry ++ opt (p && q) m) + past (suc m) i + past (suc m) r ≡ 17 * suc m
-      go false (same e) false (same e′) ih = absurd (ne (e ∙ sym e′))
-      go false (same e) true (apart z) ih =
-          let a : past m i ≡ 0 = ap (λ b. pick b 16 0) (le-ltb i m (omega arith)) in
-          let b : past (suc m) i ≡ 16 = ap (λ b. pick b 16 0) (lt-ltb i (suc m) (omega arith)) in
-          let c : past (suc m) r ≡ past m r = same-past r m z in
-          omega (arith, ih, a, b, c, length-append (cat m entry) (0 ∷ []))
-      go true (apart z) false (same e) ih =
-          let a : past m r ≡ 0 = ap (λ b. pick b 16 0) (le-ltb r m (omega arith)) in
-          let b : past (suc m) r ≡ 16 = ap (λ b. pick b 16 0) (lt-ltb r (suc m) (omega arith)) in
-          omega (arith, ih, a, b, same-past i m z, length-append (cat m entry) (0 ∷ []))
-      go true (apart z) true (apart z′) ih =
-          omega (arith, ih, same-past i m z, same-past r m z′, length-append (cat m entry) (1 ∷ chunk 16 m rows), row-len m lm)
-
   echo-length : i < n → r < n → i ≢ r → length (encode n entry) ≡ 8 + n + 16 * (n - 2)
-  echo-length li lr ne =
-      let a : past n i ≡ 16 = ap (λ b. pick b 16 0) (lt-ltb i n li) in
-      let b : past n r ≡ 16 = ap (λ b. pick b 16 0) (lt-ltb r n lr) in
-      omega (arith, a, b, count n (le-refl n) ne, whole-length n entry [])
+  echo-length li lr ne = whole-length n entry [] ∙ entries-length n i r rows h li lr ne ∙ echo-len n
 
   -- an entry that is there is read as the row it was written of
   entry-passes : n < 2 ^ 64 → (own : List ℕ) (k : ℕ) → k < n → i ≢ k → r ≢ k → chunk 16 k own ≡ chunk 16 k rows

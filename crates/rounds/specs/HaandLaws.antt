@@ -2,7 +2,7 @@
 use mathlib.Core.Path.{_≡_, refl, sym, ap, ap₂, _∙_}
 use mathlib.Core.Logic.{_≢_}
 use mathlib.Core.List.{List, [], _∷_, _++_}
-use Prim.Native.Nat.{ℕ, _+_, _*_, _<_, _≤_}
+use Prim.Native.Nat.{ℕ, suc, _+_, _*_, _<_, _≤_}
 use native.Mathlib.Omega.{arith}
 use lib.ListN.{length, getD, length-append}
 use lib.Seq.{getD-append-add}
@@ -18,7 +18,7 @@ use Rattle.plan.specs.Plan.{leaky}
 use Rattle.engine.specs.declared.Frame.{Frame}
 use Rattle.rounds.specs.Area.{leakyLen, rows}
 use Rattle.rounds.specs.Loops.{rowOf, rows-of, length-rowOf, row-other, length-rows}
-use Rattle.rounds.specs.Haand.{x, H, G, phi, u, leakyEntry, leakyRow, leakyRows}
+use Rattle.rounds.specs.Haand.{x, H, G, phi, u, leakyEntry, leakyRow, leakyRows, zRow}
 
 -- behind n bytes
 getD-behind : (a b : List ℕ) (n q p : ℕ) → length a ≡ n → p ≡ n + q → getD (a ++ b) p 0 ≡ getD b q 0
@@ -74,3 +74,8 @@ module _ (f : Frame) (delta : Block) (recs : List ℕ) where
     pub second-byte : p ≡ t * leakyLen (f .n) + (32 + j * 18) + 17 → getD (leakyRows f delta recs) p 0 ≡ num (H (blocks .op (x f recs t .key j) delta))
     unfolding leakyEntry
     second-byte e = entry-byte t j 17 p lt lj ne (omega arith) e ∙ getD-behind (bytesOf (u f delta recs j t)) _ 16 1 17 (length-bytesOf _) (omega arith)
+
+-- ---- the rows of ZS
+pub length-zRow : (f : Frame) (masks recs : List ℕ) (m : ℕ → List ℕ) (t : ℕ) → length (zRow f masks recs m t) ≡ 17
+unfolding zRow
+length-zRow f masks recs m t = ap suc (length-bytesOf (others blocks (f .i) (f .n) (λ j. G (x f recs t .mac j))))

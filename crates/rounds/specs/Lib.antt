@@ -25,3 +25,5 @@ pub mod Loops
 pub mod BucketsLaws
 pub mod Combine
 pub mod CombineLaws
+pub mod EchoLaws
+pub mod DibiLaws

@@ -8,7 +8,7 @@ use Prim.Native.Nat.{ℕ, zero, suc, _+_, _-_, _*_, _<_, _≤_, min}
 use native.Mathlib.Nat.{zero-mul}
 use native.Mathlib.Numerals.{add-one}
 use native.Mathlib.Omega.{arith}
-use lib.ListN.{length, take, drop, replicate, length-append, length-drop, length-take, length-replicate, take-append-drop}
+use lib.ListN.{length, getD, take, drop, replicate, length-append, length-drop, length-take, length-replicate, take-append-drop}
 use lib.Dec.{ltb}
 use borrow.Author.Tests.{lt-ltb}
 use borrow.Rule.Slice.PartMut.{putMid}
@@ -27,6 +27,7 @@ use Rattle.engine.specs.declared.Frame.{Frame}
 use Rattle.engine.specs.Step.{other}
 use Rattle.engine.specs.Area.{off, sec, putSec, nth, toOthers, length-sec, length-putSec, sec-same, sec-other, putSec-twice, put-sec}
 use Rattle.rounds.specs.Area.{rows}
+use Rattle.rounds.specs.Mail.{letter, Arrived}
 
 -- ---- sums over all parties but one
 module _ {A : Type 0} (G : XorGroup A) (i : ℕ) (f : ℕ → A) where
@@ -64,6 +65,13 @@ length-rows f m g h =
 
 pub neq-own : (i k : ℕ) → i ≡ k → neq i k ≡ false
 neq-own i k e = ap (neq i) (sym e) ∙ neq-self i
+
+-- the summand of the own party, and of another
+pub sel-own : {A : Type 0} (G : XorGroup A) (i k : ℕ) (v : A) → i ≡ k → G .nil ≡ sel G (neq i k) v
+sel-own G i k v e = sym (ap (λ (b : Bool). sel G b v) (neq-own i k e))
+
+pub sel-other : {A : Type 0} (G : XorGroup A) (i k : ℕ) (x v : A) → i ≢ k → x ≡ v → x ≡ sel G (neq i k) v
+sel-other G i k x v ne e = e ∙ sym (ap (λ (b : Bool). sel G b v) (neq-true i k ne))
 
 pub row-own : (i m : ℕ) (g : ℕ → List ℕ) (k : ℕ) → i ≡ k → rowOf i m g k ≡ replicate m 0
 unfolding rowOf
@@ -106,6 +114,13 @@ module _ (n i m : ℕ) (g : ℕ → List ℕ) where
     pub sent-end : q ≡ n - 1 → d ≡ toOthers n i g
     unfolding toOthers
     sent-end e = written-end _ q (n - 1) (q * m) l d w e (omega (arith, ap (λ k. k * m) e))
+
+-- ---- a message that has arrived is long enough
+pub letter-long : {n i size : ℕ} {incoming starts lens : List ℕ} → Arrived n i size incoming starts lens → (k : ℕ) → k < n → i ≢ k
+    → size ≤ length (letter incoming starts lens k)
+unfolding letter
+letter-long {incoming = incoming} {starts = starts} {lens = lens} a k h ne =
+    rw (length-get (getD starts k 0) (getD lens k 0) incoming (a .inside k h ne)) (a .long k h ne)
 
 -- ---- a section, lent as `&w[a..e]`
 pub part-sec : (size : ℕ → ℕ) (s a e : ℕ) (w : List ℕ) → a ≡ off size s → e ≡ a + size s → take (e - a) (drop a w) ≡ sec size s w

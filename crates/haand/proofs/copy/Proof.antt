@@ -21,9 +21,11 @@ loop-holds c = (omega arith, refl, refl)
 loop-again : tie.Need-loop-again Inv-loop μ-loop
 loop-again c =
     let l = c .before .before in
-    let a = l .before .args in
-    (omega arith, length-set (l .loop .out) (l .loop .j) (getD (now (a .s)) (l .loop .j) 0) ∙ l .loop .inv .1,
-    copy-turn (now (a .s)) (now (a .out)) (l .loop .out) (l .loop .j) (omega arith) (omega arith) (l .loop .inv .2))
+    let a = l .before .args in (
+      omega arith,
+      length-set (l .loop .out) (l .loop .j) (getD (now (a .s)) (l .loop .j) 0) ∙ l .loop .inv .1,
+      copy-turn (now (a .s)) (now (a .out)) (l .loop .out) (l .loop .j) (omega arith) (omega arith) (l .loop .inv .2),
+    )
 
 returns : tie.Need-returns Inv-loop μ-loop
 returns c =

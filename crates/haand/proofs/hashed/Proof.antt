@@ -13,9 +13,10 @@ use Rattle.haand.proofs.hashed.Tie as tie
 returns : tie.Need-returns
 unfolding G H hash
 returns c =
-    let d = c .before .before in
-    (c .before .block .ensures ∙ ap (λ (h : List ℕ). blockAt (bytes h) 0) (d .hash-block .ensures),
-    c .bit .ensures ∙ ap (λ (h : List ℕ). odd (getD (bytes h) 31 0)) (d .hash-block .ensures))
+    let d = c .before .before in (
+      c .before .block .ensures ∙ ap (λ (h : List ℕ). blockAt (bytes h) 0) (d .hash-block .ensures),
+      c .bit .ensures ∙ ap (λ (h : List ℕ). odd (getD (bytes h) 31 0)) (d .hash-block .ensures),
+    )
 
 pub hashed-spec : {M : Type 1} → statement M
 hashed-spec = tie.close (tie.spec (λ c κs. search needs) (λ c κs. search needs) (λ c κs. search needs) returns)

@@ -57,8 +57,13 @@ module _ (c : tie.In-loop Inv-loop μ-loop) where
   -- BITS is read
   records-in : start .args .recs + c .before .before .before .bits-len .result ≤ length (c .before .loop .work)
   records-in =
-      omega (arith, bits-inside (start .pre .0) (start .args .recs) (start .pre .1 .0), c .before .before .before .bits-len .ensures,
-      bits-len-is (start .pre .0 .ranges), c .before .loop .inv .1 .same)
+      omega (
+        arith,
+        bits-inside (start .pre .0) (start .args .recs) (start .pre .1 .0),
+        c .before .before .before .bits-len .ensures,
+        bits-len-is (start .pre .0 .ranges),
+        c .before .loop .inv .1 .same,
+      )
 
   records : (e : ℕ) → e ≡ start .args .recs + c .before .before .before .bits-len .result
       → take (e - start .args .recs) (drop (start .args .recs) (c .before .loop .work)) ≡ sec (sizeOf f) BITS (now (start .args .work))
@@ -73,8 +78,14 @@ module _ (c : tie.In-loop Inv-loop μ-loop) where
   unfolding leakyLen
   row-in =
       let len = c .before .before .leaky-len in
-      omega (arith, row-inside (start .pre .0) LEAKY (start .args .rows) (leaky (start .args .l)) (leakyLen (start .args .n)) t (omega arith)
-      (start .pre .1 .1) (sym (size-leaky f)) below (omega arith), c .before .loop .inv .1 .same, ap (λ m. t * m) (len .ensures), len .ensures)
+      omega (
+        arith,
+        row-inside (start .pre .0) LEAKY (start .args .rows) (leaky (start .args .l)) (leakyLen (start .args .n)) t (omega arith)
+            (start .pre .1 .1) (sym (size-leaky f)) below (omega arith),
+        c .before .loop .inv .1 .same,
+        ap (λ m. t * m) (len .ensures),
+        len .ensures,
+      )
 
 part-leaky-row-end : tie.Need-part-leaky-row-end Inv-loop μ-loop
 part-leaky-row-end c = records-in (c .before)

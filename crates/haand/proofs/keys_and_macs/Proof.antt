@@ -29,10 +29,12 @@ loop-again c =
     let m = c .before .before .before in
     let l = m .before .before .before in
     let a = l .before .before .before .args in
-    let f : ℕ → Block = λ k. blocks .op (keyAt (now (a .recs)) (a .at) k) (macAt (now (a .recs)) (a .at) k) in
-    (omega arith, c .xor2 .ensures ∙ others-turn blocks (a .i) f (l .loop .k) (l .loop .sum) _ (l .loop .inv .1)
-    (c .before .const-mul .ensures ∙ ap (sel blocks (neq (a .i) (l .loop .k)))
-    (c .before .before .xor .ensures ∙ ap₂ (blocks .op) (m .before .key-at .ensures) (m .mac-at .ensures))))
+    let f : ℕ → Block = λ k. blocks .op (keyAt (now (a .recs)) (a .at) k) (macAt (now (a .recs)) (a .at) k) in (
+      omega arith,
+      c .xor2 .ensures ∙ others-turn blocks (a .i) f (l .loop .k) (l .loop .sum) _ (l .loop .inv .1)
+          (c .before .const-mul .ensures ∙ ap (sel blocks (neq (a .i) (l .loop .k)))
+          (c .before .before .xor .ensures ∙ ap₂ (blocks .op) (m .before .key-at .ensures) (m .mac-at .ensures))),
+    )
 
 returns : tie.Need-returns Inv-loop μ-loop
 returns c =

@@ -9,31 +9,20 @@ use Rattle.rounds.specs.Area.{leakyLen}
 use Rattle.haand.specs.Parts.{drop-replicate}
 use Rattle.haand.proofs.leaky_row.Statement.{statement}
 use Rattle.haand.proofs.leaky_row.Tie as tie
-use Rattle.haand.proofs.leaky_row.Reads as reads
-use Rattle.haand.proofs.leaky_row.Lts as lts
-use Rattle.haand.proofs.leaky_len.Reads as leaky-len-reads
-use Rattle.haand.proofs.put_row.Reads as put-row-reads
 
--- src/lib.rt:155:9
-leaky-len-requires : tie.Need-leaky-len-requires
-leaky-len-requires c κs = search needs
-
--- src/lib.rt:156:13
 array-borrow-prefix-row : tie.Need-array-borrow-prefix-row
 unfolding leakyLen
 array-borrow-prefix-row c = omega (arith, c .leaky-len .ensures)
 
--- src/lib.rt:156:13
 slice-aggregate-put-row : tie.Need-slice-aggregate-put-row
 slice-aggregate-put-row c = sym (length-take-le (c .before .leaky-len .result) (replicate 176 0) (array-borrow-prefix-row (c .before)))
 
--- src/lib.rt:156:5
 put-row-requires : tie.Need-put-row-requires
-put-row-requires c κs =
-    (c .before .before .before .pre,
-    length-take-le (c .before .leaky-len .result) (replicate 176 0) (array-borrow-prefix-row (c .before)) ∙ c .before .leaky-len .ensures)
+put-row-requires c κs = (
+  c .before .before .before .pre,
+  length-take-le (c .before .leaky-len .result) (replicate 176 0) (array-borrow-prefix-row (c .before)) ∙ c .before .leaky-len .ensures,
+)
 
--- src/lib.rt:150:1
 returns : tie.Need-returns
 returns c =
     let e = c .before .before .before .leaky-len in
@@ -43,7 +32,7 @@ pub leaky-row-spec : {M : Type 1} → statement M
 leaky-row-spec =
     tie.close
     (tie.spec
-    leaky-len-requires
+    (λ c κs. search needs)
     array-borrow-prefix-row
     slice-aggregate-put-row
     put-row-requires

@@ -27,7 +27,7 @@ loop-holds c =
     let p = c .before .before in
     let s = p .before .before .before .before .before .before .before in
     let w = stretch-count (leaky (s .args .l)) (item _ _ _ _ _) (now (s .args .out)) (p .put-count .last .0) (omega arith)
-        (p .put-count .ensures ∙ ap le8 (p .before .before .leaky .ensures)) in
+    (p .put-count .ensures ∙ ap le8 (p .before .before .leaky .ensures)) in
     (omega arith, w .same ∙ s .pre .0 .0, stretch-self (leaky (s .args .l)) _ 0 8 _ _ w)
 
 below : (c : tie.In-loop Inv-loop μ-loop) → c .before .loop .t < leaky (c .before .before .before .before .before .before .before .before .before .before .before .args .l)
@@ -37,9 +37,10 @@ put-item-requires : tie.Need-put-item-requires Inv-loop μ-loop
 put-item-requires c κs =
     let i = c .before in
     let s = i .before .before .before .before .before .before .before .before .before .before .before in
-    let t = i .before .loop .t in
-    ((lent-part (8 + t * 2) 2 2 (i .before .loop .out) refl (omega (arith, i .before .loop .inv .2 .same, in-list t (leaky (s .args .l)) 2 (below i))), s .pre .0 .1),
-    (record { ranges = s .pre .1 .0 .0; records = s .pre .1 .0 .1; below = below i }, s .pre .1 .1))
+    let t = i .before .loop .t in (
+      (lent-part (8 + t * 2) 2 2 (i .before .loop .out) refl (omega (arith, i .before .loop .inv .2 .same, in-list t (leaky (s .args .l)) 2 (below i))), s .pre .0 .1),
+      (record { ranges = s .pre .1 .0 .0; records = s .pre .1 .0 .1; below = below i }, s .pre .1 .1),
+    )
 
 loop-again : tie.Need-loop-again Inv-loop μ-loop
 loop-again c =
@@ -47,10 +48,12 @@ loop-again c =
     let i = p .before .before in
     let a = i .before .before .before .before .before .before .before .before .before .before .before .args in
     let l = i .before .loop in
-    let g : ℕ → List ℕ = item (frame (a .n) (a .l) (a .i)) (now (a .rows)) (now (a .masks)) (now (a .recs)) (a .k) in
-    (omega (arith, below i), l .inv .1,
-    even-turn (leaky (a .l)) g 2 (λ t h. length-item (frame (a .n) (a .l) (a .i)) (now (a .rows)) (now (a .masks)) (now (a .recs)) (a .k) t)
-    (l .t) (8 + l .t * 2 + 2) _ (l .out) (p .put-item .last .0) (l .inv .1) (below i) (l .inv .2) (p .put-item .ensures) refl)
+    let g : ℕ → List ℕ = item (frame (a .n) (a .l) (a .i)) (now (a .rows)) (now (a .masks)) (now (a .recs)) (a .k) in (
+      omega (arith, below i),
+      l .inv .1,
+      even-turn (leaky (a .l)) g 2 (λ t h. length-item (frame (a .n) (a .l) (a .i)) (now (a .rows)) (now (a .masks)) (now (a .recs)) (a .k) t)
+          (l .t) (8 + l .t * 2 + 2) _ (l .out) (p .put-item .last .0) (l .inv .1) (below i) (l .inv .2) (p .put-item .ensures) refl,
+    )
 
 same-length : tie.Need-same-length Inv-loop μ-loop
 same-length c = let l = c .before .loop in l .inv .2 .same ∙ l .inv .1 ∙ sym (c .before .before .before .before .before .before .before .before .before .before .before .pre .0 .0)

@@ -24,82 +24,34 @@ use Rattle.haand.specs.GivenLaws.{position-most, x-in}
 use Rattle.haand.specs.Parts.{entry, entries-of, three-parts}
 use Rattle.haand.proofs.put_row.Statement.{statement}
 use Rattle.haand.proofs.put_row.Tie as tie
-use Rattle.haand.proofs.put_row.Reads as reads
-use Rattle.haand.proofs.put_row.Lts as lts
-use Rattle.block.proofs.store.Reads as store-reads
-use Rattle.haand.proofs.phi.Reads as phi-reads
-use Rattle.haand.proofs.put_entries.Reads as put-entries-reads
-use Rattle.haand.proofs.x_at.Reads as x-at-reads
 
--- src/lib.rt:142:9
-phi-requires : tie.Need-phi-requires
-phi-requires c κs = search needs
-
--- src/lib.rt:143:9
 x-at-requires : tie.Need-x-at-requires
 x-at-requires c κs = let p = c .before .before .before .pre .0 in (p .ranges .eight, position-most p)
 
--- src/lib.rt:144:25
 sub-put-entries : tie.Need-sub-put-entries
 unfolding leakyLen
 sub-put-entries c = omega arith
 
--- src/lib.rt:144:25
 part-put-entries-start : tie.Need-part-put-entries-start
 unfolding leakyLen
 part-put-entries-start c = omega arith
 
--- src/lib.rt:144:25
-part-put-entries-end : tie.Need-part-put-entries-end
-part-put-entries-end c = search needs
-
--- src/lib.rt:144:9
 put-entries-requires : tie.Need-put-entries-requires
 unfolding leakyLen
 put-entries-requires c κs =
-    let s = c .before .before .before .before .before in
-    ((s .pre .0 .ranges .eight, ap length (get-rest 32 (now (s .args .out))) ∙ length-drop 32 (now (s .args .out)) ∙ (omega arith)),
-    rw (c .before .x-at .ensures) (x-in (s .pre .0)))
+    let s = c .before .before .before .before .before in (
+      (s .pre .0 .ranges .eight, ap length (get-rest 32 (now (s .args .out))) ∙ length-drop 32 (now (s .args .out)) ∙ (omega arith)),
+      rw (c .before .x-at .ensures) (x-in (s .pre .0)),
+    )
 
--- src/lib.rt:145:18
-sub-store : tie.Need-sub-store
-sub-store c = search needs
-
--- src/lib.rt:145:18
-part-store-start : tie.Need-part-store-start
-part-store-start c = search needs
-
--- src/lib.rt:145:18
 part-store-end : tie.Need-part-store-end
 unfolding leakyLen
 part-store-end c = omega arith
 
--- src/lib.rt:145:5
-store-requires : tie.Need-store-requires
-store-requires c κs = search needs
-
--- src/lib.rt:146:18
-sub-store-2 : tie.Need-sub-store-2
-sub-store-2 c = search needs
-
--- src/lib.rt:146:18
-part-store-start-2 : tie.Need-part-store-start-2
-part-store-start-2 c = search needs
-
--- src/lib.rt:146:18
 part-store-end-2 : tie.Need-part-store-end-2
 unfolding leakyLen
 part-store-end-2 c = omega arith
 
--- src/lib.rt:146:5
-store-requires-2 : tie.Need-store-requires-2
-store-requires-2 c κs = search needs
-
--- src/lib.rt:137:1
-same-length : tie.Need-same-length
-same-length c = search needs
-
--- src/lib.rt:137:1
 returns : tie.Need-returns
 unfolding R.leakyRow R.x shareAt leakyLen
 returns c =
@@ -125,19 +77,19 @@ pub put-row-spec : {M : Type 1} → statement M
 put-row-spec =
     tie.close
     (tie.spec
-    phi-requires
+    (λ c κs. search needs)
     x-at-requires
     sub-put-entries
     part-put-entries-start
-    part-put-entries-end
+    (λ c. search needs)
     put-entries-requires
-    sub-store
-    part-store-start
+    (λ c. search needs)
+    (λ c. search needs)
     part-store-end
-    store-requires
-    sub-store-2
-    part-store-start-2
+    (λ c κs. search needs)
+    (λ c. search needs)
+    (λ c. search needs)
     part-store-end-2
-    store-requires-2
-    same-length
+    (λ c κs. search needs)
+    (λ c. search needs)
     returns)

@@ -62,21 +62,25 @@ put-message-requires : tie.Need-put-message-requires Inv-loop μ-loop
 put-message-requires c κs =
     let i = c .before .before in
     let s = start i in
-    let m = 8 + i .before .before .leaky .result * 2 in
-    ((lent-part (i .before .loop .q * m) m (8 + leaky (s .args .l) * 2) (i .before .loop .out) (is i) (part-in i),
-    omega (arith, c .before .other .ensures, other-below (s .args .n) (s .args .i) (i .before .loop .q) (below i))),
-    (s .pre .1 .0, s .pre .1 .1))
+    let m = 8 + i .before .before .leaky .result * 2 in (
+      (
+        lent-part (i .before .loop .q * m) m (8 + leaky (s .args .l) * 2) (i .before .loop .out) (is i) (part-in i),
+        omega (arith, c .before .other .ensures, other-below (s .args .n) (s .args .i) (i .before .loop .q) (below i)),
+      ),
+      (s .pre .1 .0, s .pre .1 .1),
+    )
 
 loop-again : tie.Need-loop-again Inv-loop μ-loop
 loop-again c =
     let p = c .before .before in
     let o = p .before .before in
     let i = o .before in
-    let a = start i .args in
-    (omega (arith, below i),
-    sent-turn (a .n) (a .i) (8 + leaky (a .l) * 2) (msg (start i))
-    (8 + i .before .before .leaky .result * 2) (i .before .loop .q) (now (a .out)) (i .before .loop .out) (is i) (start i .pre .0) (i .before .loop .inv .1)
-    (λ k h. length-message (frame (a .n) (a .l) (a .i)) (now (a .rows)) (now (a .masks)) (now (a .recs)) k) (o .other .result) (p .put-message .last .0) (below i) (o .other .ensures) (p .put-message .ensures))
+    let a = start i .args in (
+      omega (arith, below i),
+      sent-turn (a .n) (a .i) (8 + leaky (a .l) * 2) (msg (start i))
+          (8 + i .before .before .leaky .result * 2) (i .before .loop .q) (now (a .out)) (i .before .loop .out) (is i) (start i .pre .0) (i .before .loop .inv .1)
+          (λ k h. length-message (frame (a .n) (a .l) (a .i)) (now (a .rows)) (now (a .masks)) (now (a .recs)) k) (o .other .result) (p .put-message .last .0) (below i) (o .other .ensures) (p .put-message .ensures),
+    )
 
 same-length : tie.Need-same-length Inv-loop μ-loop
 same-length c = c .before .loop .inv .1 .same

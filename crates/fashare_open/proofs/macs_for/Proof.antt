@@ -1,0 +1,75 @@
+-- The loop's invariant: the MACs for k of the first j parties are added.
+use mathlib.Core.Path.{_≡_, ap, ap₂, _∙_}
+use Prim.Native.Nat.{_+_, _-_, _≤_}
+use native.Mathlib.Omega.{arith}
+use lib.ListN.{length}
+use denote.Ref.{now}
+use borrow.Author.Needs.{needs}
+use Rattle.algebra.specs.Sum.{others}
+use Rattle.block.specs.Group.{blocks}
+use Rattle.share.specs.Record.{recordLen, macAt}
+use Rattle.engine.specs.Step.{frame}
+use Rattle.rounds.specs.DibiLaws.{others-zero, others-turn, others-end, own-in, macIn, macs-is}
+use Rattle.fashare_open.proofs.macs_for.Statement.{statement}
+use Rattle.fashare_open.proofs.macs_for.Tie as tie
+
+abbrev Inv-loop : tie.InvT-loop
+Inv-loop recs dms n i l q k own sum₀ j₀ sum j = (j ≤ n) × (sum .0 ≡ others blocks i j (macIn (frame n l i) recs dms q k))
+
+abbrev μ-loop : tie.MeasureT-loop
+μ-loop recs dms n i l q k own sum₀ j₀ sum j = n - j
+
+own-at-requires : tie.Need-own-at-requires Inv-loop μ-loop
+own-at-requires c κs = let s = c .before .before in (s .pre .1 .range, s .pre .0 .0)
+
+mac-at-requires : tie.Need-mac-at-requires Inv-loop μ-loop
+mac-at-requires c κs =
+    let s = c .before .before .before in
+    let e : c .own-at .result + recordLen (s .args .n) ≤ length (now (s .args .recs)) =
+    rw (c .own-at .ensures) (own-in (s .args .n) (s .args .l) (s .args .q) _ (s .pre .0 .0) (s .pre .1 .records)) in
+    (omega (arith, s .pre .1 .range .eight), omega (arith, e))
+
+loop-holds : tie.Need-loop-holds Inv-loop μ-loop
+loop-holds c = (search needs, c .zero .ensures ∙ others-zero blocks _ _)
+
+dm-mac-requires : tie.Need-dm-mac-requires Inv-loop μ-loop
+dm-mac-requires c κs =
+    let s = c .before .before .before .before .before .before .before in
+    ((s .pre .0 .1, c .loop-test .taken), ((s .pre .1 .range .eight, s .pre .0 .0), s .pre .1 .kept))
+
+loop-again : tie.Need-loop-again Inv-loop μ-loop
+loop-again c =
+    let l = c .before .before .before in
+    let a = l .before .before .before .before .before .before .args in (
+      omega arith,
+      c .xor .ensures ∙ others-turn blocks (a .i) _ (l .loop .j) _ _ (l .loop .inv .1) (c .before .dm-mac .ensures (a .l)),
+    )
+
+returns : tie.Need-returns Inv-loop μ-loop
+returns c =
+    let x = c .before in
+    let l = x .before .before in
+    let m = l .before .before in
+    let o = m .before in
+    let a = o .before .before .before .args in
+    x .xor2 .ensures
+    ∙ ap₂ (blocks .op) (m .mac-at .ensures ∙ ap (λ t. macAt (now (a .recs)) t (a .k)) (o .own-at .ensures)) (others-end blocks (a .i) _ (l .loop .j) (a .n) _ (l .loop .inv .1) (omega arith))
+    ∙ macs-is (frame (a .n) (a .l) (a .i)) (now (a .recs)) (now (a .dms)) (a .q) (a .k)
+
+pub macs-for-spec : {M : Type 1} → statement M
+macs-for-spec =
+    tie.close
+    (tie.spec
+    Inv-loop
+    μ-loop
+    own-at-requires
+    mac-at-requires
+    (λ c κs. search needs)
+    loop-holds
+    dm-mac-requires
+    (λ c κs. search needs)
+    (λ c. search needs)
+    (λ c. search needs)
+    loop-again
+    (λ c κs. search needs)
+    returns)

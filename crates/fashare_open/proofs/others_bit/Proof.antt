@@ -1,0 +1,63 @@
+-- The loop's invariant: the bits of the first k parties but i are added.
+use mathlib.Core.Path.{_≡_, ap, _∙_}
+use Prim.Native.Nat.{_+_, _-_, _*_, _≤_}
+use native.Mathlib.Omega.{arith}
+use lib.ListN.{getD}
+use denote.Ref.{now}
+use borrow.Author.Needs.{needs}
+use Rattle.algebra.specs.Group.{bits, sel, odd}
+use Rattle.algebra.specs.Sum.{neq, others}
+use Rattle.plan.specs.Plan.{dmLen}
+use Rattle.engine.specs.Step.{frame}
+use Rattle.rounds.specs.DibiLaws.{others-zero, others-turn, others-end, xor-sel, dm-in, others1-is}
+use Rattle.fashare_open.proofs.others_bit.Statement.{statement}
+use Rattle.fashare_open.proofs.others_bit.Tie as tie
+
+abbrev Inv-loop : tie.InvT-loop
+Inv-loop dms n i q sum₀ k₀ sum k = (k ≤ n) × (sum ≡ others bits i k (λ j. odd (getD dms ((j * 40 + q) * dmLen n) 0)))
+
+abbrev μ-loop : tie.MeasureT-loop
+μ-loop dms n i q sum₀ k₀ sum k = n - k
+
+loop-holds : tie.Need-loop-holds Inv-loop μ-loop
+loop-holds c = (search needs, others-zero bits _ _)
+
+bit-requires : tie.Need-bit-requires Inv-loop μ-loop
+unfolding dmLen
+bit-requires c κs =
+    let l = c .before .before in
+    let s = l .before .before in
+    let h = c .before .loop-test .taken in
+    rw (c .dm-row .ensures) (omega (arith, dm-in (s .args .n) (l .loop .k) (s .args .q) _ h (s .pre .1 .0) (s .pre .1 .1)))
+
+loop-again : tie.Need-loop-again Inv-loop μ-loop
+unfolding neq
+loop-again c =
+    let l = c .before .before .before in
+    let a = l .before .before .args in
+    let other = neq (a .i) (l .loop .k) in (
+      omega arith,
+      xor-sel (l .loop .sum) (c .bit .result) other
+          ∙ others-turn bits (a .i) _ (l .loop .k) _ _ (l .loop .inv .1)
+          (ap (sel bits other) (c .bit .ensures ∙ ap (λ t. odd (getD (now (a .dms)) t 0)) (c .before .dm-row .ensures))),
+    )
+
+returns : tie.Need-returns Inv-loop μ-loop
+returns c l =
+    let p = c .before in
+    let a = p .before .before .args in
+    others-end bits (a .i) _ (p .loop .k) (a .n) _ (p .loop .inv .1) (omega arith) ∙ others1-is (frame (a .n) l (a .i)) (now (a .dms)) (now (a .dms)) (a .q)
+
+pub others-bit-spec : {M : Type 1} → statement M
+others-bit-spec =
+    tie.close
+    (tie.spec
+    Inv-loop
+    μ-loop
+    loop-holds
+    (λ c κs. search needs)
+    bit-requires
+    (λ c. search needs)
+    (λ c. search needs)
+    loop-again
+    returns)
