@@ -57,33 +57,82 @@ module _ (n l : ℕ) (r : InRange n l) where
   unfolding sizes
   small =
       let m = leaky-most l (r .most) in
-      let e = r .eight in
-      (omega arith,
-      (omega arith,
-      (omega arith,
-      (omega (arith, by-party (leaky l) m),
-      (omega (arith, by-bit (recordLen n) record-at-most),
-      (omega (arith, by-result (recordLen n) record-at-most),
-      (omega (arith, by-result (recordLen n) record-at-most),
-      (omega arith,
-      (omega arith,
-      (omega arith,
-      (omega arith,
-      (omega arith,
-      (omega arith,
-      (omega (arith, by-party (40 * dmLen n) (mul-le-mul (let h : 40 ≤ 40 = omega arith in h) dm-at-most)),
-      (omega (arith, by-leaky (leakyLen n) row-at-most),
-      (omega arith,
-      (omega (arith, by-party (leaky l) m),
-      (omega arith,
-      (omega (arith, by-party (leaky l * 32) (mul-le-mul m (let h : 32 ≤ 32 = omega arith in h))),
-      (omega arith,
-      (omega arith,
-      (omega (arith, by-result (bucketSize l - 1) (let h : bucketSize l - 1 ≤ 4 = omega (arith, bucket-high l) in h)),
-      (omega (arith, by-result (2 * recordLen n) (let h : 2 * recordLen n ≤ 514 = omega arith in h)),
-      (omega arith,
-      (omega arith,
-      tt)))))))))))))))))))))))))
+      let e = r .eight in (
+        omega arith,
+        (
+          omega arith,
+          (
+            omega arith,
+            (
+              omega (arith, by-party (leaky l) m),
+              (
+                omega (arith, by-bit (recordLen n) record-at-most),
+                (
+                  omega (arith, by-result (recordLen n) record-at-most),
+                  (
+                    omega (arith, by-result (recordLen n) record-at-most),
+                    (
+                      omega arith,
+                      (
+                        omega arith,
+                        (
+                          omega arith,
+                          (
+                            omega arith,
+                            (
+                              omega arith,
+                              (
+                                omega arith,
+                                (
+                                  omega (arith, by-party (40 * dmLen n) (mul-le-mul (let h : 40 ≤ 40 = omega arith in h) dm-at-most)),
+                                  (
+                                    omega (arith, by-leaky (leakyLen n) row-at-most),
+                                    (
+                                      omega arith,
+                                      (
+                                        omega (arith, by-party (leaky l) m),
+                                        (
+                                          omega arith,
+                                          (
+                                            omega (arith, by-party (leaky l * 32) (mul-le-mul m (let h : 32 ≤ 32 = omega arith in h))),
+                                            (
+                                              omega arith,
+                                              (
+                                                omega arith,
+                                                (
+                                                  omega (arith, by-result (bucketSize l - 1) (let h : bucketSize l - 1 ≤ 4 = omega (arith, bucket-high l) in h)),
+                                                  (
+                                                    omega (arith, by-result (2 * recordLen n) (let h : 2 * recordLen n ≤ 514 = omega arith in h)),
+                                                    (
+                                                      omega arith,
+                                                      (
+                                                        omega arith,
+                                                        tt,
+                                                      ),
+                                                    ),
+                                                  ),
+                                                ),
+                                              ),
+                                            ),
+                                          ),
+                                        ),
+                                      ),
+                                    ),
+                                  ),
+                                ),
+                              ),
+                            ),
+                          ),
+                        ),
+                      ),
+                    ),
+                  ),
+                ),
+              ),
+            ),
+          ),
+        ),
+      )
 
   pub size-most : (s : ℕ) → s < SECTIONS → sizeOf (frame n l 0) s ≤ 2000000000
   unfolding sizeOf sizes
