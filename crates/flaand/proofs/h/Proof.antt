@@ -1,0 +1,70 @@
+use mathlib.Core.Path.{_≡_, ap, ap₂, _∙_}
+use mathlib.Core.Bool.{Bool}
+use Prim.Native.Nat.{ℕ, _+_, _*_, _≤_}
+use native.Mathlib.Omega.{arith}
+use lib.ListN.{length}
+use denote.Ref.{now}
+use Rattle.algebra.specs.Group.{XorGroup}
+use Rattle.algebra.specs.Sum.{others}
+use Rattle.block.specs.Group.{blocks}
+use Rattle.share.specs.Record.{recordLen, bitAt}
+use Rattle.engine.specs.declared.Frame.{Frame}
+use Rattle.engine.specs.Step.{frame}
+use Rattle.rounds.specs.Mail.{letter}
+use Rattle.haand.specs.GivenLaws.{position-most, x-in, r-in}
+use Rattle.flaand.specs.HLaws.{term, maskedAt, h-parts}
+use Rattle.flaand.specs.KeptLaws.{asked}
+use borrow.Author.Needs.{needs}
+use Rattle.flaand.proofs.h.Statement.{statement}
+use Rattle.flaand.proofs.h.Tie as tie
+
+x-at-requires : tie.Need-x-at-requires
+x-at-requires c κs =
+    let s = c .before .before .before .before .before .before in
+    (s .pre .0 .0 .ranges .eight, position-most (asked (s .pre .0 .0) (s .args .t) (s .pre .0 .1)))
+
+bit-at-requires : tie.Need-bit-at-requires
+bit-at-requires c κs =
+    let s = c .before .before .before .before .before .before .before in
+    rw (c .x-at .ensures) (omega (arith, x-in (asked (s .pre .0 .0) (s .args .t) (s .pre .0 .1))))
+
+r-at-requires : tie.Need-r-at-requires
+r-at-requires c κs =
+    let s = c .before .before .before .before .before .before .before .before in
+    (s .pre .0 .0 .ranges .eight, (s .pre .0 .0 .ranges .most, position-most (asked (s .pre .0 .0) (s .args .t) (s .pre .0 .1))))
+
+h-terms-requires : tie.Need-h-terms-requires
+h-terms-requires c κs =
+    let s = c .before .before .before .before .before .before .before .before .before in
+    ((s .pre .0 .0 .ranges .eight, s .pre .0 .1), (rw (c .r-at .ensures) (r-in (asked (s .pre .0 .0) (s .args .t) (s .pre .0 .1))), s .pre .1))
+
+returns : tie.Need-returns
+returns c =
+    let y = c .before .before .before .before in
+    let b = y .before .before in
+    let a = b .before .before .before .before .before .before .before .before .args in
+    let f : Frame = frame (a .n) (a .l) (a .i) in
+    let m = letter (now (a .incoming)) (now (a .starts)) (now (a .lens)) in
+    let x : b .bit-at .result ≡ bitAt (now (a .recs)) (a .t * recordLen (a .n)) = b .bit-at .ensures ∙ ap (bitAt (now (a .recs))) (b .before .x-at .ensures) in
+    c .xor2 .ensures
+    ∙ ap₂ (blocks .op)
+    (c .before .before .xor .ensures
+    ∙ ap₂ (blocks .op)
+    (y .h-terms .ensures ∙ ap₂ (λ at (z : Bool). others blocks (a .i) (a .n) (term (now (a .recs)) at z (a .delta) m (a .t))) (y .before .r-at .ensures) x)
+    (c .before .before .before .hashes .ensures))
+    (c .before .masked .ensures ∙ ap (λ (z : Bool). maskedAt f (a .delta) z (now (a .rows)) (now (a .zs)) (a .t)) x)
+    ∙ h-parts f (a .delta) (now (a .recs)) (now (a .rows)) (now (a .zs)) m (a .t)
+
+pub h-spec : {M : Type 1} → statement M
+h-spec =
+    tie.close
+    (tie.spec
+    x-at-requires
+    bit-at-requires
+    r-at-requires
+    h-terms-requires
+    (λ c κs. search needs)
+    (λ c κs. search needs)
+    (λ c κs. search needs)
+    (λ c κs. search needs)
+    returns)

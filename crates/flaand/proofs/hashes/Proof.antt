@@ -1,0 +1,67 @@
+use mathlib.Core.Path.{_≡_, ap, ap₂, _∙_}
+use Prim.Native.Nat.{ℕ, _+_, _*_, _≤_}
+use native.Mathlib.Omega.{arith}
+use lib.ListN.{length}
+use denote.Ref.{now}
+use Rattle.algebra.specs.Group.{XorGroup}
+use Rattle.block.specs.Block.{blockAt}
+use Rattle.block.specs.Group.{blocks}
+use Rattle.rounds.specs.Area.{leakyLen}
+use Rattle.rounds.specs.Haand as R
+use Rattle.flaand.specs.HLaws.{hashesAt}
+use Rattle.flaand.specs.KeptLaws.{row-in, z-in}
+use borrow.Author.Needs.{needs}
+use Rattle.flaand.proofs.hashes.Statement.{statement}
+use Rattle.flaand.proofs.hashes.Tie as tie
+
+leaky-len-requires : tie.Need-leaky-len-requires
+leaky-len-requires c κs = c .before .before .before .pre .0 .ranges .eight
+
+read-in : (c : tie.After-leaky-len) → let a = c .before .before .before .before .args in a .t * c .leaky-len .result + 16 + 16 ≤ length (now (a .rows))
+unfolding leakyLen
+read-in c =
+    let s = c .before .before .before .before in
+    omega (arith, row-in (s .pre .0) (s .args .t) (s .pre .1) 16 (omega arith), ap (λ m. s .args .t * m) (c .leaky-len .ensures))
+
+mul-load : tie.Need-mul-load
+mul-load c = omega (arith, read-in c)
+
+add-load : tie.Need-add-load
+add-load c = omega (arith, read-in c)
+
+load-requires : tie.Need-load-requires
+load-requires c κs = read-in c
+
+-- the row of ZS
+z-at : (c : tie.After-load) → let a = c .before .before .before .before .before .args in a .t * 17 + 1 + 16 ≤ length (now (a .zs))
+z-at c = let s = c .before .before .before .before .before in omega (arith, z-in (s .pre .0) (s .args .t) (s .pre .1))
+
+mul-load-2 : tie.Need-mul-load-2
+mul-load-2 c = omega (arith, z-at c)
+
+add-load-2 : tie.Need-add-load-2
+add-load-2 c = omega (arith, z-at c)
+
+load-requires-2 : tie.Need-load-requires-2
+load-requires-2 c κs = z-at c
+
+returns : tie.Need-returns
+unfolding hashesAt R.keyHash R.macHash
+returns c =
+    let d = c .before .before in
+    let a = d .before .before .before .before .before .args in
+    c .xor .ensures ∙ ap₂ (blocks .op) (d .load .ensures ∙ ap (λ m. blockAt (now (a .rows)) (a .t * m + 16)) (d .before .leaky-len .ensures)) (c .before .load2 .ensures)
+
+pub hashes-spec : {M : Type 1} → statement M
+hashes-spec =
+    tie.close
+    (tie.spec
+    leaky-len-requires
+    mul-load
+    add-load
+    load-requires
+    mul-load-2
+    add-load-2
+    load-requires-2
+    (λ c κs. search needs)
+    returns)

@@ -1,0 +1,147 @@
+-- The loop's invariant: h of the first t positions is kept. The other sections are as they were.
+use mathlib.Core.Path.{_≡_, refl, sym, ap, ap₂, _∙_}
+use mathlib.Core.Logic.{_≢_}
+use mathlib.Core.List.{List}
+use Prim.Native.Nat.{ℕ, _+_, _-_, _*_, _<_, _≤_}
+use native.Mathlib.Omega.{arith}
+use lib.ListN.{length}
+use denote.Ref.{now}
+use Rattle.lists.specs.Over.{in-chunks, next-chunk}
+use Rattle.block.specs.declared.Block.{Block}
+use Rattle.block.specs.Block.{bytesOf}
+use Rattle.block.specs.Trip.{length-bytesOf}
+use Rattle.plan.specs.Plan.{leaky}
+use Rattle.engine.specs.declared.Frame.{Frame}
+use Rattle.engine.specs.Step.{frame}
+use Rattle.engine.specs.Area.{off, sec}
+use Rattle.rounds.specs.Area.{BITS, LEAKY, ZS, HS, SECTIONS, sizeOf, at, keep}
+use Rattle.rounds.specs.Mail.{letter}
+use Rattle.rounds.specs.Loops.{lent-part, Keeping, keeping-none, keeping-turn, keeping-end, keeping-other}
+use Rattle.rounds.specs.Flaand as F
+use Rattle.haand.specs.Given.{Work}
+use Rattle.haand.specs.GivenLaws.{area, row-inside}
+use Rattle.flaand.specs.AreaLaws.{size-hs}
+use borrow.Author.Needs.{needs}
+use Rattle.flaand.proofs.keep_hs.Statement.{statement}
+use Rattle.flaand.proofs.keep_hs.Tie as tie
+
+-- h of position t, from the sections of w
+abbrev hOf : Frame → Block → List ℕ → (ℕ → List ℕ) → ℕ → Block
+hOf f delta w m t = F.h f delta (sec (sizeOf f) BITS w) (sec (sizeOf f) LEAKY w) (sec (sizeOf f) ZS w) m t
+
+abbrev Inv-loop : tie.InvT-loop
+Inv-loop work₀ recs rows zs hs delta incoming starts lens n i l count t₀ work t =
+    (t ≤ leaky l)
+    × Keeping (sizeOf (frame n l i)) SECTIONS HS (λ t. bytesOf (hOf (frame n l i) delta work₀ (letter incoming starts lens) t)) t (t * 16) work₀ work
+
+abbrev μ-loop : tie.MeasureT-loop
+μ-loop work₀ recs rows zs hs delta incoming starts lens n i l count t₀ work t = leaky l - t
+
+loop-holds : tie.Need-loop-holds Inv-loop μ-loop
+loop-holds c =
+    let s = c .before .before .before .before .before in
+    let f : Frame = frame (s .args .n) (s .args .l) (s .args .i) in
+    (omega arith, keeping-none (sizeOf f) SECTIONS HS (omega arith) (now (s .args .work)) (area (s .pre .0 .0)) _)
+
+-- ---- in a turn
+module _ (c : tie.In-loop Inv-loop μ-loop) where
+  abbrev start : tie.Start Inv-loop μ-loop
+  start = c .before .before .before .before .before .before .before
+
+  abbrev f : Frame
+  f = frame (start .args .n) (start .args .l) (start .args .i)
+
+  abbrev t : ℕ
+  t = c .before .loop .t
+
+  abbrev w : List ℕ
+  w = now (start .args .work)
+
+  below : t < leaky (start .args .l)
+  below = omega (arith, c .loop-test .taken, c .before .before .leaky .ensures)
+
+  row-in : start .args .hs + t * 16 + 16 ≤ length (c .before .loop .work)
+  row-in =
+      omega (
+        arith,
+        row-inside (start .pre .0 .0) HS (start .args .hs) (leaky (start .args .l)) 16 t (omega arith)
+            (start .pre .0 .1) (sym (size-hs f)) below (omega arith),
+        c .before .loop .inv .1 .same,
+      )
+
+  same-sec : (s : ℕ) → s ≢ HS → sec (sizeOf f) s (c .before .loop .work) ≡ sec (sizeOf f) s w
+  same-sec s ne =
+      keeping-other (sizeOf f) SECTIONS HS (omega arith) w (area (start .pre .0 .0)) _ t (t * 16) s (c .before .loop .work) (c .before .loop .inv .1) ne
+
+h-at-requires : tie.Need-h-at-requires Inv-loop μ-loop
+h-at-requires c κs =
+    let i = c .before in
+    let s = start i in
+    ((record { ranges = s .pre .0 .0 .ranges; whole = i .before .loop .inv .1 .same ∙ s .pre .0 .0 .whole }, below i), (s .pre .1 .0, s .pre .1 .1))
+
+mul-a : tie.Need-mul-a Inv-loop μ-loop
+mul-a c = let i = c .before .before in omega (arith, row-in i)
+
+add-a : tie.Need-add-a Inv-loop μ-loop
+add-a c = let i = c .before .before in omega (arith, row-in i)
+
+add-e : tie.Need-add-e Inv-loop μ-loop
+add-e c = let i = c .before .before in omega (arith, row-in i)
+
+part-store-end : tie.Need-part-store-end Inv-loop μ-loop
+part-store-end c = let i = c .before .before in row-in i
+
+loop-again : tie.Need-loop-again Inv-loop μ-loop
+unfolding at
+loop-again c =
+    let p = c .before .before in
+    let b = p .before .before in
+    let i = b .before .before in
+    let a = start i .args in
+    let m = letter (now (a .incoming)) (now (a .starts)) (now (a .lens)) in
+    let g : ℕ → List ℕ = λ t. bytesOf (hOf (f i) (a .delta) (w i) m t) in
+    let at = a .hs + t i * 16 in (
+      omega (arith, below i),
+      keeping-turn (sizeOf (f i)) SECTIONS HS (omega arith) (w i) (area (start i .pre .0 .0)) g (t i) (t i * 16) 16 at (at + 16) ((t i + 1) * 16)
+          (i .before .loop .work) (p .store .last .0) (i .before .loop .inv .1)
+          (p .store .ensures ∙ ap bytesOf (b .h-at .ensures
+          ∙ ap₂ (λ (x y : List ℕ). F.h (f i) (a .delta) x y (sec (sizeOf (f i)) ZS (i .before .loop .work)) m (t i)) (same-sec i BITS (λ e. omega arith)) (same-sec i LEAKY (λ e. omega arith))
+          ∙ ap (λ (x : List ℕ). F.h (f i) (a .delta) (sec (sizeOf (f i)) BITS (w i)) (sec (sizeOf (f i)) LEAKY (w i)) x m (t i)) (same-sec i ZS (λ e. omega arith))))
+          (length-bytesOf (hOf (f i) (a .delta) (w i) m (t i))) (ap (λ z. z + t i * 16) (start i .pre .0 .1)) refl (sym (next-chunk (t i) 16))
+          (omega (arith, in-chunks (t i) (leaky (a .l)) 16 (below i), size-hs (f i), next-chunk (t i) 16)),
+    )
+
+same-length : tie.Need-same-length Inv-loop μ-loop
+same-length c = c .before .loop .inv .1 .same
+
+returns : tie.Need-returns Inv-loop μ-loop
+unfolding keep at F.hs
+returns c =
+    let s = c .before .before .before .before .before .before .before in
+    let l = c .before .loop in
+    let f : Frame = frame (s .args .n) (s .args .l) (s .args .i) in
+    let e : l .t ≡ leaky (s .args .l) = omega (arith, c .before .before .leaky .ensures) in
+    keeping-end (sizeOf f) SECTIONS HS (omega arith) (now (s .args .work)) (area (s .pre .0 .0)) _ (l .t) (leaky (s .args .l)) (l .t * 16) (l .work) (l .inv .1) e
+    (omega (arith, size-hs f))
+
+pub keep-hs-spec : {M : Type 1} → statement M
+keep-hs-spec =
+    tie.close
+    (tie.spec
+    Inv-loop
+    μ-loop
+    (λ c κs. search needs)
+    loop-holds
+    h-at-requires
+    mul-a
+    add-a
+    add-e
+    (λ c. search needs)
+    (λ c. search needs)
+    part-store-end
+    (λ c κs. search needs)
+    (λ c. search needs)
+    (λ c. search needs)
+    loop-again
+    same-length
+    returns)

@@ -1,0 +1,29 @@
+use mathlib.Core.Path.{ap, ap₂, _∙_}
+use Rattle.algebra.specs.Group.{XorGroup, sel}
+use Rattle.block.specs.Group.{blocks}
+use borrow.Author.Needs.{needs}
+use Rattle.flaand.proofs.term.Statement.{statement}
+use Rattle.flaand.proofs.term.Tie as tie
+
+returns : tie.Need-returns
+returns c =
+    let y = c .before .before .before in
+    let x = y .before in
+    c .xor3 .ensures
+    ∙ ap₂ (blocks .op)
+    (c .before .before .xor2 .ensures
+    ∙ ap₂ (blocks .op) (y .mac-at .ensures) (x .xor .ensures ∙ ap₂ (blocks .op) (x .before .before .key-at .ensures) (x .before .const-mul .ensures)))
+    (c .before .const-mul2 .ensures)
+
+pub term-spec : {M : Type 1} → statement M
+term-spec =
+    tie.close
+    (tie.spec
+    (λ c κs. search needs)
+    (λ c κs. search needs)
+    (λ c κs. search needs)
+    (λ c κs. search needs)
+    (λ c κs. search needs)
+    (λ c κs. search needs)
+    (λ c κs. search needs)
+    returns)
