@@ -27,3 +27,5 @@ pub mod Combine
 pub mod CombineLaws
 pub mod EchoLaws
 pub mod DibiLaws
+pub mod DmLaws
+pub mod FashareLaws

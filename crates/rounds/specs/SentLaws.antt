@@ -1,6 +1,7 @@
 -- Loops that write a message for each other party into its stretch of the outgoing buffer, or a row for each party into a section.
 use mathlib.Core.Path.{_≡_, refl, sym, ap, _∙_}
 use mathlib.Core.Bool.{Bool, true, false, _&&_}
+use mathlib.Core.Logic.{_≢_}
 use mathlib.Core.List.{List}
 use Prim.Native.Nat.{ℕ, suc, _+_, _-_, _*_, _<_, _≤_}
 use native.Mathlib.Nat.{zero-mul}
@@ -12,7 +13,8 @@ use borrow.Author.Tests.{lt-ltb}
 use borrow.Rule.Slice.PartMut.{putMid}
 use Rattle.lists.specs.Pick.{pick}
 use Rattle.lists.specs.Over.{cat, Written, written-zero, written-turn, written-end, in-chunks, next-chunk}
-use Rattle.algebra.specs.Sum.{neq}
+use Rattle.lists.specs.Rows.{cat-ext}
+use Rattle.algebra.specs.Sum.{neq, neq-self, neq-true, apart?, Same, apart}
 use Rattle.engine.specs.declared.Frame.{Frame}
 use Rattle.engine.specs.Step.{other}
 use Rattle.engine.specs.Area.{nth, toOthers}
@@ -58,8 +60,28 @@ other-neq f k h = ap (λ b. neq (f .i) k && b) (lt-ltb k (f .n) h) ∙ and-true 
     and-true true = refl
     and-true false = refl
 
+pub pick-own : {A : Type 0} (i k : ℕ) (x y : A) → i ≡ k → pick (neq i k) x y ≡ y
+pick-own i k x y e = ap (λ b. pick b x y) (ap (neq i) (sym e) ∙ neq-self i)
+
+pub pick-other : {A : Type 0} (i k : ℕ) (x y : A) → i ≢ k → pick (neq i k) x y ≡ x
+pick-other i k x y ne = ap (λ b. pick b x y) (neq-true i k ne)
+
+-- row k of m bytes, below n, and where k may be any number
+abbrev pub rowIn : ℕ → ℕ → (ℕ → List ℕ) → ℕ → List ℕ
+rowIn i m g k = pick (neq i k) (g k) (replicate m 0)
+
 abbrev pub rowOf : Frame → ℕ → (ℕ → List ℕ) → ℕ → List ℕ
 rowOf f m g k = pick (other f k) (g k) (replicate m 0)
+
+pub length-rowIn : (i m : ℕ) (g : ℕ → List ℕ) (k : ℕ) → (i ≢ k → length (g k) ≡ m) → length (rowIn i m g k) ≡ m
+length-rowIn i m g k h = go (neq i k) (apart? i k)
+  where
+    go : (b : Bool) → Same i k b → length (pick b (g k) (replicate m 0)) ≡ m
+    go true (apart ne) = h ne
+    go false s = length-replicate m 0
+
+pub row-is : (f : Frame) (m : ℕ) (g : ℕ → List ℕ) (k : ℕ) (x : List ℕ) → k < f .n → x ≡ rowIn (f .i) m g k → x ≡ rowOf f m g k
+row-is f m g k x h e = e ∙ ap (λ b. pick b (g k) (replicate m 0)) (sym (other-neq f k h))
 
 pub length-row : (f : Frame) (m : ℕ) (g : ℕ → List ℕ) (k : ℕ) → length (g k) ≡ m → length (rowOf f m g k) ≡ m
 length-row f m g k h = go (other f k)
@@ -68,5 +90,6 @@ length-row f m g k h = go (other f k)
     go true = h
     go false = length-replicate m 0
 
-pub row-is : (f : Frame) (m : ℕ) (g : ℕ → List ℕ) (k : ℕ) (x : List ℕ) → k < f .n → x ≡ pick (neq (f .i) k) (g k) (replicate m 0) → x ≡ rowOf f m g k
-row-is f m g k x h e = e ∙ ap (λ b. pick b (g k) (replicate m 0)) (sym (other-neq f k h))
+pub rows-are : (f : Frame) (m : ℕ) (g : ℕ → List ℕ) → cat (f .n) (rowIn (f .i) m g) ≡ rows f m g
+unfolding rows
+rows-are f m g = cat-ext (f .n) _ _ (λ k h. row-is f m g k (rowIn (f .i) m g k) h refl)

@@ -1,0 +1,24 @@
+use mathlib.Core.Path.{ap₂, _∙_}
+use mathlib.Core.Bool.{Bool, not, Bool·beq}
+use borrow.Author.Needs.{needs}
+use denote.Ref.{now}
+use Rattle.share.specs.Record.{bitAt}
+use Rattle.share.specs.Share.{shareAt, shares}
+use Rattle.buckets.specs.Bits.{xor-bits}
+use Rattle.buckets.proofs.sum_bit.Statement.{statement}
+use Rattle.buckets.proofs.sum_bit.Tie as tie
+
+returns : tie.Need-returns
+unfolding shares shareAt
+returns c =
+    let a = c .before .before .before .before .args in
+    ap₂ (λ (x y : Bool). not (Bool·beq x y)) (c .before .bit-at .ensures) (c .bit-at2 .ensures)
+    ∙ xor-bits (bitAt (now (a .s)) (a .a)) (bitAt (now (a .t)) (a .b))
+
+pub sum-bit-spec : {M : Type 1} → statement M
+sum-bit-spec =
+    tie.close
+    (tie.spec
+    (λ c κs. search needs)
+    (λ c κs. search needs)
+    returns)

@@ -1,0 +1,142 @@
+-- The loop's invariant: the messages to the first t parties but i are written.
+use mathlib.Core.Path.{_≡_, refl, sym, ap, _∙_}
+use mathlib.Core.List.{List}
+use Prim.Native.Nat.{ℕ, _+_, _*_, _-_, _≤_}
+use native.Mathlib.Omega.{arith}
+use lib.ListN.{length}
+use denote.Ref.{now}
+use borrow.Author.Needs.{needs}
+use Rattle.lists.specs.Over.{Written}
+use Rattle.plan.specs.Plan.{dmLen}
+use Rattle.engine.specs.Step.{frame}
+use Rattle.engine.specs.Area.{toOthers}
+use Rattle.rounds.specs.Fashare as Fashare
+use Rattle.rounds.specs.RowsLaws.{length-row}
+use Rattle.rounds.specs.SentLaws.{chunks-zero, chunks-turn, chunks-end, chunks-in, sentTo}
+use Rattle.rounds.specs.DmLaws.{dm-most, msgs-most, ver-len, length-verMsg}
+use Rattle.fashare_ver.proofs.write_dms.Statement.{statement}
+use Rattle.fashare_ver.proofs.write_dms.Tie as tie
+
+-- what is sent to each
+abbrev msgs : ℕ → ℕ → ℕ → List ℕ → ℕ → List ℕ
+msgs n l i recs = sentTo i (λ r. Fashare.verMsg (frame n l i) recs)
+
+abbrev Inv-loop : tie.InvT-loop
+Inv-loop out₀ recs n i l len last t₀ out t = (t ≤ n - 1) × Written (msgs n l i recs) t (t * len) out₀ out
+
+abbrev μ-loop : tie.MeasureT-loop
+μ-loop out₀ recs n i l len last t₀ out t = n - 1 - t
+
+dm-len-requires : tie.Need-dm-len-requires Inv-loop μ-loop
+dm-len-requires c κs = let r = c .before .before .pre .1 .range in (omega (arith, r .two), r .eight)
+
+-- a dm is short
+few : (c : tie.After-dm-len Inv-loop μ-loop) → c .dm-len .result ≤ 113
+few c =
+    let s = c .before .before .before in
+    omega (arith, c .dm-len .ensures, dm-most (s .args .n) (s .pre .1 .range .eight))
+
+add-len : tie.Need-add-len Inv-loop μ-loop
+add-len c = omega (arith, few c)
+
+mul-len : tie.Need-mul-len Inv-loop μ-loop
+mul-len c = omega (arith, few c)
+
+add-len-2 : tie.Need-add-len-2 Inv-loop μ-loop
+add-len-2 c = omega (arith, few c)
+
+sub-last : tie.Need-sub-last Inv-loop μ-loop
+sub-last c = omega (arith, c .before .before .before .pre .1 .range .two)
+
+loop-holds : tie.Need-loop-holds Inv-loop μ-loop
+loop-holds c = (search needs, chunks-zero _ 0 (8 + 40 * (8 + c .dm-len .result)) _)
+
+mul-a : tie.Need-mul-a Inv-loop μ-loop
+mul-a c =
+    let d = c .before .before in
+    let s = d .before .before .before in
+    omega (arith, msgs-most (c .before .loop .t) (s .args .n) (d .dm-len .result) (c .loop-test .taken) (s .pre .1 .range .eight) (d .dm-len .ensures))
+
+add-e : tie.Need-add-e Inv-loop μ-loop
+add-e c =
+    let d = c .before .before in
+    let s = d .before .before .before in
+    omega (arith, few d, msgs-most (c .before .loop .t) (s .args .n) (d .dm-len .result) (c .loop-test .taken) (s .pre .1 .range .eight) (d .dm-len .ensures))
+
+-- the buffer has a message for each
+size : (c : tie.After-dm-len Inv-loop μ-loop) → let a = c .before .before .before .args in length (now (a .out)) ≡ (a .n - 1) * (8 + 40 * (8 + c .dm-len .result))
+size c =
+    let s = c .before .before .before in
+    let a = s .args in
+    s .pre .0 ∙ ap (λ t. (a .n - 1) * t) (ver-len (a .n) (a .l) ∙ ap (λ t. 8 + 40 * (8 + t)) (sym (c .dm-len .ensures)))
+
+part-write-msg-end : tie.Need-part-write-msg-end Inv-loop μ-loop
+part-write-msg-end c =
+    let l = c .before in
+    let d = l .before in
+    let a = d .before .before .before .args in
+    let m = 8 + 40 * (8 + d .dm-len .result) in
+    omega (arith, l .loop .inv .1 .same, chunks-in (msgs (a .n) (a .l) (a .i) (now (a .recs))) (a .n - 1) m (l .loop .t) (now (a .out)) (size d) (c .loop-test .taken))
+
+write-msg-requires : tie.Need-write-msg-requires Inv-loop μ-loop
+write-msg-requires c κs =
+    let l = c .before .before in
+    let d = l .before in
+    let s = d .before .before .before in
+    let a = s .args in
+    let m = 8 + 40 * (8 + d .dm-len .result) in (
+      length-row m (l .loop .t) (l .loop .out)
+          (omega (arith, l .loop .inv .1 .same, chunks-in (msgs (a .n) (a .l) (a .i) (now (a .recs))) (a .n - 1) m (l .loop .t) (now (a .out)) (size d) (c .before .loop-test .taken)))
+          ∙ ap (λ t. 8 + 40 * (8 + t)) (d .dm-len .ensures),
+      s .pre .1,
+    )
+
+loop-again : tie.Need-loop-again Inv-loop μ-loop
+loop-again c =
+    let w = c .before .before in
+    let p = w .before .before in
+    let l = p .before in
+    let d = l .before in
+    let a = d .before .before .before .args in
+    let t = l .loop .t in
+    let m = 8 + 40 * (8 + d .dm-len .result) in (
+      omega (arith, p .loop-test .taken),
+      chunks-turn (msgs (a .n) (a .l) (a .i) (now (a .recs))) (a .n - 1) m t (t * m + m) (now (a .out)) (l .loop .out) (w .write-msg .last .0)
+          (size d) (p .loop-test .taken) (l .loop .inv .1)
+          (length-verMsg (frame (a .n) (a .l) (a .i)) (now (a .recs)) ∙ ap (λ t. 8 + 40 * (8 + t)) (sym (d .dm-len .ensures))) (w .write-msg .ensures) refl,
+    )
+
+same-length : tie.Need-same-length Inv-loop μ-loop
+same-length c = c .before .loop .inv .1 .same
+
+returns : tie.Need-returns Inv-loop μ-loop
+unfolding toOthers
+returns c =
+    let l = c .before in
+    let d = l .before in
+    let a = d .before .before .before .args in
+    chunks-end _ (a .n - 1) (8 + 40 * (8 + d .dm-len .result)) (l .loop .t) _ _ (size d) (l .loop .inv .1) (omega arith)
+
+pub write-dms-spec : {M : Type 1} → statement M
+write-dms-spec =
+    tie.close
+    (tie.spec
+    Inv-loop
+    μ-loop
+    dm-len-requires
+    add-len
+    mul-len
+    add-len-2
+    sub-last
+    loop-holds
+    mul-a
+    add-e
+    (λ c. search needs)
+    (λ c. search needs)
+    part-write-msg-end
+    write-msg-requires
+    (λ c. search needs)
+    (λ c. search needs)
+    loop-again
+    same-length
+    returns)
