@@ -1,12 +1,13 @@
 // The work area's layout (docs/WORK_AREA.md; crates/rounds, Area): how long each section is, where it starts, and how long the whole is. All of it
 // goes by n and l, which are public, and not by the own number i.
 ghost use mathlib.Core.Path.{_≡_};
-ghost use Prim.Native.Nat.{ℕ, _≤_};
+ghost use Prim.Native.Nat.{ℕ, _≤_, _<_};
+ghost use lib.ListN.{length};
 ghost use Rattle.lists.specs.Pick.{pick};
 ghost use Rattle.plan.specs.Plan.{inRange, InRange};
 ghost use Rattle.engine.specs.Step.{frame};
 ghost use Rattle.engine.specs.Area.{off};
-ghost use Rattle.rounds.specs.Area.{sizeOf, workLen};
+ghost use Rattle.rounds.specs.Area.{sizeOf, workLen, at};
 
 // The bytes of section s; 25 is the end.
 pub fn section_len(n: usize, l: usize, s: usize) -> usize
@@ -70,4 +71,15 @@ pub fn work_len(n: usize, l: usize) -> usize
     } else {
         0
     }
+}
+
+// Section s of the work area, where it lies.
+pub fn section(work: &[u8], n: usize, i: usize, l: usize, s: usize) -> &[u8]
+    requires { ⌜ InRange n l × (s < 25) ⌝ }
+    requires { ⌜ length (now work) ≡ workLen (frame n l i) ⌝ }
+    ensures { λ r. ⌜ now r ≡ at (frame n l i) s (now (work .entry)) ⌝ }
+{
+    let a = section_at(n, l, s);
+    let e = a + section_len(n, l, s);
+    &work[a..e]
 }
