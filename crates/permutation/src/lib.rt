@@ -3,7 +3,6 @@
 // to be lent for it: a pass over the entries for each 16,384 numbers, one for a session of up to 16,384 leaky ANDs, 69 for
 // the largest. A permutation is public, so its entries may be branched on and used as indices.
 ghost use mathlib.Core.Path.{_≡_};
-ghost use Prim.Native.Nat.{ℕ};
 ghost use lib.ListN.{replicate};
 ghost use Rattle.permutation.specs.Permutation.{isPerm};
 ghost use Rattle.permutation.specs.PermutationLaws as L;
