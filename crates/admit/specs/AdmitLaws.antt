@@ -4,29 +4,27 @@ use mathlib.Core.Logic.{_≢_}
 use mathlib.Core.Bool.{Bool, true, false, not, _&&_, _||_}
 use mathlib.Core.List.{List, []}
 use Prim.Native.Nat.{ℕ, zero, suc, _+_, _-_, _*_, _<_, _≤_}
-use native.Mathlib.Nat.{le-refl}
 use native.Mathlib.Numerals.{add-one}
 use native.Mathlib.Omega.{arith}
-use lib.ListN.{length, getD, take, drop}
+use lib.ListN.{length, getD}
 use lib.Dec.{ltb, leb, eqb}
-use borrow.Author.Tests.{ltb-true, ltb-false, leb-true, leb-false, lt-ltb, le-leb, lt-leb, eqb-true, eqb-false, eq-eqb, ne-eqb}
-use Rattle.lists.specs.Pick.{pick, pick-else, pick-then}
-use Rattle.lists.specs.All.{allOf, all-of, of-all, all-turn, all-zero, all-false, all-ext, true-false}
-use Rattle.algebra.specs.Sum.{neq, neq-true}
+use borrow.Author.Tests.{ltb-true, ltb-false, leb-true, le-leb, lt-leb, eqb-true, eqb-false, eq-eqb, ne-eqb}
+use Rattle.lists.specs.Pick.{pick, pick-else}
+use Rattle.lists.specs.All.{allOf, of-all, all-turn, all-false, all-ext, true-false}
+use Rattle.algebra.specs.Sum.{neq-true}
 use Rattle.message.specs.declared.Kind.{Kind}
 use Rattle.message.specs.declared.Kind.the-variants.{Options}
 use Rattle.message.specs.Format as Format
 use Rattle.message.specs.Read as Read
-use Rattle.share.specs.Record.{recordLen}
 use Rattle.permutation.specs.Permutation.{isPerm}
 use Rattle.plan.specs.Plan as Plan
 use Rattle.plan.specs.Plan.{echo?, nextRound, kindOf, countDue, msgLen, outLen, leaky, rLen, InRange}
 use Rattle.plan.specs.PlanLaws.{no-echo, Rest, kind-rest, count-rest, out-len-last, out-len}
 use Rattle.engine.specs.declared.Frame.{Frame}
 use Rattle.engine.specs.declared.Session.{Session}
-use Rattle.engine.specs.Step.{Lent, Loan, Fault, frame, other, gone, part, inside, partsIn, sizes, reasonOf, orElse, scan, byParty, formFault}
+use Rattle.engine.specs.Step.{Lent, Loan, frame, gone, part, inside, partsIn, sizes, reasonOf, orElse, scan, byParty, formFault}
 use Rattle.engine.specs.StepLaws.{other-is}
-use Rattle.engine.specs.Area.{off, mem}
+use Rattle.engine.specs.Area.{mem}
 use Rattle.engine.specs.Plain.{noLoan, isEcho, nextOf, isRound, toEcho, lenOf, outLenOf, lentOf, formOf, ruleOf, protocolOf}
 use Rattle.rounds.specs.Area.{workLen}
 use Rattle.rounds.specs.Mail as Mail
@@ -37,7 +35,7 @@ use Rattle.rounds.specs.Echo.{echo}
 use Rattle.rounds.specs.EchoLaws.{Received}
 use Rattle.rounds.specs.Table.{table, lent, fine}
 use Rattle.area.specs.AreaLaws.{work-any}
-use Rattle.haand.specs.Given.{Ranges, Work}
+use Rattle.haand.specs.Given.{Ranges}
 use Rattle.admit.specs.Admit.{loan, given, lengthsFit, fits, kindFault}
 
 and-first : (a b : Bool) → (a && b) ≡ true → a ≡ true

@@ -161,10 +161,11 @@ pub fn reason(
     let n = party.n;
     let i = party.i;
     let l = party.l;
+    let due = s.due;
     if !alive(s) {
         return 20;
     }
-    if k != s.due {
+    if k != due {
         return 19;
     }
     if !lengths(

@@ -1,15 +1,12 @@
 -- `admit::reason` meets its contract.
 use mathlib.Core.Path.{_≡_, sym, _∙_}
 use mathlib.Core.Bool.{true}
-use mathlib.Core.List.{List}
-use Prim.Native.Nat.{ℕ}
-use native.Mathlib.Omega.{arith}
 use borrow.Author.Needs.{needs}
 use borrow.Author.Tests.{not-true, not-false}
 use lib.ListN.{length}
 use denote.Ref.{now}
 use Rattle.plan.specs.Plan.{InRange}
-use Rattle.engine.specs.Step.{Lent, frame, partsIn}
+use Rattle.engine.specs.Step.{Lent, partsIn}
 use Rattle.engine.specs.Plain.{protocolOf}
 use Rattle.rounds.specs.Table.{table}
 use Rattle.admit.specs.Admit.{given, lengthsFit}
@@ -39,24 +36,24 @@ module _ (c : tie.Else1) where
 
 returns-2 : tie.Need-returns-2
 returns-2 c =
-    let e = c .before .before in
+    let e = c .before in
     let g = s (e .before) in
     reason-turn (g .args .s) (g .args .k) (all g) (now (g .args .work)) (lives e) (c .if2 .taken)
 
 lengths-requires : tie.Need-lengths-requires
-lengths-requires c κs = ranged (c .before .before)
+lengths-requires c κs = ranged (c .before)
 
 returns-3 : tie.Need-returns-3
 returns-3 c =
     let d = c .before .before in
-    let e = d .before .before in
+    let e = d .before in
     let g = s (e .before) in
     reason-lengths (g .args .s) (g .args .k) (all g) (now (g .args .work)) (lives e) (d .if2 .left) (sym (c .before .lengths .ensures) ∙ not-true _ (c .if3 .taken))
 
 -- behind the test of the lengths
 module _ (c : tie.Else3) where
   abbrev e3 : tie.Else1
-  e3 = c .before .before .before .before
+  e3 = c .before .before .before
 
   abbrev g3 : tie.Start
   g3 = s (e3 .before)
