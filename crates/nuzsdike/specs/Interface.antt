@@ -5,7 +5,8 @@ use Prim.Native.Nat.{ℕ, _+_, _*_, _%_}
 use lib.ListN.{length, getD}
 use lib.Dec.{ltb, eqb}
 use Rattle.lists.specs.Pick.{pick}
-use Rattle.plan.specs.Plan.{inRange, isRound, msgLen, roundName}
+use Rattle.plan.specs.Plan.{inRange, isRound, msgLen}
+use Rattle.plan.specs.Names.{roundName}
 use Rattle.engine.specs.declared.Session.{Session}
 use Rattle.engine.specs.declared.Verdict.{Verdict}
 use Rattle.engine.specs.declared.Verdict.the-variants.{Accepted, Refused}

@@ -86,9 +86,24 @@ pub extern "C" fn nuzsdike_open(
     if session.len() != 4 {
         return packed(17, i);
     }
-    let a = opening::open(n, i, l, delta, seed, pairs, bits, alpha, beta, masks, work, out);
-    store(session, a.session);
-    answer(a.verdict)
+    let a = opening::open(
+        n,
+        i,
+        l,
+        delta,
+        seed,
+        pairs,
+        bits,
+        alpha,
+        beta,
+        masks,
+        work,
+        out,
+    );
+    let opened = a.session;
+    let verdict = a.verdict;
+    store(session, opened);
+    answer(verdict)
 }
 
 // The call for a round (crate session).
@@ -113,9 +128,22 @@ pub extern "C" fn nuzsdike_round(
         return packed(20, 0);
     }
     let s = load(session);
-    let step = session::round(s, round, incoming, starts, lens, missing, r, perm, work, out);
-    store(session, step.session);
-    answer(step.verdict)
+    let step = session::round(
+        s,
+        round,
+        incoming,
+        starts,
+        lens,
+        missing,
+        r,
+        perm,
+        work,
+        out,
+    );
+    let after = step.session;
+    let verdict = step.verdict;
+    store(session, after);
+    answer(verdict)
 }
 
 // Combines triples (crate combine).

@@ -256,7 +256,17 @@ pub fn round(
             verdict: Verdict::Refused(code, party.i),
         };
     }
-    let e = fault(work, incoming, starts, lens, missing, party.n, party.i, party.l, k);
+    let e = fault(
+        work,
+        incoming,
+        starts,
+        lens,
+        missing,
+        party.n,
+        party.i,
+        party.l,
+        k,
+    );
     if e.code != 0 {
         zero(work);
         return Answer {
@@ -264,7 +274,19 @@ pub fn round(
             verdict: Verdict::Refused(e.code, e.party),
         };
     }
-    step(work, out, incoming, starts, lens, r, perm, party.n, party.i, party.l, k);
+    step(
+        work,
+        out,
+        incoming,
+        starts,
+        lens,
+        r,
+        perm,
+        party.n,
+        party.i,
+        party.l,
+        k,
+    );
     let after = Session {
         party: party,
         due: plan::next_round(party.n, k),

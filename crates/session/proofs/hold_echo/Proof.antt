@@ -48,7 +48,7 @@ returns c =
     let small = judge-party f (s .pre .work .ranges .own) (s .pre .work .ranges .eight) (a .k) w m in
     let noted = p .note .ensures (Table.judge (a .k) f w m) (j .judge .ensures) small in (
       noted
-      ∙ held-is f (a .k) m w (q .keep-clean .last .0) (q .keep-clean .ensures ∙ ap (λ x. pick (eqb x 0) (Table.kept (a .k) f w m) w) (j .judge .ensures .code-is)),
+          ∙ held-is f (a .k) m w (q .keep-clean .last .0) (q .keep-clean .ensures ∙ ap (λ x. pick (eqb x 0) (Table.kept (a .k) f w m) w) (j .judge .ensures .code-is)),
       ap (hashes table f) noted ∙ hashes-kept f (a .k) m (Table.judge (a .k) f w m) (q .keep-clean .last .0) (q .keep-clean .kept .0 ∙ s .pre .work .whole),
     )
 

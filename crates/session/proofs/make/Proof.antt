@@ -30,8 +30,10 @@ write-requires c κs =
     let f = frame (a .n) (a .l) (a .i) in
     let q = loan (now (a .r)) (now (a .perm)) in (
       record { ranges = s .pre .0 .ranges; whole = h .hold .kept .0 ∙ s .pre .0 .whole },
-      (s .pre .1 .0,
-      (s .pre .1 .1, λ e. subst (λ (w : List ℕ). at f LEAKY w ≡ Haand.leakyRows f (Table.delta f w) (at f BITS w)) (sym (h .hold .ensures)) (leaky-for (s .pre .0) (a .next) q e))),
+      (
+        s .pre .1 .0,
+        (s .pre .1 .1, λ e. subst (λ (w : List ℕ). at f LEAKY w ≡ Haand.leakyRows f (Table.delta f w) (at f BITS w)) (sym (h .hold .ensures)) (leaky-for (s .pre .0) (a .next) q e)),
+      ),
     )
 
 -- src/lib.rt:106:1

@@ -52,8 +52,7 @@ write-requires c κs =
     let t = c .before .before .before .before .before .before .before in
     let s = c .before .before .before .before .before .before .before .before .before .before .before .before .before .before .before .before in
     let a = s .args in
-    let low : a .k < 22 = omega (arith, round-high (a .n) (a .k) (s .pre .0 .round), t .before .if1 .left) in
-    (
+    let low : a .k < 22 = omega (arith, round-high (a .n) (a .k) (s .pre .0 .round), t .before .if1 .left) in (
       record { ranges = s .pre .0 .work .ranges; whole = h .hold-echo .kept .0 ∙ s .pre .0 .work .whole },
       s .pre .1 .1 .0 ∙ out-echo (a .n) (a .l) (a .i) (a .k) low (sym (t .to-echo .ensures) ∙ c .before .before .before .before .before .before .if2 .taken),
     )
