@@ -155,7 +155,7 @@ fn zero(work: &mut [u8])
 
 // The last call: the results are written, and the work area is zeroed.
 fn finish(
-    work: &mut [u8],
+    w: &mut [u8],
     out: &mut [u8],
     incoming: &[u8],
     starts: &[usize],
@@ -164,14 +164,14 @@ fn finish(
     i: usize,
     l: usize,
 )
-    requires { ⌜ Let n i l 22 (now work) (now incoming) (now starts) (now lens) ⌝ }
+    requires { ⌜ Let n i l 22 (now w) (now incoming) (now starts) (now lens) ⌝ }
     requires { ⌜ length (now out) ≡ l * recordLen n ⌝ }
-    ensures { λ _. ⌜ (now (work .exit) ≡ replicate (length (now (work .entry))) 0)
-        × (now (out .exit) ≡ table .result (frame n l i) (now (work .entry))
+    ensures { λ _. ⌜ (now (w .exit) ≡ replicate (length (now (w .entry))) 0)
+        × (now (out .exit) ≡ table .result (frame n l i) (now (w .entry))
         (mask (frame n l i) (letter (now (incoming .entry)) (now (starts .entry)) (now (lens .entry))))) ⌝ }
 {
-    beaver::write_results(out, work, incoming, starts, lens, n, i, l);
-    zero(work);
+    beaver::write_results(out, w, incoming, starts, lens, n, i, l);
+    zero(w);
 }
 
 // An accepted call for round k: what is kept, and what is written.
