@@ -18,7 +18,7 @@ use Rattle.engine.specs.Plain.{nextOf, ruleOf, protocolOf, keepOf, writeOf}
 use Rattle.rounds.specs.Mail.{letter}
 use Rattle.rounds.specs.FaultLaws.{Finds}
 use Rattle.rounds.specs.Table.{table}
-use Rattle.session.specs.SessionLaws.{next-is}
+use Rattle.admit.specs.AdmitLaws.{next-is}
 
 -- no fault, so neither of the two
 pub or-zero : (a b : Fault) → orElse a b .code ≡ 0 → (a .code ≡ 0) × (b .code ≡ 0)

@@ -1,79 +1,35 @@
 -- The parts of a round call against the definition, case by case.
 use mathlib.Core.Path.{_≡_, refl, sym, ap, ap₂, _∙_, subst}
-use mathlib.Core.Bool.{Bool, true, false, not, _&&_, _||_}
+use mathlib.Core.Bool.{Bool, true, false, not, _&&_}
 use mathlib.Core.Logic.{_≢_}
-use mathlib.Core.List.{List, [], _∷_}
-use Prim.Native.Nat.{ℕ, zero, suc, _+_, _-_, _*_, _<_, _≤_}
-use native.Mathlib.Nat.{le-refl}
+use mathlib.Core.List.{List}
+use Prim.Native.Nat.{ℕ, suc, _+_, _-_, _*_, _<_, _≤_}
 use native.Mathlib.Numerals.{add-one}
 use native.Mathlib.Omega.{arith}
-use lib.ListN.{length, getD, replicate}
-use lib.Dec.{ltb, leb, eqb}
-use borrow.Author.Tests.{ltb-true, lt-ltb, leb-true, le-leb, lt-leb, eqb-true, eqb-false, eq-eqb, ne-eqb}
+use lib.ListN.{length, replicate}
+use lib.Dec.{eqb}
+use borrow.Author.Tests.{lt-leb, eq-eqb, ne-eqb}
 use Rattle.lists.specs.Pick.{pick}
 use Rattle.lists.specs.All.{allOf, of-all, true-false}
 use Rattle.share.specs.Record.{recordLen}
 use Rattle.message.specs.declared.Kind.the-variants.{Options, Items}
 use Rattle.plan.specs.Plan.{echo?, isRound, nextRound, kindOf, countDue, msgLen}
-use Rattle.plan.specs.PlanLaws.{no-echo, Rest, kind-rest, count-rest}
+use Rattle.plan.specs.PlanLaws.{no-echo}
 use Rattle.engine.specs.declared.Frame.{Frame}
-use Rattle.engine.specs.Step.{Fault, none?, Loan, frame, mask}
+use Rattle.engine.specs.Step.{none?, Loan, frame, mask}
 use Rattle.engine.specs.Plain.{isEcho, nextOf, toEcho, lenOf, outLenOf, lentOf, checkOf, echoCheck, held, made, keepOf, writeOf, digests}
-use Rattle.engine.specs.Area.{mem, toOthers}
+use Rattle.engine.specs.Area.{toOthers}
 use Rattle.rounds.specs.Echo.{echo, echoMsg}
 use Rattle.rounds.specs.EchoLaws.{Received}
 use Rattle.rounds.specs.Table.{table}
 use Rattle.rounds.specs.Table as Table
+use Rattle.admit.specs.AdmitLaws.{echo-is, next-is, echo-kind, echo-count}
 use Rattle.receive.specs.MaskLaws as Masks
-use Rattle.send.specs.Plain.{plain}
 
 -- ---- the order of the rounds, in plan's words
-pub echo-is : (k : ℕ) → isEcho table k ≡ echo? k
-unfolding isEcho mem echo?
-echo-is k = go (eqb k 2) (eqb k 7) (eqb k 9) (eqb k 11) (eqb k 13) (eqb k 16) (eqb k 18) (eqb k 20)
-  where
-    go : (a b c d e f g h : Bool)
-        → pick a true (pick b true (pick c true (pick d true (pick e true (pick f true (pick g true (pick h true false))))))) ≡ (a || b || c || d || e || f || g || h)
-    go true b c d e f g h = refl
-    go false true c d e f g h = refl
-    go false false true d e f g h = refl
-    go false false false true e f g h = refl
-    go false false false false true f g h = refl
-    go false false false false false true g h = refl
-    go false false false false false false true h = refl
-    go false false false false false false false true = refl
-    go false false false false false false false false = refl
-
 pub to-echo-is : (n k : ℕ) (b : Bool) → b ≡ echo? (k + 1) → (not (eqb n 2) && b) ≡ toEcho table (eqb n 2) k
 unfolding toEcho
 to-echo-is n k b e = ap (λ x. not (eqb n 2) && x) (e ∙ ap echo? (add-one k) ∙ sym (echo-is (suc k)))
-
-pub round-low : (n k : ℕ) → isRound n k ≡ true → 1 ≤ k
-unfolding isRound
-round-low n k e = leb-true 1 k (go (leb 1 k) (leb k 22) (not (eqb n 2 && echo? k)) e)
-  where
-    go : (a b c : Bool) → (a && b && c) ≡ true → a ≡ true
-    go true b c h = refl
-    go false b c h = h
-
-pub round-high : (n k : ℕ) → isRound n k ≡ true → k ≤ 22
-unfolding isRound
-round-high n k e = leb-true k 22 (go (leb 1 k) (leb k 22) (not (eqb n 2 && echo? k)) e)
-  where
-    go : (a b c : Bool) → (a && b && c) ≡ true → b ≡ true
-    go true true c h = refl
-    go true false c h = h
-    go false b c h = absurd (true-false (sym h))
-
-pub next-is : (n k : ℕ) → k ≤ 22 → nextOf table (eqb n 2) k ≡ nextRound n k
-unfolding nextOf nextRound
-next-is n k h = go (eqb k 22) refl
-  where
-    go : (b : Bool) → eqb k 22 ≡ b → nextOf table (eqb n 2) k ≡ nextRound n k
-    go true e = rw (e, le-leb 22 k (let h : 22 ≤ k = omega (arith, eqb-true k 22 e) in h)) refl
-    go false e =
-        rw (e, lt-leb 22 k (let h : k < 22 = omega (arith, h, eqb-false k 22 e) in h), echo-is (suc k), add-one k)
-        (ap (λ x. pick (eqb n 2 && echo? (suc k)) x (suc k)) (let e : suc (suc k) ≡ k + 2 = omega arith in e))
 
 -- ---- what follows a call that writes no echo is no echo
 -- no two echoes stand together
@@ -188,42 +144,12 @@ module _ (f : Frame) (w : List ℕ) (m : ℕ → List ℕ) (k : ℕ) where
     write-made h t = rw (ne-eqb k 22 (omega arith), t, next-is (f .n) k (omega arith)) refl
 
 -- ---- an echo's messages are n options
-pub echo-kind : (n l k : ℕ) → echo? k ≡ true → (kindOf l k ≡ Options) × (countDue n l k ≡ n)
-unfolding echo?
-echo-kind n l k e = (kind-rest k rest l, count-rest k rest n l)
-  where
-    rest : Rest k
-    rest = record {
-      not1 = λ z. true-false (sym e ∙ ap echo? z);
-      not3 = λ z. true-false (sym e ∙ ap echo? z);
-      not4 = λ z. true-false (sym e ∙ ap echo? z);
-      not5 = λ z. true-false (sym e ∙ ap echo? z);
-      not6 = λ z. true-false (sym e ∙ ap echo? z);
-      not8 = λ z. true-false (sym e ∙ ap echo? z);
-      not10 = λ z. true-false (sym e ∙ ap echo? z);
-      not12 = λ z. true-false (sym e ∙ ap echo? z);
-      not14 = λ z. true-false (sym e ∙ ap echo? z);
-      not15 = λ z. true-false (sym e ∙ ap echo? z);
-      not17 = λ z. true-false (sym e ∙ ap echo? z);
-      not19 = λ z. true-false (sym e ∙ ap echo? z);
-      not21 = λ z. true-false (sym e ∙ ap echo? z);
-      not22 = λ z. true-false (sym e ∙ ap echo? z);
-    }
-
 -- the messages of an echo, in form
 pub echo-received : (n i l k : ℕ) (incoming starts lens : List ℕ) → echo? k ≡ true
     → Received (kindOf l k) (countDue n l k) n i incoming starts lens → Received Options n n i incoming starts lens
 echo-received n i l k incoming starts lens e r =
-    let q = echo-kind n l k e in
-    subst (λ c. Received Options c n i incoming starts lens) (q .1)
-    (subst (λ K. Received K (countDue n l k) n i incoming starts lens) (q .0) r)
-
--- a round that is no echo is one of those that `write` knows
-pub plain-is : (k : ℕ) → 1 ≤ k → k ≤ 22 → echo? k ≡ false → plain k ≡ true
-unfolding allOf plain echo?
-plain-is k h1 h2 e =
-    let t : pick (leb 1 k) (pick (echo? k) true (plain k)) true ≡ true = of-all 23 (λ k. pick (leb 1 k) (pick (echo? k) true (plain k)) true) refl k (omega arith) in
-    rw (le-leb 1 k h1, e) at t
+    subst (λ c. Received Options c n i incoming starts lens) (echo-count k e n l)
+    (subst (λ K. Received K (countDue n l k) n i incoming starts lens) (echo-kind k e l) r)
 
 -- ---- one of two work areas, by a test that was made
 pub zero-takes : (code : ℕ) (v x y : List ℕ) → code ≡ 0 → v ≡ x → v ≡ pick (eqb code 0) x y

@@ -3,7 +3,8 @@ use denote.Ref.{now}
 use Rattle.engine.specs.Step.{frame, mask}
 use Rattle.rounds.specs.Mail.{letter}
 use Rattle.rounds.specs.FaultLaws.{Finds}
-use Rattle.session.specs.SessionLaws.{echo-received, check-echo, check-held, check-plain, round-high}
+use Rattle.admit.specs.AdmitLaws.{round-low}
+use Rattle.session.specs.SessionLaws.{echo-received, check-echo, check-held, check-plain}
 use borrow.Author.Needs.{needs}
 use Rattle.session.proofs.content.Statement.{statement}
 use Rattle.session.proofs.content.Tie as tie
@@ -38,7 +39,7 @@ returns c =
 to-echo-requires : tie.Need-to-echo-requires
 to-echo-requires c κs =
     let s = c .before .before .before .before .before .before in
-    round-high (s .args .n) (s .args .k) (s .pre .round)
+    round-low (s .args .n) (s .args .k) (s .pre .round)
 
 -- src/lib.rt:56:9
 returns-2 : tie.Need-returns-2

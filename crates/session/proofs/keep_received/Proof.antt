@@ -1,6 +1,7 @@
 use mathlib.Core.Path.{_≡_, sym, _∙_}
 use denote.Ref.{now}
-use Rattle.session.specs.SessionLaws.{echo-is, plain-takes, echo-leaves}
+use Rattle.admit.specs.AdmitLaws.{echo-is}
+use Rattle.session.specs.SessionLaws.{plain-takes, echo-leaves}
 use borrow.Author.Needs.{needs}
 use Rattle.session.proofs.keep_received.Statement.{statement}
 use Rattle.session.proofs.keep_received.Tie as tie

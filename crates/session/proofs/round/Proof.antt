@@ -3,9 +3,8 @@ use denote.Ref.{now}
 use Rattle.engine.specs.Step.{faultOf, part}
 use Rattle.rounds.specs.Mail.{letter}
 use Rattle.session.specs.Given.{lent}
-use Rattle.session.specs.SessionLaws.{round-high}
 use Rattle.session.specs.CallLaws.{or-zero, call-refused, call-faulted, call-accepted}
-use Rattle.admit.specs.AdmitLaws.{received, reason-zero, round-is, parts-any}
+use Rattle.admit.specs.AdmitLaws.{received, reason-zero, round-is, round-low, parts-any}
 use borrow.Author.Needs.{needs}
 use Rattle.session.proofs.round.Statement.{statement}
 use Rattle.session.proofs.round.Tie as tie
@@ -119,7 +118,7 @@ returns-3 c =
     let z = sym (e .reason .ensures) ∙ c .before .before .before .before .before .before .before .before .before .before .before .before .if1 .left in
     let A = reason-zero (a .s) (a .k) q (now (a .work)) z in
     call-accepted (a .s) (a .k) q (now (a .work)) z (sym (x .fault .ensures (now (a .r)) (now (a .perm)) (now (a .out)) .code-is) ∙ c .before .before .before .before .before .before .before .before .if2 .left)
-    (round-high (a .s .party .n) (a .k) (sym (round-is (a .s .party .n) (a .k)) ∙ A .round-holds)) (c .next-round .result) (c .next-round .ensures)
+    (round-low (a .s .party .n) (a .k) (sym (round-is (a .s .party .n) (a .k)) ∙ A .round-holds)) (c .next-round .result) (c .next-round .ensures)
     (p .step .last .0) (p .step .last .1 .0) (p .step .ensures .0) (p .step .ensures .1)
 
 pub round-spec : {M : Type 1} → statement M

@@ -10,9 +10,11 @@ use Rattle.engine.specs.Area.{toOthers}
 use Rattle.rounds.specs.Mail.{letter}
 use Rattle.rounds.specs.Echo.{echoMsg}
 use Rattle.rounds.specs.Table as Table
+use Rattle.admit.specs.AdmitLaws.{echo-is, round-low}
 use Rattle.send.specs.Plain.{plain}
+use Rattle.send.specs.SendLaws.{plain-round}
 use Rattle.session.specs.Given.{Let, loan}
-use Rattle.session.specs.SessionLaws.{echo-is, round-high, next-low, next-high, next-plain, plain-is, out-last, out-echo, out-made, lent-made, check-plain}
+use Rattle.session.specs.SessionLaws.{next-low, next-high, next-plain, out-last, out-echo, out-made, lent-made, check-plain}
 use Rattle.session.specs.SessionLaws.{keep-last, keep-held, keep-made, write-last, write-held, write-made}
 use borrow.Author.Needs.{needs}
 use Rattle.session.proofs.step.Statement.{statement}
@@ -39,7 +41,7 @@ finish-requires c κs =
 to-echo-requires : tie.Need-to-echo-requires
 to-echo-requires c κs =
     let s = c .before .before .before .before .before .before .before .before in
-    round-high (s .args .n) (s .args .k) (s .pre .0 .round)
+    round-low (s .args .n) (s .args .k) (s .pre .0 .round)
 
 -- src/lib.rt:173:9
 hold-echo-requires : tie.Need-hold-echo-requires
@@ -52,7 +54,7 @@ write-requires c κs =
     let t = c .before .before .before .before .before .before .before in
     let s = c .before .before .before .before .before .before .before .before .before .before .before .before .before .before .before .before in
     let a = s .args in
-    let low : a .k < 22 = omega (arith, round-high (a .n) (a .k) (s .pre .0 .round), t .before .if1 .left) in (
+    let low : a .k < 22 = omega (arith, round-low (a .n) (a .k) (s .pre .0 .round), t .before .if1 .left) in (
       record { ranges = s .pre .0 .work .ranges; whole = h .hold-echo .kept .0 ∙ s .pre .0 .work .whole },
       s .pre .1 .1 .0 ∙ out-echo (a .n) (a .l) (a .i) (a .k) low (sym (t .to-echo .ensures) ∙ c .before .before .before .before .before .before .if2 .taken),
     )
@@ -79,13 +81,13 @@ make-requires c κs =
     let s = c .before .before .before .before .before .before .before .before .before .before .before .before .before .before .before .before .before in
     let a = s .args in
     let q = loan (now (a .r)) (now (a .perm)) in
-    let low : a .k < 22 = omega (arith, round-high (a .n) (a .k) (s .pre .0 .round), t .before .if1 .left) in
+    let low : a .k < 22 = omega (arith, round-low (a .n) (a .k) (s .pre .0 .round), t .before .if1 .left) in
     let none = sym (t .to-echo .ensures) ∙ c .before .before .before .before .before .before .before .if2 .left in
     let next = c .next-round .ensures in (
       record { ranges = s .pre .0 .work .ranges; whole = h .keep-received .kept .0 ∙ s .pre .0 .work .whole },
       (
         (
-          subst (λ j. plain j ≡ true) (sym next) (plain-is (nextRound (a .n) (a .k)) (next-low (a .n) (a .k) low) (next-high (a .n) (a .k) low) (next-plain (a .n) (a .k) low none)),
+          subst (λ j. plain j ≡ true) (sym next) (plain-round (nextRound (a .n) (a .k)) (next-low (a .n) (a .k) low) (next-high (a .n) (a .k) low) (next-plain (a .n) (a .k) low none)),
           s .pre .1 .1 .0 ∙ out-made (a .n) (a .l) (a .i) (a .k) low none ∙ ap (λ j. (a .n - 1) * msgLen (a .n) (a .l) j) (sym next),
         ),
         ap (λ j. Table.lent j (a .n) (a .l) q) next ∙ sym (lent-made (a .n) (a .l) (a .i) (a .k) q low none) ∙ s .pre .1 .1 .1,
@@ -156,7 +158,7 @@ returns-3 c =
     let w = now (a .work) in
     let m = mask f (letter (now (a .incoming)) (now (a .starts)) (now (a .lens))) in
     let q = loan (now (a .r)) (now (a .perm)) in
-    let low : a .k < 22 = omega (arith, round-high (a .n) (a .k) (s .pre .0 .round), t .before .if1 .left) in
+    let low : a .k < 22 = omega (arith, round-low (a .n) (a .k) (s .pre .0 .round), t .before .if1 .left) in
     let none = sym (t .to-echo .ensures) ∙ c .before .before .before .before .before .before .before .before .before .before .before .before .if2 .left in
     let next = c .before .before .before .before .before .next-round .ensures in (
       p .make .ensures .0 ∙ ap₂ (λ j (x : List ℕ). Table.held j f q x) next (h .keep-received .ensures) ∙ sym (keep-made f w m (a .k) q low none),
