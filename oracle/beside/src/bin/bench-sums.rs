@@ -29,30 +29,54 @@ unsafe extern "C" {
     ) -> u8;
 }
 
-/// Share records, and r; the MACs at `at` of each.
+/// MACs, bits and r.
 struct Case {
-    stride: usize,
-    at: usize,
     count: usize,
     row: usize,
-    records: Vec<u8>,
+    /// MACs, from `at` on in every `stride` bytes.
+    macs: Vec<u8>,
+    stride: usize,
+    at: usize,
+    /// Bits, the first of every `bit_stride` bytes.
+    bits: Vec<u8>,
+    bit_stride: usize,
     r: Vec<u8>,
 }
 
 impl Case {
-    fn new(stride: usize, at: usize, count: usize) -> Self {
+    /// Lists of their own, as the Rust has them.
+    fn lists(count: usize) -> Self {
         let mut g = SplitMix(count as u64);
         let row = 16 * count.div_ceil(128);
-        let mut records = g.bytes(count * stride);
-        records
-            .chunks_exact_mut(stride)
-            .for_each(|record| record[0] &= 1);
+        let mut bits = g.bytes(count);
+        bits.iter_mut().for_each(|bit| *bit &= 1);
         Self {
-            stride,
-            at,
             count,
             row,
-            records,
+            macs: g.bytes(16 * count),
+            stride: 16,
+            at: 0,
+            bits,
+            bit_stride: 1,
+            r: g.bytes(120 * row),
+        }
+    }
+
+    /// Share records of two parties, as a session of ours has them.
+    fn records(count: usize) -> Self {
+        let mut g = SplitMix(count as u64);
+        let row = 16 * count.div_ceil(128);
+        let mut records = g.bytes(65 * count);
+        let bits = records.chunks_exact_mut(65).map(|record| &mut record[0]);
+        bits.for_each(|bit| *bit &= 1);
+        Self {
+            count,
+            row,
+            macs: records.clone(),
+            stride: 65,
+            at: 33,
+            bits: records,
+            bit_stride: 65,
             r: g.bytes(120 * row),
         }
     }
@@ -63,8 +87,8 @@ impl Case {
         // the word below 240, the strings cover the records.
         unsafe {
             rbits_block_sum_word(
-                self.records.as_ptr(),
-                self.records.len(),
+                self.macs.as_ptr(),
+                self.macs.len(),
                 self.stride,
                 self.at,
                 self.count,
@@ -80,9 +104,9 @@ impl Case {
         // SAFETY: as above.
         unsafe {
             rbits_bit_sum(
-                self.records.as_ptr(),
-                self.records.len(),
-                self.stride,
+                self.bits.as_ptr(),
+                self.bits.len(),
+                self.bit_stride,
                 self.count,
                 self.r.as_ptr(),
                 self.r.len(),
@@ -93,12 +117,13 @@ impl Case {
     }
 
     fn rust(&self) -> Sums {
-        let records = self.records.chunks_exact(self.stride);
-        let bits: Vec<u8> = records.clone().map(|record| record[0]).collect();
-        let blocks: Vec<[u8; 16]> = records
-            .map(|record| record[self.at..][..16].try_into().unwrap())
+        let bits = self.bits.chunks_exact(self.bit_stride);
+        let bits: Vec<u8> = bits.map(|part| part[0]).collect();
+        let macs = self.macs.chunks_exact(self.stride);
+        let macs: Vec<[u8; 16]> = macs
+            .map(|part| part[self.at..][..16].try_into().unwrap())
             .collect();
-        Sums::new(&bits, &blocks, self.r.as_chunks().0)
+        Sums::new(&bits, &macs, self.r.as_chunks().0)
     }
 
     fn compare(&self) {
@@ -140,14 +165,15 @@ fn main() {
     };
     let times = words.get(1).copied().unwrap_or(5).max(1);
     for count in [1, 63, 64, 65, 127, 128, 129, 175, 300] {
-        Case::new(17, 1, count).compare();
-        Case::new(65, 33, count).compare();
+        Case::lists(count).compare();
+        Case::records(count).compare();
     }
     println!("equal on 18 cases, every string");
     for count in counts {
-        // bit and MAC side by side; share records of two parties, as a session has them
-        for (stride, at) in [(17, 1), (65, 33)] {
-            let case = Case::new(stride, at, count);
+        for (name, case) in [
+            ("lists", Case::lists(count)),
+            ("records", Case::records(count)),
+        ] {
             let rust = case.rust();
             let mut best = [u64::MAX; 4];
             for _ in 0..times {
@@ -162,7 +188,7 @@ fn main() {
             }
             let ns = |k: usize| best[k] as f64 / count as f64;
             println!(
-                "{count} records, stride {stride}: Blocks {:.1} ns a record and 120 strings, the Rust \
+                "{count} of {name}: Blocks {:.1} ns each for 120 strings, the Rust \
                  {:.1}, ratio {:.3}; bits {:.1}, the Rust {:.1}, ratio {:.3}",
                 ns(0),
                 ns(1),
