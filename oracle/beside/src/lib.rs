@@ -5,7 +5,7 @@ mod ffi;
 use std::collections::BTreeMap;
 
 use oracle::{
-    Session, SplitMix, cpu_time,
+    Party, Session, SplitMix, cpu_time,
     damage::{message_len, rounds},
     record_len,
 };
@@ -216,6 +216,91 @@ fn spoil(g: &mut SplitMix, s: &Session, i: usize, round: u8, t: &mut Lent) -> (u
     }
 }
 
+/// An opening with something wrong: n, i, l, what is lent, lengths of work area and outgoing buffer off
+/// by so much, and its number.
+struct Wrong {
+    n: usize,
+    i: usize,
+    l: usize,
+    lent: Party,
+    work: isize,
+    out: isize,
+    number: u8,
+}
+
+fn spoil_opening(g: &mut SplitMix, s: &Session, i: usize) -> Wrong {
+    let (n, l, record) = (s.n, s.l, record_len(s.n));
+    let other = (i + 1 + g.below(n - 1)) % n;
+    let mut w = Wrong {
+        n,
+        i,
+        l,
+        lent: s.parties[i].clone(),
+        work: 0,
+        out: 0,
+        number: 17,
+    };
+    // the inputs may be damaged already
+    for list in [&mut w.lent.bits, &mut w.lent.alpha, &mut w.lent.beta] {
+        for record in list.chunks_exact_mut(record) {
+            record[1 + 32 * i..][..32].fill(0);
+        }
+    }
+    match g.below(11) {
+        0 => {
+            w.n = [0, 1, 9, usize::MAX][g.below(4)];
+            w.number = 15;
+        }
+        1 => {
+            w.i = [n, 8, usize::MAX >> 8][g.below(3)].max(n);
+            w.number = 15;
+        }
+        2 => {
+            w.l = [300_001, usize::MAX][g.below(2)];
+            w.number = 16;
+        }
+        3 => {
+            let p = &mut w.lent;
+            let list = [&mut p.bits, &mut p.alpha, &mut p.beta];
+            let list = list.into_iter().nth(g.below(3)).unwrap();
+            match g.below(2) {
+                0 => _ = list.pop(),
+                _ => list.extend(vec![0; record]),
+            }
+            // masks come after
+            w.lent.masks.pop();
+            w.number = 6;
+        }
+        4 => _ = w.lent.masks.pop(),
+        5 => w.lent.pair_seeds.push(0),
+        6 => w.work = [-1, 1][g.below(2)],
+        7 => w.out = [-1, 1][g.below(2)],
+        8 => {
+            let p = &mut w.lent;
+            let list = [&mut p.bits, &mut p.alpha, &mut p.beta];
+            let list = list.into_iter().nth(g.below(3)).unwrap();
+            let at = record * g.below(list.len() / record);
+            list[at] = 2 + g.below(254) as u8;
+            // and the own entry, which comes after
+            list[at + 1 + 32 * i] = 1;
+            w.number = 1;
+        }
+        9 => {
+            let lb = l * s.b();
+            w.lent.masks[other * lb + g.below(lb)] = 2 + g.below(254) as u8;
+            w.number = 1;
+        }
+        _ => {
+            let at = record * g.below(s.bits_count()) + 1 + 32 * i + g.below(32);
+            w.lent.bits[at] = 1 + g.below(255) as u8;
+            // a later record's bit comes after
+            w.lent.beta[0] = 2;
+            w.number = 4;
+        }
+    }
+    w
+}
+
 /// Runs our n boxes on the inputs of a session, in lockstep as `oracle::run` has it; `tamper` is as
 /// there. `seeds` are the tossed seeds of the Rust, where they are to be compared.
 pub fn run(
@@ -269,6 +354,24 @@ pub fn run(
 
     for h in &mut hosts {
         let i = h.i;
+        if care == Care::All && g.below(2) == 0 {
+            let w = spoil_opening(g, s, i);
+            let by = |len: usize, more: isize| len.checked_add_signed(more).unwrap();
+            let (work_len, out_len) = (by(h.work.len(), w.work), by(h.out.len(), w.out));
+            let (mut work, mut out) = (g.bytes(work_len), g.bytes(out_len));
+            let before = (work.clone(), out.clone());
+            let mut session = [7; 4];
+            let a = ffi::open(&mut session, w.n, w.i, w.l, &w.lent, &mut work, &mut out);
+            let (due, number) = ((w.number, w.i), w.number);
+            if answer(a) != due {
+                let a = answer(a);
+                broken.push(format!("party {i}: opening answers {a:?} and not {due:?}"));
+            }
+            if before != (work, out) || ffi::due(&session) != 0 {
+                broken.push(format!("party {i}: opening, {number} changed memory"));
+            }
+            probes += 1;
+        }
         let before = (care != Care::Time).then(|| (h.work.clone(), h.out.clone()));
         let start = cpu_time();
         let (number, party) = h.open();
