@@ -36,3 +36,53 @@ pub fn r_sum(blocks: &[[u8; 16]], r: &[[u8; 16]]) -> [u8; 16] {
     });
     sum.into()
 }
+
+/// What `fabitn` sums for one other party, laid ready: bits, MACs or keys, and the 120 strings.
+pub struct Sums {
+    bits: Vec<bool>,
+    blocks: Vec<Block>,
+    r: Vec<Vec<Block>>,
+}
+
+impl Sums {
+    /// r has the 120 strings one after another.
+    pub fn new(bits: &[u8], blocks: &[[u8; 16]], r: &[[u8; 16]]) -> Self {
+        let block = |b: &[u8; 16]| Block::new(*b);
+        Self {
+            bits: bits.iter().map(|bit| *bit == 1).collect(),
+            blocks: blocks.iter().map(block).collect(),
+            r: (r
+                .chunks_exact(r.len() / 120)
+                .map(|row| row.iter().map(block).collect()))
+            .collect(),
+        }
+    }
+
+    /// The sums of the Blocks, as `fabitn` makes them.
+    pub fn block_sums(&self) -> Vec<[u8; 16]> {
+        let mut sums = Vec::with_capacity(120);
+        for rbits in &self.r {
+            let mut sum = Block::ZERO;
+            chunked_update_with_rbits(&self.blocks, rbits, |mac, rbit| {
+                let mask = Block::from((-(rbit as i128)) as u128);
+                sum ^= *mac & mask;
+            });
+            sums.push(sum.into());
+        }
+        sums
+    }
+
+    /// The sums of the bits, as `fabitn` makes them.
+    pub fn bit_sums(&self) -> Vec<bool> {
+        let mut sums = Vec::with_capacity(120);
+        for rbits in &self.r {
+            let mut sum = false;
+            chunked_update_with_rbits(&self.bits, rbits, |xi, rbit| {
+                let ri = rbit != 0;
+                sum ^= xi & ri;
+            });
+            sums.push(sum);
+        }
+        sums
+    }
+}

@@ -27,8 +27,9 @@ mod staged {
 use staged::{block, channel, crypto, mpc, ot, utils};
 
 pub mod damage;
+pub mod expect;
 pub mod rules;
 
-pub use mpc::faand::inside::{combine, r_sum};
-pub use run::{End, Message, Outcome, aes_blocks, honest, round_name, run};
-pub use session::{Party, Session, SplitMix, bucket_size, record_len};
+pub use mpc::faand::inside::{Sums, combine, r_sum};
+pub use run::{End, Message, Outcome, aes_blocks, cpu_time, honest, round_name, run};
+pub use session::{Party, Session, SplitMix, bucket_size, draw, drawn_bit, record_len};

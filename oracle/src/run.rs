@@ -334,7 +334,8 @@ fn words(payload: &(dyn Any + Send)) -> &str {
     }
 }
 
-fn cpu_time() -> u64 {
+/// CPU time of this thread, in nanoseconds.
+pub fn cpu_time() -> u64 {
     let mut t = libc::timespec {
         tv_sec: 0,
         tv_nsec: 0,

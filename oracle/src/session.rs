@@ -228,6 +228,72 @@ impl Session {
     }
 }
 
+/// 32 bytes of the generator of docs/VECTORS.md: the BLAKE3 of 16 bytes, so that any value can be
+/// had without those before it.
+pub fn draw(seed: u64, kind: u8, j: usize, k: usize, t: usize) -> [u8; 32] {
+    let mut block = [0; 16];
+    block[..8].copy_from_slice(&seed.to_le_bytes());
+    block[8..12].copy_from_slice(&(t as u32).to_le_bytes());
+    block[12..15].copy_from_slice(&[kind, j as u8, k as u8]);
+    blake3::hash(&block).into()
+}
+
+/// The bit that a draw stands for.
+pub fn drawn_bit(draw: [u8; 32]) -> u8 {
+    draw[31] & 1
+}
+
+impl Session {
+    /// Honest inputs by `draw`, as docs/VECTORS.md has them; the permutation alone is `generate`'s.
+    pub fn drawn(n: usize, l: usize, seed: u64) -> Self {
+        let mut s = Session {
+            n,
+            l,
+            seed,
+            permutation: Session::generate(2, l, seed).permutation,
+            ..Default::default()
+        };
+        let lb = l * s.b();
+        let delta = |j| -> [u8; 16] { draw(seed, 0, j, 0, 0)[..16].try_into().unwrap() };
+        let records = |kind, j, count| {
+            let mut list = vec![];
+            for t in 0..count {
+                let bit = drawn_bit(draw(seed, kind, j, j, t));
+                list.push(bit);
+                for k in 0..n {
+                    let mut entry = [0; 32];
+                    if k != j {
+                        let mac = draw(seed, kind, j, k, t);
+                        (0..16).for_each(|x| entry[x] = mac[x] ^ (bit * delta(k)[x]));
+                        entry[16..].copy_from_slice(&draw(seed, kind, k, j, t)[..16]);
+                    }
+                    list.extend(entry);
+                }
+            }
+            list
+        };
+        let list = |kind, j, count: usize| {
+            let all = (0..n).flat_map(move |k| (0..count).map(move |t| (k, t)));
+            all.map(move |(k, t)| draw(seed, kind, j, k, t))
+        };
+        for j in 0..n {
+            s.parties.push(Party {
+                delta: delta(j),
+                joint_seed: draw(seed, 1, j, 0, 0),
+                pair_seeds: list(2, j, 1).flatten().collect(),
+                masks: list(3, j, lb).map(drawn_bit).collect(),
+                bits: records(4, j, s.bits_count()),
+                alpha: records(5, j, l),
+                beta: records(6, j, l),
+            });
+        }
+        s.r = (0..s.r_len() / 32)
+            .flat_map(|t| draw(seed, 7, 0, 0, t))
+            .collect();
+        s
+    }
+}
+
 /// SplitMix64 (Steele, Lea, Flood): small, and the same everywhere.
 pub struct SplitMix(pub u64);
 

@@ -1,0 +1,15 @@
+//! Where the libraries are that `rt staticlib` has written.
+
+use std::{env, path::Path};
+
+fn main() {
+    let here = env::var("CARGO_MANIFEST_DIR").unwrap();
+    let dir = env::var("NUZSDIKE_LIB").unwrap_or(format!("{here}/../../target/staticlib"));
+    println!("cargo::rerun-if-env-changed=NUZSDIKE_LIB");
+    println!("cargo::rustc-link-search=native={dir}");
+    for library in ["libnuzsdike.a", "librbits_bench.a"] {
+        if Path::new(&dir).join(library).exists() {
+            println!("cargo::rerun-if-changed={dir}/{library}");
+        }
+    }
+}

@@ -1,0 +1,566 @@
+//! Our sessions beside the Rust's: include/nuzsdike.h for Rust, and n of our boxes in lockstep.
+
+mod ffi;
+
+use std::collections::BTreeMap;
+
+use oracle::{
+    Party, Session, SplitMix, cpu_time,
+    damage::{message_len, rounds},
+    record_len,
+};
+
+/// How our session ended for one party.
+#[derive(Clone, Debug, PartialEq, Eq)]
+pub enum End {
+    Done(Vec<u8>),
+    /// The round is that of the call, 0 for opening.
+    Refused {
+        number: u8,
+        round: u8,
+        party: usize,
+    },
+}
+
+/// What our boxes did.
+pub struct Ran {
+    /// The outgoing buffer of each accepted call, by round and sender.
+    pub sent: BTreeMap<(u8, usize), Vec<u8>>,
+    pub ends: Vec<End>,
+    /// What broke the interface's promises.
+    pub broken: Vec<String>,
+    /// Calls that were refused for the host's own faults.
+    pub probes: usize,
+    /// CPU time of each party, its calls alone.
+    pub nanoseconds: Vec<u64>,
+}
+
+/// How much is looked at beside messages, results and answers.
+#[derive(Clone, Copy, PartialEq, Eq)]
+pub enum Care {
+    /// Nothing: for benchmarks.
+    Time,
+    /// Memory after each refusal and at the end.
+    Ends,
+    /// Also what the work area holds, parts that lie anywhere, and calls that a host gets wrong.
+    All,
+}
+
+/// A number of the answer, and the party above it.
+fn answer(a: u64) -> (u8, usize) {
+    (a as u8, (a >> 8) as usize)
+}
+
+pub fn lengths(s: &Session) -> Vec<String> {
+    let (n, l) = (s.n, s.l);
+    let mut wrong = vec![];
+    let mut is = |what: &str, ours: usize, due: usize| {
+        if ours != due {
+            wrong.push(format!("n {n} l {l}: {what} is {ours} and not {due}"));
+        }
+    };
+    is("bits", ffi::bits_len(n, l), s.parties[0].bits.len());
+    is("shares", ffi::shares_len(n, l), l * record_len(n));
+    is("masks", ffi::masks_len(n, l), n * l * s.b());
+    is("pairs", ffi::pairs_len(n), 32 * n);
+    let all: Vec<u8> = rounds(n).collect();
+    let (r_due, perm_due) = (5, if n == 2 { 19 } else { 20 });
+    let mut before = 0;
+    for round in &all {
+        let len = message_len(*round, n, l, s.b());
+        is("message", ffi::message_len(n, l, (*round).into()), len);
+        is("out", ffi::out_len(n, l, before), (n - 1) * len);
+        is("next", ffi::next_round(n, before), (*round).into());
+        before = (*round).into();
+        let r = if *round == r_due { s.r.len() } else { 0 };
+        is("r", ffi::r_len(n, l, before), r);
+        let perm = if *round == perm_due { l * s.b() } else { 0 };
+        is("permutation", ffi::perm_len(n, l, before), perm);
+    }
+    is("results", ffi::out_len(n, l, 22), l * record_len(n));
+    is("next", ffi::next_round(n, 22), 0);
+    wrong
+}
+
+/// A box and what its host keeps for it.
+struct Host<'a> {
+    s: &'a Session,
+    i: usize,
+    session: [usize; 4],
+    work: Vec<u8>,
+    out: Vec<u8>,
+}
+
+/// What a round call is lent beside the host's own.
+#[derive(Clone, Default)]
+struct Lent {
+    incoming: Vec<u8>,
+    starts: Vec<usize>,
+    lens: Vec<usize>,
+    missing: Vec<u8>,
+    r: Vec<u8>,
+    perm: Vec<u32>,
+}
+
+impl Host<'_> {
+    fn open(&mut self) -> (u8, usize) {
+        let p = &self.s.parties[self.i];
+        let (n, l) = (self.s.n, self.s.l);
+        answer(ffi::open(
+            &mut self.session,
+            n,
+            self.i,
+            l,
+            p,
+            &mut self.work,
+            &mut self.out,
+        ))
+    }
+
+    fn round(&mut self, round: usize, t: &Lent) -> (u8, usize) {
+        let (work, out) = (&mut self.work[..], &mut self.out[..]);
+        answer(ffi::round(
+            &mut self.session,
+            round,
+            &t.incoming,
+            &t.starts,
+            &t.lens,
+            &t.missing,
+            &t.r,
+            &t.perm,
+            work,
+            out,
+        ))
+    }
+}
+
+/// The bytes of the sections of docs/WORK_AREA.md up to the pairwise seeds: start and length.
+fn section(s: &Session, number: usize) -> std::ops::Range<usize> {
+    let (n, l, lb, record) = (s.n, s.l, s.l * s.b(), record_len(s.n));
+    let lens = [
+        16,
+        32,
+        32 * n,
+        n * lb,
+        (3 * lb + 160) * record,
+        l * record,
+        l * record,
+        32 * n,
+        32,
+        32 * n,
+        32 * n,
+    ];
+    let start = lens[..number].iter().sum();
+    start..start + lens[number]
+}
+
+/// A call for round k with something wrong that ends no session: its number.
+fn spoil(g: &mut SplitMix, s: &Session, i: usize, round: u8, t: &mut Lent) -> (usize, u8) {
+    let n = s.n;
+    let other = (i + 1 + g.below(n - 1)) % n;
+    let due = usize::from(round);
+    match g.below(9) {
+        0 => {
+            let wrong = [0, due + 1, due - 1, 23, usize::MAX, g.below(30)];
+            let wrong = wrong[g.below(6)];
+            if wrong == due { (0, 19) } else { (wrong, 19) }
+        }
+        1 => {
+            t.starts.push(0);
+            (due, 17)
+        }
+        2 => {
+            t.lens.pop();
+            (due, 17)
+        }
+        3 => {
+            t.missing.push(0);
+            (due, 17)
+        }
+        4 => {
+            t.r.push(0);
+            (due, 17)
+        }
+        5 => {
+            if t.perm.is_empty() {
+                t.perm.push(0);
+            } else {
+                t.perm.pop();
+            }
+            (due, 17)
+        }
+        6 => {
+            t.missing[other] = 0;
+            t.starts[other] = t.incoming.len() - t.lens[other].min(t.incoming.len());
+            t.lens[other] = t.incoming.len() - t.starts[other] + 1;
+            (due, 17)
+        }
+        7 => {
+            t.missing[other] = 0;
+            (t.starts[other], t.lens[other]) = (usize::MAX - g.below(2), 1 + g.below(3));
+            (due, 17)
+        }
+        _ if t.perm.is_empty() => {
+            t.perm.push(0);
+            (due, 17)
+        }
+        _ => {
+            let at = g.below(t.perm.len());
+            t.perm[at] = match g.below(3) {
+                0 => t.perm[(at + 1) % t.perm.len()],
+                1 => t.perm.len() as u32,
+                _ => u32::MAX,
+            };
+            (due, 18)
+        }
+    }
+}
+
+/// An opening with something wrong: n, i, l, what is lent, lengths of work area and outgoing buffer off
+/// by so much, and its number.
+struct Wrong {
+    n: usize,
+    i: usize,
+    l: usize,
+    lent: Party,
+    work: isize,
+    out: isize,
+    number: u8,
+}
+
+fn spoil_opening(g: &mut SplitMix, s: &Session, i: usize) -> Wrong {
+    let (n, l, record) = (s.n, s.l, record_len(s.n));
+    let other = (i + 1 + g.below(n - 1)) % n;
+    let mut w = Wrong {
+        n,
+        i,
+        l,
+        lent: s.parties[i].clone(),
+        work: 0,
+        out: 0,
+        number: 17,
+    };
+    // the inputs may be damaged already
+    for list in [&mut w.lent.bits, &mut w.lent.alpha, &mut w.lent.beta] {
+        for record in list.chunks_exact_mut(record) {
+            record[1 + 32 * i..][..32].fill(0);
+        }
+    }
+    match g.below(11) {
+        0 => {
+            w.n = [0, 1, 9, usize::MAX][g.below(4)];
+            w.number = 15;
+        }
+        1 => {
+            w.i = [n, 8, usize::MAX >> 8][g.below(3)].max(n);
+            w.number = 15;
+        }
+        2 => {
+            w.l = [300_001, usize::MAX][g.below(2)];
+            w.number = 16;
+        }
+        3 => {
+            let p = &mut w.lent;
+            let list = [&mut p.bits, &mut p.alpha, &mut p.beta];
+            let list = list.into_iter().nth(g.below(3)).unwrap();
+            match g.below(2) {
+                0 => _ = list.pop(),
+                _ => list.extend(vec![0; record]),
+            }
+            // masks come after
+            w.lent.masks.pop();
+            w.number = 6;
+        }
+        4 => _ = w.lent.masks.pop(),
+        5 => w.lent.pair_seeds.push(0),
+        6 => w.work = [-1, 1][g.below(2)],
+        7 => w.out = [-1, 1][g.below(2)],
+        8 => {
+            let p = &mut w.lent;
+            let list = [&mut p.bits, &mut p.alpha, &mut p.beta];
+            let list = list.into_iter().nth(g.below(3)).unwrap();
+            let at = record * g.below(list.len() / record);
+            list[at] = 2 + g.below(254) as u8;
+            // and the own entry, which comes after
+            list[at + 1 + 32 * i] = 1;
+            w.number = 1;
+        }
+        9 => {
+            let lb = l * s.b();
+            w.lent.masks[other * lb + g.below(lb)] = 2 + g.below(254) as u8;
+            w.number = 1;
+        }
+        _ => {
+            let at = record * g.below(s.bits_count()) + 1 + 32 * i + g.below(32);
+            w.lent.bits[at] = 1 + g.below(255) as u8;
+            // a later record's bit comes after
+            w.lent.beta[0] = 2;
+            w.number = 4;
+        }
+    }
+    w
+}
+
+/// Runs our n boxes on the inputs of a session, in lockstep as `oracle::run` has it; `tamper` is as
+/// there. `seeds` are the tossed seeds of the Rust, where they are to be compared.
+pub fn run(
+    s: &Session,
+    tamper: &mut dyn FnMut(u8, usize, usize, Vec<u8>) -> Option<Vec<u8>>,
+    care: Care,
+    g: &mut SplitMix,
+    seeds: Option<&oracle::Outcome>,
+) -> Ran {
+    let (n, l) = (s.n, s.l);
+    let work_len = ffi::work_len(n, l);
+    let mut broken = vec![];
+    let mut probes = 0;
+    let mut nanoseconds = vec![0; n];
+    let mut sent: BTreeMap<(u8, usize), Vec<u8>> = BTreeMap::new();
+    let mut ends: Vec<Option<End>> = vec![None; n];
+    let all: Vec<u8> = rounds(n).collect();
+
+    // What lies in lent memory before a call is of no account.
+    let dirt = |g: &mut SplitMix, len: usize| match care {
+        Care::Time => vec![0; len],
+        _ => g.bytes(len),
+    };
+    let mut hosts: Vec<Host> = (0..n)
+        .map(|i| Host {
+            s,
+            i,
+            session: [g.word() as usize; 4],
+            work: dirt(g, work_len),
+            out: dirt(g, ffi::out_len(n, l, 0)),
+        })
+        .collect();
+    // A session that is over answers 20 and touches nothing.
+    let over = |h: &mut Host, g: &mut SplitMix, broken: &mut Vec<String>| {
+        if ffi::due(&h.session) != 0 {
+            broken.push(format!("party {}: over, and a round is due", h.i));
+        }
+        let before = (h.session, h.work.clone(), h.out.clone());
+        let round = g.below(24);
+        let a = h.round(round, &Lent::default());
+        if a != (20, h.i) {
+            broken.push(format!(
+                "party {}: over, and answers {a:?} to round {round}",
+                h.i
+            ));
+        }
+        if before != (h.session, h.work.clone(), h.out.clone()) {
+            broken.push(format!("party {}: 20 changed memory", h.i));
+        }
+    };
+
+    for h in &mut hosts {
+        let i = h.i;
+        if care == Care::All && g.below(2) == 0 {
+            let w = spoil_opening(g, s, i);
+            let by = |len: usize, more: isize| len.checked_add_signed(more).unwrap();
+            let (work_len, out_len) = (by(h.work.len(), w.work), by(h.out.len(), w.out));
+            let (mut work, mut out) = (g.bytes(work_len), g.bytes(out_len));
+            let before = (work.clone(), out.clone());
+            let mut session = [7; 4];
+            let a = ffi::open(&mut session, w.n, w.i, w.l, &w.lent, &mut work, &mut out);
+            let (due, number) = ((w.number, w.i), w.number);
+            if answer(a) != due {
+                let a = answer(a);
+                broken.push(format!("party {i}: opening answers {a:?} and not {due:?}"));
+            }
+            if before != (work, out) || ffi::due(&session) != 0 {
+                broken.push(format!("party {i}: opening, {number} changed memory"));
+            }
+            probes += 1;
+        }
+        let before = (care != Care::Time).then(|| (h.work.clone(), h.out.clone()));
+        let start = cpu_time();
+        let (number, party) = h.open();
+        nanoseconds[i] += cpu_time() - start;
+        if number != 0 {
+            ends[i] = Some(End::Refused {
+                number,
+                round: 0,
+                party,
+            });
+            if before.is_some_and(|b| b != (h.work.clone(), h.out.clone())) {
+                broken.push(format!("party {i}: a refused opening wrote"));
+            }
+            over(h, g, &mut broken);
+            continue;
+        }
+        if care == Care::All {
+            let p = &s.parties[i];
+            let kept: [&[u8]; 7] = [
+                &p.delta,
+                &p.joint_seed,
+                &p.pair_seeds,
+                &p.masks,
+                &p.bits,
+                &p.alpha,
+                &p.beta,
+            ];
+            for (number, list) in kept.iter().enumerate() {
+                if &h.work[section(s, number)] != *list {
+                    broken.push(format!("party {i}: section {number} is not what was lent"));
+                }
+            }
+        }
+        if ffi::due(&h.session) != 1 {
+            broken.push(format!("party {i}: round 1 is not due after opening"));
+        }
+        sent.insert((1, i), h.out.clone());
+    }
+
+    for (at, &round) in all.iter().enumerate() {
+        let next = all.get(at + 1).copied();
+        let mlen = message_len(round, n, l, s.b());
+        for h in hosts.iter_mut() {
+            let i = h.i;
+            if ends[i].is_some() {
+                continue;
+            }
+            // the parts in any order, with gaps between
+            let mut t = Lent {
+                starts: vec![0; n],
+                lens: vec![0; n],
+                missing: vec![0; n],
+                ..Default::default()
+            };
+            let turn = if care == Care::All { g.below(n) } else { 0 };
+            for k in (0..n).map(|k| (k + turn) % n).filter(|k| *k != i) {
+                let slot = if i > k { i - 1 } else { i };
+                let message = (sent.get(&(round, k)))
+                    .map(|all| all[slot * mlen..][..mlen].to_vec())
+                    .and_then(|m| tamper(round, k, i, m));
+                if care == Care::All {
+                    let gap = g.below(9);
+                    t.incoming.extend(g.bytes(gap));
+                }
+                match message {
+                    Some(m) => {
+                        (t.starts[k], t.lens[k]) = (t.incoming.len(), m.len());
+                        t.incoming.extend(m);
+                    }
+                    None => {
+                        (t.starts[k], t.lens[k]) = (g.word() as usize, g.word() as usize);
+                        t.missing[k] = 1 + g.below(255) as u8;
+                    }
+                }
+            }
+            if care == Care::All {
+                (t.starts[i], t.lens[i]) = (g.word() as usize, g.word() as usize);
+                t.missing[i] = g.below(256) as u8;
+            }
+            if round == 5 {
+                t.r = s.r.clone();
+            }
+            if round == if n == 2 { 19 } else { 20 } {
+                t.perm = s.permutation.clone();
+            }
+
+            let out_len = ffi::out_len(n, l, round.into());
+            h.out = dirt(g, out_len);
+            if care == Care::All && g.below(4) == 0 {
+                let mut wrong = t.clone();
+                let (call, number) = spoil(g, s, i, round, &mut wrong);
+                let before = (h.session, h.work.clone(), h.out.clone());
+                let a = h.round(call, &wrong);
+                if a != (number, i) {
+                    broken.push(format!("party {i} round {round}: {a:?} and not {number}"));
+                }
+                if before != (h.session, h.work.clone(), h.out.clone()) {
+                    broken.push(format!("party {i} round {round}: {number} changed memory"));
+                }
+                probes += 1;
+            }
+
+            let before = (care != Care::Time).then(|| h.out.clone());
+            let start = cpu_time();
+            let (number, party) = h.round(round.into(), &t);
+            nanoseconds[i] += cpu_time() - start;
+            if number != 0 {
+                ends[i] = Some(End::Refused {
+                    number,
+                    round,
+                    party,
+                });
+                if before.is_some_and(|out| out != h.out) {
+                    broken.push(format!("party {i} round {round}: a refused call wrote"));
+                }
+                if h.work.iter().any(|byte| *byte != 0) {
+                    broken.push(format!("party {i} round {round}: work area not zero"));
+                }
+                over(h, g, &mut broken);
+                continue;
+            }
+            if let Some(outcome) = seeds.filter(|_| care == Care::All) {
+                if round == 3
+                    && outcome.joint_seeds[i].is_none_or(|its| h.work[section(s, 8)] != its)
+                {
+                    broken.push(format!("party {i}: another joint seed"));
+                }
+                if round == 5 && outcome.pair_seeds[i].concat() != h.work[section(s, 10)] {
+                    broken.push(format!("party {i}: other pairwise seeds"));
+                }
+            }
+            match next {
+                Some(next) => {
+                    if ffi::due(&h.session) != next.into() {
+                        broken.push(format!("party {i}: round {next} is not due after {round}"));
+                    }
+                    sent.insert((next, i), h.out.clone());
+                }
+                None => {
+                    ends[i] = Some(End::Done(h.out.clone()));
+                    if h.work.iter().any(|byte| *byte != 0) {
+                        broken.push(format!("party {i}: done, work area not zero"));
+                    }
+                    if care != Care::Time {
+                        over(h, g, &mut broken);
+                    }
+                }
+            }
+        }
+    }
+    Ran {
+        sent,
+        ends: ends.into_iter().map(Option::unwrap).collect(),
+        broken,
+        probes,
+        nanoseconds,
+    }
+}
+
+/// Combining alone: the three records, or number and party.
+pub fn combine(
+    n: usize,
+    i: usize,
+    count: usize,
+    triples: &[u8],
+    d: &[u8],
+    out_len: usize,
+) -> Result<Vec<u8>, (u8, usize)> {
+    let mut out = vec![0xa5; out_len];
+    match answer(ffi::combine(n, i, count, triples, d, &mut out)) {
+        (0, 0) => Ok(out),
+        refused => {
+            assert!(
+                out.iter().all(|byte| *byte == 0xa5),
+                "a refused combining wrote"
+            );
+            Err(refused)
+        }
+    }
+}
+
+/// Opening with l = 0: the answer.
+pub fn open_nothing(s: &Session, i: usize) -> (u8, usize) {
+    let mut h = Host {
+        s,
+        i,
+        session: [7; 4],
+        work: vec![],
+        out: vec![],
+    };
+    h.open()
+}
