@@ -22,7 +22,7 @@ ghost use Rattle.rounds.specs.FaultLaws.{Finds, faultAt};
 ghost use Rattle.haand.specs.Given.{Ranges, Work, Starts};
 ghost use Rattle.flaand.specs.Given.{Hashes, Kept};
 ghost use Rattle.flaand.specs.Laws.{opens, openFault, summed};
-ghost use Rattle.flaand.specs.HLaws.{term, hashesAt, maskedAt};
+ghost use Rattle.flaand.specs.HLaws.{term, zTerm, hashesAt, maskedAt};
 use block::Block;
 use rounds::Fault;
 
@@ -458,20 +458,19 @@ pub fn keep_es(
 
 // ---- round 15: h
 
-// What a party of e and u adds: the MAC and the key of z, and u where x is 1. The key of z is r's, plus delta where e is 1.
-fn term(recs: &[u8], at: usize, k: usize, x: bool, delta: Block, e: bool, u: Block) -> Block
+// What a party of e adds: the MAC and the key of z. The key of z is r's, plus delta where e is 1.
+fn term(recs: &[u8], at: usize, k: usize, delta: Block, e: bool) -> Block
     requires { ⌜ (k < 8) × (at + recordLen (k + 1) ≤ length (now recs)) ⌝ }
-    ensures { λ r. ⌜ r ≡ blocks .op (blocks .op (macAt (now (recs .entry)) at k) (blocks .op (keyAt (now (recs .entry)) at k) (sel blocks e delta))) (sel blocks x u) ⌝ }
+    ensures { λ r. ⌜ r ≡ blocks .op (macAt (now (recs .entry)) at k) (blocks .op (keyAt (now (recs .entry)) at k) (sel blocks e delta)) ⌝ }
 {
     let z_key = share::key_at(recs, at, k).0.xor(delta.const_mul(e));
-    share::mac_at(recs, at, k).0.xor(z_key).xor(u.const_mul(x))
+    share::mac_at(recs, at, k).0.xor(z_key)
 }
 
-// What party k adds to h at position t; zero for the own number. The r record is at `at`.
-fn h_term(
+// The same of party k at position t; zero for the own number. The r record is at `at`.
+fn z_term(
     recs: &[u8],
     at: usize,
-    x: bool,
     delta: Block,
     incoming: &[u8],
     starts: &[usize],
@@ -485,7 +484,7 @@ fn h_term(
     requires { ⌜ (n ≤ 8) × ((k < n) × (t < Plan.leaky l)) ⌝ }
     requires { ⌜ at + recordLen n ≤ length (now recs) ⌝ }
     requires { ⌜ Mail.Arrived n i (8 + Plan.leaky l * 17) (now incoming) (now starts) (now lens) ⌝ }
-    ensures { λ r. ⌜ r ≡ sel blocks (neq i k) (term (now (recs .entry)) at x delta
+    ensures { λ r. ⌜ r ≡ sel blocks (neq i k) (zTerm (now (recs .entry)) at delta
         (Mail.letter (now (incoming .entry)) (now (starts .entry)) (now (lens .entry))) t k) ⌝ }
 {
     if k == i {
@@ -493,11 +492,84 @@ fn h_term(
     }
     let m = rounds::letter(incoming, starts, lens, k);
     let e = block::bit(m, 8 + t * 17);
-    let u = block::load(m, 8 + t * 17 + 1);
-    term(recs, at, k, x, delta, e, u)
+    term(recs, at, k, delta, e)
 }
 
-// What all others add.
+// The same of all others.
+fn z_terms(
+    recs: &[u8],
+    at: usize,
+    delta: Block,
+    incoming: &[u8],
+    starts: &[usize],
+    lens: &[usize],
+    n: usize,
+    i: usize,
+    l: usize,
+    t: usize,
+) -> Block
+    requires { ⌜ (n ≤ 8) × (t < Plan.leaky l) ⌝ }
+    requires { ⌜ at + recordLen n ≤ length (now recs) ⌝ }
+    requires { ⌜ Mail.Arrived n i (8 + Plan.leaky l * 17) (now incoming) (now starts) (now lens) ⌝ }
+    ensures { λ r. ⌜ r ≡ others blocks i n (zTerm (now (recs .entry)) at delta
+        (Mail.letter (now (incoming .entry)) (now (starts .entry)) (now (lens .entry))) t) ⌝ }
+{
+    let mut sum = Block::zero();
+    let mut k = 0;
+    while k < n {
+        sum = sum.xor(z_term(recs, at, delta, incoming, starts, lens, n, i, l, t, k));
+        k += 1;
+    }
+    sum
+}
+
+// The u that party k sent at position t; zero for the own number.
+fn u_told(
+    incoming: &[u8],
+    starts: &[usize],
+    lens: &[usize],
+    n: usize,
+    i: usize,
+    l: usize,
+    k: usize,
+    t: usize,
+) -> Block
+    requires { ⌜ (k < n) × (t < Plan.leaky l) ⌝ }
+    requires { ⌜ Mail.Arrived n i (8 + Plan.leaky l * 17) (now incoming) (now starts) (now lens) ⌝ }
+    ensures { λ r. ⌜ r ≡ sel blocks (neq i k) (F.uTold (Mail.letter (now (incoming .entry)) (now (starts .entry)) (now (lens .entry))) k t) ⌝ }
+{
+    if k == i {
+        return Block::zero();
+    }
+    let m = rounds::letter(incoming, starts, lens, k);
+    block::load(m, 8 + t * 17 + 1)
+}
+
+// The sum of the others' u.
+fn u_sum(
+    incoming: &[u8],
+    starts: &[usize],
+    lens: &[usize],
+    n: usize,
+    i: usize,
+    l: usize,
+    t: usize,
+) -> Block
+    requires { ⌜ t < Plan.leaky l ⌝ }
+    requires { ⌜ Mail.Arrived n i (8 + Plan.leaky l * 17) (now incoming) (now starts) (now lens) ⌝ }
+    ensures { λ r. ⌜ r ≡ others blocks i n (λ k. F.uTold (Mail.letter (now (incoming .entry)) (now (starts .entry)) (now (lens .entry))) k t) ⌝ }
+{
+    let mut sum = Block::zero();
+    let mut k = 0;
+    while k < n {
+        sum = sum.xor(u_told(incoming, starts, lens, n, i, l, k, t));
+        k += 1;
+    }
+    sum
+}
+
+// What all others add to h: the MACs and keys of z, and u where x is 1. x is multiplied once, behind the loops: in a loop it would be the same in every
+// turn, and the compiler would make a branch of it.
 fn h_terms(
     recs: &[u8],
     at: usize,
@@ -517,13 +589,9 @@ fn h_terms(
     ensures { λ r. ⌜ r ≡ others blocks i n (term (now (recs .entry)) at x delta
         (Mail.letter (now (incoming .entry)) (now (starts .entry)) (now (lens .entry))) t) ⌝ }
 {
-    let mut sum = Block::zero();
-    let mut k = 0;
-    while k < n {
-        sum = sum.xor(h_term(recs, at, x, delta, incoming, starts, lens, n, i, l, t, k));
-        k += 1;
-    }
-    sum
+    let zs = z_terms(recs, at, delta, incoming, starts, lens, n, i, l, t);
+    let us = u_sum(incoming, starts, lens, n, i, l, t);
+    zs.xor(us.const_mul(x))
 }
 
 // The sums of G over the x keys and over the x MACs.

@@ -1,61 +1,43 @@
--- The loop's invariant: the sum has the first k parties.
-use mathlib.Core.Path.{_≡_, ap, _∙_}
-use mathlib.Core.Bool.{Bool}
-use mathlib.Core.List.{List}
-use Prim.Native.Nat.{ℕ, _-_, _≤_}
-use native.Mathlib.Omega.{arith}
+use mathlib.Core.Path.{_≡_, ap, ap₂, _∙_}
 use denote.Ref.{now}
-use Rattle.algebra.specs.Sum.{others}
-use Rattle.block.specs.declared.Block.{Block}
+use Rattle.algebra.specs.Group.{XorGroup, sel}
 use Rattle.block.specs.Group.{blocks}
 use Rattle.rounds.specs.Mail.{letter}
-use Rattle.rounds.specs.Loops.{others-none, others-turn}
-use Rattle.flaand.specs.HLaws.{term}
+use Rattle.flaand.specs.HLaws.{terms-apart}
 use borrow.Author.Needs.{needs}
 use Rattle.flaand.proofs.h_terms.Statement.{statement}
 use Rattle.flaand.proofs.h_terms.Tie as tie
+use Rattle.flaand.proofs.h_terms.Reads as reads
+use Rattle.flaand.proofs.h_terms.Lts as lts
+use Rattle.block.proofs.Block.const_mul.Reads as const-mul-reads
+use Rattle.block.proofs.Block.xor.Reads as xor-reads
+use Rattle.flaand.proofs.u_sum.Reads as u-sum-reads
+use Rattle.flaand.proofs.z_terms.Reads as z-terms-reads
 
--- what party k adds
-abbrev told : List ℕ → ℕ → Bool → Block → List ℕ → List ℕ → List ℕ → ℕ → ℕ → Block
-told recs at x delta incoming starts lens t = term recs at x delta (letter incoming starts lens) t
+-- src/lib.rt:592:9
+z-terms-requires : tie.Need-z-terms-requires
+z-terms-requires c κs = search needs
 
-abbrev Inv-loop : tie.InvT-loop
-Inv-loop recs at x delta incoming starts lens n i l t sum₀ k₀ sum k = (k ≤ n) × (sum ≡ others blocks i k (told recs at x delta incoming starts lens t))
+-- src/lib.rt:593:9
+u-sum-requires : tie.Need-u-sum-requires
+u-sum-requires c κs = search needs
 
-abbrev μ-loop : tie.MeasureT-loop
-μ-loop recs at x delta incoming starts lens n i l t sum₀ k₀ sum k = n - k
+-- src/lib.rt:594:12
+const-mul-requires : tie.Need-const-mul-requires
+const-mul-requires c κs = search needs
 
-loop-holds : tie.Need-loop-holds Inv-loop μ-loop
-loop-holds c = (omega arith, c .zero .ensures ∙ others-none blocks _ _)
+-- src/lib.rt:594:5
+xor-requires : tie.Need-xor-requires
+xor-requires c κs = search needs
 
-h-term-requires : tie.Need-h-term-requires Inv-loop μ-loop
-h-term-requires c κs = let s = c .before .before .before .before .before .before .before in ((s .pre .0 .0, (c .loop-test .taken, s .pre .0 .1)), s .pre .1)
-
-loop-again : tie.Need-loop-again Inv-loop μ-loop
-loop-again c =
-    let l = c .before .before .before .loop in
-    let a = c .before .before .before .before .before .before .before .before .before .args in (
-      omega (arith, c .before .before),
-      c .xor .ensures ∙ others-turn blocks (a .i) (told (now (a .recs)) (a .at) (a .x) (a .delta) (now (a .incoming)) (now (a .starts)) (now (a .lens)) (a .t)) (l .k) (l .sum) _ (l .inv .1) (c .before .h-term .ensures),
-    )
-
-returns : tie.Need-returns Inv-loop μ-loop
+-- src/lib.rt:573:1
+returns : tie.Need-returns
 returns c =
-    let l = c .before .loop in
-    let a = c .before .before .before .before .before .before .before .args in
-    l .inv .1 ∙ ap (λ m. others blocks (a .i) m (told (now (a .recs)) (a .at) (a .x) (a .delta) (now (a .incoming)) (now (a .starts)) (now (a .lens)) (a .t))) (let e : l .k ≡ a .n = omega arith in e)
+    let z = c .before .before .before in
+    let a = z .before .before .before .before .before .args in
+    c .xor .ensures ∙ ap₂ (blocks .op) (z .z-terms .ensures) (c .before .const-mul .ensures ∙ ap (sel blocks (a .x)) (c .before .before .u-sum .ensures))
+    ∙ terms-apart (now (a .recs)) (a .at) (a .x) (a .delta) (letter (now (a .incoming)) (now (a .starts)) (now (a .lens))) (a .t) (a .n) (a .i)
 
 pub h-terms-spec : {M : Type 1} → statement M
 h-terms-spec =
-    tie.close
-    (tie.spec
-    Inv-loop
-    μ-loop
-    (λ c κs. search needs)
-    loop-holds
-    h-term-requires
-    (λ c κs. search needs)
-    (λ c. search needs)
-    (λ c. search needs)
-    loop-again
-    returns)
+    tie.close (tie.spec z-terms-requires u-sum-requires const-mul-requires xor-requires returns)
