@@ -261,6 +261,11 @@ struct Caller {
     got: usize,
 }
 
+/// Reset or hung up: to us both mean that the other end is gone.
+fn gone(error: &io::Error) -> bool {
+    matches!(error.kind(), ErrorKind::ConnectionReset | ErrorKind::ConnectionAborted | ErrorKind::BrokenPipe)
+}
+
 fn would_block(error: &io::Error) -> bool {
     matches!(error.kind(), ErrorKind::WouldBlock | ErrorKind::Interrupted)
 }
@@ -532,6 +537,7 @@ impl Line {
                 _ => Ok(false),
             },
             Err(error) if would_block(&error) => Ok(true),
+            Err(error) if gone(&error) => Err(Trouble::Closed { got: 0, want: 0 }),
             Err(error) => Err(Trouble::Broken(error.kind())),
         }
     }
@@ -620,11 +626,16 @@ impl Exchange {
             (Some(notice), _) => &mut notice[self.got..],
             (None, _) => &mut slot[self.got..self.len],
         };
-        let more = match line.stream.read(room) {
-            Ok(0) if self.head_got < HEAD => return Err(Trouble::Closed { got: self.head_got, want: 0 }),
-            Ok(0) => return Err(Trouble::Closed { got: self.got, want: self.len }),
+        let read = line.stream.read(room);
+        let closed = match self.head_got {
+            HEAD => Trouble::Closed { got: self.got, want: self.len },
+            got => Trouble::Closed { got, want: 0 },
+        };
+        let more = match read {
+            Ok(0) => return Err(closed),
             Ok(more) => more,
             Err(error) if would_block(&error) => return Ok(()),
+            Err(error) if gone(&error) => return Err(closed),
             Err(error) => return Err(Trouble::Broken(error.kind())),
         };
         if self.head_got == HEAD {
