@@ -12,7 +12,6 @@ use std::{
     io::{self, ErrorKind, IoSlice, Read, Write},
     net::{Shutdown, SocketAddr, TcpListener, TcpStream},
     os::fd::AsRawFd,
-    thread,
     time::{Duration, Instant},
 };
 
@@ -33,9 +32,12 @@ pub const MESSAGE: u8 = 1;
 pub const DONE: u8 = 2;
 pub const END: u8 = 3;
 /// The bytes of what an END frame carries.
-const NOTICE: usize = 4;
+const NOTICE: usize = 5;
 /// How many callers may be half way through their hello at once.
 const CALLERS: usize = 64;
+/// How long a call may ring, and how soon the next is tried.
+const CALL: Duration = Duration::from_secs(1);
+const AGAIN: Duration = Duration::from_millis(20);
 /// How long a box that ends early waits for the others to read why.
 const LINGER: Duration = Duration::from_millis(500);
 
@@ -83,6 +85,7 @@ pub fn read_head(head: &[u8; HEAD]) -> Option<(u8, usize, usize)> {
 #[derive(Clone, Copy, Debug, PartialEq, Eq)]
 pub enum Place {
     Hello,
+    Opening,
     Round(usize),
     Closing,
 }
@@ -93,6 +96,7 @@ impl Place {
         match self {
             Place::Hello => 0,
             Place::Round(round) => round as u8,
+            Place::Opening => 254,
             Place::Closing => 255,
         }
     }
@@ -100,6 +104,7 @@ impl Place {
     fn from_byte(byte: u8) -> Self {
         match byte {
             0 => Place::Hello,
+            254 => Place::Opening,
             255 => Place::Closing,
             round => Place::Round(round.into()),
         }
@@ -110,6 +115,7 @@ impl fmt::Display for Place {
     fn fmt(&self, f: &mut fmt::Formatter) -> fmt::Result {
         match self {
             Place::Hello => write!(f, "at hello"),
+            Place::Opening => write!(f, "at opening"),
             Place::Round(round) => match round_title(*round) {
                 title if title.is_empty() => write!(f, "in round {round}"),
                 title => write!(f, "in round {round} ({title})"),
@@ -119,7 +125,7 @@ impl fmt::Display for Place {
     }
 }
 
-/// Why a box ends a session, as it tells the others. They hear a number, and no text that a stranger could write.
+/// Why a box ends a session, as it tells the others. They hear numbers, and no text that a stranger could write.
 #[derive(Clone, Copy, Debug, PartialEq, Eq)]
 pub enum Cause {
     /// Its library refused; the party that the answer names.
@@ -130,8 +136,10 @@ pub enum Cause {
     Host,
 }
 
+/// What the first box that ended a session says; others pass it on as it is.
 #[derive(Clone, Copy, Debug, PartialEq, Eq)]
 pub struct Notice {
+    pub origin: usize,
     pub place: Place,
     pub cause: Cause,
 }
@@ -143,26 +151,27 @@ impl Notice {
             Cause::Line(party) => (2, 0, party.map_or(255, |party| party as u8)),
             Cause::Host => (3, 0, 255),
         };
-        [self.place.byte(), what, number, party]
+        [self.origin as u8, self.place.byte(), what, number, party]
     }
 
-    fn from_bytes([place, what, number, party]: [u8; NOTICE]) -> Self {
+    fn from_bytes([origin, place, what, number, party]: [u8; NOTICE]) -> Self {
         let cause = match what {
             1 => Cause::Refusal(Reason(number), party.into()),
             2 => Cause::Line((party != 255).then_some(party.into())),
             _ => Cause::Host,
         };
-        Notice { place: Place::from_byte(place), cause }
+        Notice { origin: origin.into(), place: Place::from_byte(place), cause }
     }
 }
 
 impl fmt::Display for Notice {
     fn fmt(&self, f: &mut fmt::Formatter) -> fmt::Result {
-        match self.cause {
-            Cause::Refusal(reason, party) => write!(f, "it refused {reason} {}, naming box {party}", self.place),
-            Cause::Line(Some(party)) => write!(f, "its line to box {party} failed {}", self.place),
-            Cause::Line(None) => write!(f, "a line of its failed {}", self.place),
-            Cause::Host => write!(f, "it had trouble of its own {}", self.place),
+        let Notice { origin, place, cause } = self;
+        match cause {
+            Cause::Refusal(reason, party) => write!(f, "box {origin} refused {reason} {place}, naming box {party}"),
+            Cause::Line(Some(party)) => write!(f, "box {origin}'s line to box {party} failed {place}"),
+            Cause::Line(None) => write!(f, "box {origin}'s lines failed {place}"),
+            Cause::Host => write!(f, "box {origin} had trouble of its own {place}"),
         }
     }
 }
@@ -238,6 +247,16 @@ impl fmt::Display for LineError {
 
 impl error::Error for LineError {}
 
+impl LineError {
+    /// What box i tells the others of it.
+    pub fn notice(&self, i: usize) -> Notice {
+        match self.trouble {
+            Trouble::Ended(notice) => notice,
+            _ => Notice { origin: i, place: self.place, cause: Cause::Line(self.peer) },
+        }
+    }
+}
+
 /// A line to another box.
 struct Line {
     stream: TcpStream,
@@ -282,7 +301,7 @@ impl Lines {
             Err(error) => {
                 // Those that we know of but have no line to yet get to hear of it too.
                 lines.lines.extend(callers.into_iter().map(|caller| Some(Line { stream: caller.stream, mid_frame: false })));
-                lines.end(Notice { place: Place::Hello, cause: Cause::Line(error.peer) });
+                lines.end(error.notice(who.i));
                 Err(error)
             }
         }
@@ -293,11 +312,9 @@ impl Lines {
         let deadline = begin + self.timeout;
         let at_hello = |peer, trouble| LineError { peer, place: Place::Hello, trouble };
         let mut strangers = 0;
-        for k in 0..self.who.i {
-            let unreachable = |error| at_hello(Some(k), Trouble::Unreachable { address: addresses[k], error });
-            let stream = call(&addresses[k], deadline).map_err(unreachable)?;
-            callers.push(self.say_hello(stream, Some(k)).map_err(|e| at_hello(Some(k), Trouble::Broken(e.kind())))?);
-        }
+        // Those still to be called, and why the last call failed. A box that starts a little later is no error.
+        let mut absent: Vec<(usize, ErrorKind)> = (0..self.who.i).map(|k| (k, ErrorKind::TimedOut)).collect();
+        let mut next_call = begin;
         let own = |error: io::Error| at_hello(None, Trouble::Listener(error.kind()));
         listener.set_nonblocking(true).map_err(own)?;
 
@@ -305,12 +322,39 @@ impl Lines {
         while let Some(missing) = (0..self.who.n).find(|k| *k != self.who.i && self.lines[*k].is_none()) {
             let Some(rest) = deadline.checked_duration_since(Instant::now()) else {
                 let waited = begin.elapsed();
+                if let Some((k, error)) = absent.first() {
+                    return Err(at_hello(Some(*k), Trouble::Unreachable { address: addresses[*k], error: *error }));
+                }
                 let called = callers.iter().find(|caller| caller.expected == Some(missing));
                 return Err(match called {
                     Some(caller) => at_hello(Some(missing), Trouble::Silent { got: caller.got, want: HELLO, waited }),
                     None => at_hello(Some(missing), Trouble::NeverCalled { strangers: strangers + callers.len(), waited }),
                 });
             };
+            let mut rest = rest;
+            if !absent.is_empty() {
+                if Instant::now() >= next_call {
+                    let most = rest.clamp(Duration::from_millis(1), CALL);
+                    let mut failed = Ok(());
+                    absent.retain_mut(|(k, error)| match TcpStream::connect_timeout(&addresses[*k], most) {
+                        Ok(stream) => {
+                            let broken = |error: io::Error| at_hello(Some(*k), Trouble::Broken(error.kind()));
+                            match self.say_hello(stream, Some(*k)).map_err(broken) {
+                                Ok(caller) => callers.push(caller),
+                                Err(error) => failed = Err(error),
+                            }
+                            false
+                        }
+                        Err(refused) => {
+                            *error = refused.kind();
+                            true
+                        }
+                    });
+                    failed?;
+                    next_call = Instant::now() + AGAIN;
+                }
+                rest = rest.min(AGAIN);
+            }
             let mut waits = vec![Wait { fd: listener.as_raw_fd(), read: callers.len() < CALLERS, write: false }];
             waits.extend(callers.iter().map(|caller| Wait { fd: caller.stream.as_raw_fd(), read: true, write: false }));
             let fd = |line: &Option<Line>| line.as_ref().map_or(-1, |line| line.stream.as_raw_fd());
@@ -426,7 +470,8 @@ impl Lines {
         let mut no_room: Vec<&mut [u8]> = (0..self.who.n).map(|_| &mut [][..]).collect();
         let closing = self.frames(Place::Closing, DONE, &nothing, &mut no_room, &mut |_, _| ());
         if let Err(error) = &closing {
-            self.end(Notice { place: Place::Closing, cause: Cause::Line(error.peer) });
+            let notice = error.notice(self.who.i);
+            self.end(notice);
         }
         closing.map(|_| ())
     }
@@ -506,19 +551,6 @@ impl Lines {
             });
         }
     }
-}
-
-/// Calls an address until someone is there. A box that starts a little later is no error.
-fn call(address: &SocketAddr, deadline: Instant) -> Result<TcpStream, ErrorKind> {
-    let mut last = ErrorKind::TimedOut;
-    while let Some(rest) = deadline.checked_duration_since(Instant::now()).filter(|rest| !rest.is_zero()) {
-        match TcpStream::connect_timeout(address, rest) {
-            Ok(stream) => return Ok(stream),
-            Err(error) => last = error.kind(),
-        }
-        thread::sleep(Duration::from_millis(20).min(rest));
-    }
-    Err(last)
 }
 
 impl Line {
@@ -613,6 +645,7 @@ impl Exchange {
         line.mid_frame = self.out > 0 && !self.sent();
     }
 
+    /// Takes all that is there.
     fn receive(&mut self, line: &mut Line, slot: &mut [u8]) -> Result<(), Trouble> {
         if self.received() {
             self.watched = line.look()?;
@@ -621,35 +654,34 @@ impl Exchange {
                 _ => Ok(()),
             };
         }
-        let room = match (&mut self.notice, self.head_got) {
-            (_, got) if got < HEAD => &mut self.head_in[got..],
-            (Some(notice), _) => &mut notice[self.got..],
-            (None, _) => &mut slot[self.got..self.len],
-        };
-        let read = line.stream.read(room);
-        let closed = match self.head_got {
-            HEAD => Trouble::Closed { got: self.got, want: self.len },
-            got => Trouble::Closed { got, want: 0 },
-        };
-        let more = match read {
-            Ok(0) => return Err(closed),
-            Ok(more) => more,
-            Err(error) if would_block(&error) => return Ok(()),
-            Err(error) if gone(&error) => return Err(closed),
-            Err(error) => return Err(Trouble::Broken(error.kind())),
-        };
-        if self.head_got == HEAD {
-            self.got += more;
-        } else {
-            self.head_got += more;
-            if self.head_got == HEAD {
+        while !self.received() {
+            let in_head = self.head_got < HEAD;
+            let (room, closed) = match &mut self.notice {
+                _ if in_head => (&mut self.head_in[self.head_got..], Trouble::Closed { got: self.head_got, want: 0 }),
+                Some(notice) => (&mut notice[self.got..], Trouble::Closed { got: 0, want: 0 }),
+                None => (&mut slot[self.got..self.len], Trouble::Closed { got: self.got, want: self.len }),
+            };
+            let more = match line.stream.read(room) {
+                Ok(0) => return Err(closed),
+                Ok(more) => more,
+                Err(error) if error.kind() == ErrorKind::WouldBlock => return Ok(()),
+                Err(error) if error.kind() == ErrorKind::Interrupted => continue,
+                Err(error) if gone(&error) => return Err(closed),
+                Err(error) => return Err(Trouble::Broken(error.kind())),
+            };
+            match in_head {
+                true => self.head_got += more,
+                false => self.got += more,
+            }
+            if in_head && self.head_got == HEAD {
                 self.judge(slot.len())?;
             }
+            match self.notice {
+                Some(notice) if self.got == NOTICE => return Err(Trouble::Ended(Notice::from_bytes(notice))),
+                _ => {}
+            }
         }
-        match self.notice {
-            Some(notice) if self.got == NOTICE => Err(Trouble::Ended(Notice::from_bytes(notice))),
-            _ => Ok(()),
-        }
+        Ok(())
     }
 
     /// A whole head: is it what is due?

@@ -63,7 +63,7 @@ fn against(round: usize, outgoing: Vec<u8>, peer: impl FnOnce(TcpStream) + Send)
         let mut lines = Lines::connect(who(2, 0), &listeners[0], &[addresses[0], addresses[0]], TIMEOUT).unwrap();
         let result = exchange(&mut lines, round, &[vec![], outgoing], 100);
         if let Err(error) = &result {
-            lines.end(Notice { place: error.place, cause: Cause::Line(error.peer) });
+            lines.end(error.notice(0));
         }
         result
     });
@@ -195,7 +195,7 @@ fn a_frame_that_is_too_long_is_refused_by_its_head() {
 
 #[test]
 fn garbage_is_refused() {
-    for garbage in [*b"GET / HT", [0; HEAD], *b"NZ\x00\x0a\0\0\0\0", *b"NZ\x04\x0a\0\0\0\0", *b"NZ\x03\x0a\x05\0\0\0"] {
+    for garbage in [*b"GET / HT", [0; HEAD], *b"NZ\x00\x0a\0\0\0\0", *b"NZ\x04\x0a\0\0\0\0", *b"NZ\x03\x0a\x04\0\0\0"] {
         let result = against(10, vec![], |mut stream| {
             stream.write_all(&garbage).unwrap();
             drain(stream);
@@ -218,14 +218,14 @@ fn a_message_of_another_round_is_refused() {
 #[test]
 fn a_notice_is_passed_on() {
     let notices = [
-        ([9, 1, 7, 2], Notice { place: Place::Round(9), cause: Cause::Refusal(Reason(7), 2) }),
-        ([0, 2, 0, 255], Notice { place: Place::Hello, cause: Cause::Line(None) }),
-        ([255, 2, 0, 3], Notice { place: Place::Closing, cause: Cause::Line(Some(3)) }),
-        ([3, 3, 0, 255], Notice { place: Place::Round(3), cause: Cause::Host }),
+        ([1, 9, 1, 7, 2], Notice { origin: 1, place: Place::Round(9), cause: Cause::Refusal(Reason(7), 2) }),
+        ([4, 0, 2, 0, 255], Notice { origin: 4, place: Place::Hello, cause: Cause::Line(None) }),
+        ([1, 255, 2, 0, 3], Notice { origin: 1, place: Place::Closing, cause: Cause::Line(Some(3)) }),
+        ([1, 3, 3, 0, 255], Notice { origin: 1, place: Place::Round(3), cause: Cause::Host }),
     ];
     for (bytes, notice) in notices {
         let result = against(10, vec![], |mut stream| {
-            stream.write_all(&[&head(END, 10, 4)[..], &bytes].concat()).unwrap();
+            stream.write_all(&[&head(END, 10, 5)[..], &bytes].concat()).unwrap();
             drain(stream);
         });
         assert_eq!(trouble(result, 10), Trouble::Ended(notice));
@@ -243,8 +243,8 @@ fn a_box_that_ends_says_why() {
         stream.write_all(&head(MESSAGE, 13, 0)).unwrap();
         stream.read_to_end(&mut heard).unwrap();
     });
-    assert_eq!(read_head(heard.first_chunk().unwrap()), Some((END, 12, 4)));
-    assert_eq!(heard[HEAD..], [12, 2, 0, 1]);
+    assert_eq!(read_head(heard.first_chunk().unwrap()), Some((END, 12, 5)));
+    assert_eq!(heard[HEAD..], [0, 12, 2, 0, 1]);
 }
 
 /// With three boxes, one of which goes away in round 2: both others end, and name it or each other.
@@ -257,7 +257,7 @@ fn when_one_box_goes_away_all_end() {
                 return Ok(());
             }
             if let Err(error) = exchange(&mut lines, round, &vec![vec![1; 30]; 3], 30) {
-                lines.end(Notice { place: error.place, cause: Cause::Line(error.peer) });
+                lines.end(error.notice(i));
                 return Err(error);
             }
         }
@@ -279,7 +279,7 @@ fn closing_takes_all() {
         let mut lines = lines?;
         exchange(&mut lines, 22, &vec![vec![1; 30]; 3], 30)?;
         if i == 2 {
-            lines.end(Notice { place: Place::Round(22), cause: Cause::Refusal(Reason(12), 0) });
+            lines.end(Notice { origin: 2, place: Place::Round(22), cause: Cause::Refusal(Reason(12), 0) });
             return Ok(());
         }
         lines.close()

@@ -14,7 +14,7 @@ use nuzsdike_host::{
     files::{self, Common, Header},
     round_name, sys,
     transport::{Cause, LineError, Lines, Notice, Place, Who},
-    Inputs, Lent, Mail, Refusal, Session, Step,
+    Call, Inputs, Lent, Mail, Refusal, Session, Step,
 };
 
 const USAGE: &str = "\
@@ -135,12 +135,13 @@ fn run(options: &Options, number: &mut Option<usize>) -> Result<(), Failure> {
         }
         Err(failure) => {
             // The others wait for this box: tell them.
-            let (place, cause) = match &failure {
-                Failure::Refused(refusal) => (place(refusal), Cause::Refusal(refusal.reason, refusal.party)),
-                Failure::Line(error) => (error.place, Cause::Line(error.peer)),
-                Failure::Usage(_) | Failure::Host(_) => (Place::Hello, Cause::Host),
-            };
-            lines.end(Notice { place, cause });
+            lines.end(match &failure {
+                Failure::Refused(refusal) => {
+                    Notice { origin: i, place: place(refusal), cause: Cause::Refusal(refusal.reason, refusal.party) }
+                }
+                Failure::Line(error) => error.notice(i),
+                Failure::Usage(_) | Failure::Host(_) => Notice { origin: i, place: Place::Opening, cause: Cause::Host },
+            });
             Err(failure)
         }
     }
@@ -148,8 +149,8 @@ fn run(options: &Options, number: &mut Option<usize>) -> Result<(), Failure> {
 
 fn place(refusal: &Refusal) -> Place {
     match refusal.call {
-        nuzsdike_host::Call::Round(round) => Place::Round(round),
-        _ => Place::Hello,
+        Call::Round(round) => Place::Round(round),
+        _ => Place::Opening,
     }
 }
 
