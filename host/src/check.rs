@@ -83,7 +83,7 @@ pub fn check(plan: Plan, boxes: &[Outputs]) -> Result<Checked, Wrong> {
                     continue;
                 }
                 let key = &other.results[at + 17 + 32 * holder..][..16];
-                if !(0..16).all(|b| mac[b] == key[b] ^ other.delta[b] * bit) {
+                if !(0..16).all(|b| mac[b] == key[b] ^ (other.delta[b] * bit)) {
                     return Err(Wrong::Mac { holder, towards, position });
                 }
             }

@@ -139,7 +139,7 @@ mod tests {
                         assert_eq!(record[1 + 32 * j..][..32], [0; 32]);
                         for k in (0..n).filter(|k| *k != j) {
                             let key = block(&list(&boxes[k])[t * len..], 17 + 32 * j);
-                            let mac: [u8; 16] = std::array::from_fn(|b| key[b] ^ boxes[k].delta[b] * record[0]);
+                            let mac: [u8; 16] = std::array::from_fn(|b| key[b] ^ (boxes[k].delta[b] * record[0]));
                             assert_eq!(block(record, 1 + 32 * k), mac);
                         }
                     }

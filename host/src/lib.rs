@@ -399,9 +399,8 @@ impl Drop for Session {
 pub fn combine(n: usize, i: usize, count: usize, triples: &[u8], d: &[u8]) -> Result<Vec<u8>, Refusal> {
     let mut out = vec![0; 3 * record_len(n)];
     // Sound: as in `Session::open`.
-    let answer = unsafe {
-        ffi::nuzsdike_combine(n, i, count, triples.as_ptr(), triples.len(), d.as_ptr(), d.len(), out.as_mut_ptr(), out.len())
-    };
+    let answer =
+        unsafe { ffi::nuzsdike_combine(n, i, count, triples.as_ptr(), triples.len(), d.as_ptr(), d.len(), out.as_mut_ptr(), out.len()) };
     match answer {
         0 => Ok(out),
         _ => Err(Refusal::new(answer, Call::Combine, false)),

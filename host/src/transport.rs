@@ -180,25 +180,51 @@ impl fmt::Display for Notice {
 #[derive(Clone, Debug, PartialEq, Eq)]
 pub enum Trouble {
     /// Not all came in time: so many bytes of so many, 0 of 0 where not even a head came.
-    Silent { got: usize, want: usize, waited: Duration },
+    Silent {
+        got: usize,
+        want: usize,
+        waited: Duration,
+    },
     /// All came, but what we sent was not taken in time.
-    NotTaken { waited: Duration },
+    NotTaken {
+        waited: Duration,
+    },
     /// The other end hung up.
-    Closed { got: usize, want: usize },
+    Closed {
+        got: usize,
+        want: usize,
+    },
     Broken(ErrorKind),
-    TooLong { len: usize, most: usize },
+    TooLong {
+        len: usize,
+        most: usize,
+    },
     Garbage([u8; HEAD]),
     NoHello,
-    OutOfStep { at: Place },
+    OutOfStep {
+        at: Place,
+    },
     /// The other end ended the session.
     Ended(Notice),
-    Disagrees { on: &'static str, ours: String, theirs: String },
+    Disagrees {
+        on: &'static str,
+        ours: String,
+        theirs: String,
+    },
     /// Two boxes have this number.
     SameNumber,
     /// The box at that address is another one.
-    OtherNumber { says: usize },
-    Unreachable { address: SocketAddr, error: ErrorKind },
-    NeverCalled { strangers: usize, waited: Duration },
+    OtherNumber {
+        says: usize,
+    },
+    Unreachable {
+        address: SocketAddr,
+        error: ErrorKind,
+    },
+    NeverCalled {
+        strangers: usize,
+        waited: Duration,
+    },
     /// Our own listening socket.
     Listener(ErrorKind),
 }
@@ -535,8 +561,7 @@ impl Lines {
         let mut scratch = [0; 4096];
         let mut open: Vec<&mut Line> = self.lines.iter_mut().flatten().collect();
         while let (Some(rest), false) = (deadline.checked_duration_since(Instant::now()), open.is_empty()) {
-            let mut waits: Vec<Wait> =
-                open.iter().map(|line| Wait { fd: line.stream.as_raw_fd(), read: true, write: false }).collect();
+            let mut waits: Vec<Wait> = open.iter().map(|line| Wait { fd: line.stream.as_raw_fd(), read: true, write: false }).collect();
             if sys::wait(&mut waits, rest).is_err() {
                 break;
             }
@@ -561,9 +586,7 @@ impl Line {
             Ok(0) => Err(Trouble::Closed { got: 0, want: 0 }),
             Ok(got) if got < HEAD => Ok(true),
             Ok(got) => match read_head(bytes.first_chunk().unwrap()) {
-                Some((END, _, NOTICE)) if got == bytes.len() => {
-                    Err(Trouble::Ended(Notice::from_bytes(*bytes.last_chunk().unwrap())))
-                }
+                Some((END, _, NOTICE)) if got == bytes.len() => Err(Trouble::Ended(Notice::from_bytes(*bytes.last_chunk().unwrap()))),
                 Some((END, _, NOTICE)) => Ok(true),
                 // Judged when it is due.
                 _ => Ok(false),

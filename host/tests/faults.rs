@@ -66,8 +66,8 @@ fn a_flipped_bit_is_refused_three_boxes() {
         (3, last(3), 2, 3, 1),
         (4, last(4), 2, 5, 1),
         (5, last(5), 2, 5, 1),
-        (6, last(6), 8, 7, 1),  // a MAC, which no echo has
-        (6, 8, 7, 7, 2),        // a bit, which the echo has
+        (6, last(6), 8, 7, 1), // a MAC, which no echo has
+        (6, 8, 7, 7, 2),       // a bit, which the echo has
         (7, last(7), 7, 7, 1),
         (8, last(8), 7, 9, 2),
         (9, last(9), 7, 9, 1),
@@ -75,9 +75,9 @@ fn a_flipped_bit_is_refused_three_boxes() {
         (11, last(11), 7, 11, 1),
         (12, last(12), 7, 13, 2),
         (13, last(13), 7, 13, 1),
-        (14, 8 + x, 10, 20, 0),             // the bit that box 0 takes
-        (15, 8, 7, 16, 2),                  // e
-        (15, 8 + 17 * one + 1, 10, 20, 0),  // u, where x is 1
+        (14, 8 + x, 10, 20, 0),            // the bit that box 0 takes
+        (15, 8, 7, 16, 2),                 // e
+        (15, 8 + 17 * one + 1, 10, 20, 0), // u, where x is 1
         (16, last(16), 7, 16, 1),
         (17, last(17), 7, 18, 2),
         (18, last(18), 7, 18, 1),
@@ -131,7 +131,10 @@ fn a_flipped_count_is_refused() {
     let ends = flipped(&deal, 14, 0);
     let errors = errors(&ends);
     has(errors[0], &["refused 13 Undecodable in round 14 (haand), names box 1"]);
-    has(errors[1], &["line to box 0 failed", "it ended the session, because box 0 refused 13 Undecodable in round 14 (haand), naming box 1"]);
+    has(
+        errors[1],
+        &["line to box 0 failed", "it ended the session, because box 0 refused 13 Undecodable in round 14 (haand), naming box 1"],
+    );
     let ends = flipped(&Deal::new(2, 1, 24), 14, 0); // 5 become 4
     has(ends[0].error(), &["refused 6 InvalidLength in round 14 (haand), names box 1"]);
 }
@@ -183,7 +186,8 @@ fn a_truncated_frame_and_silence() {
     let errors = errors(&ends);
     // Whose time is up first is open: box 1 waits for box 0 too, a round later.
     let error = errors[0];
-    let named = error.starts_with("line to box 1 failed in round 10 (fashare ver): it ") && error.contains(" 92 of 1648 bytes of a message");
+    let named =
+        error.starts_with("line to box 1 failed in round 10 (fashare ver): it ") && error.contains(" 92 of 1648 bytes of a message");
     assert!(named || error.contains("ended the session"), "{error}");
 }
 
@@ -423,7 +427,10 @@ fn inputs_that_opening_refuses() {
     let errors = errors(&ends);
     has(errors[1], &["refused 1 InvalidBitValue at opening, names box 1"]);
     for error in [errors[0], errors[2]] {
-        has(error, &["failed in round 1 (RNG comm): it ended the session, because box 1 refused 1 InvalidBitValue at opening, naming box 1"]);
+        has(
+            error,
+            &["failed in round 1 (RNG comm): it ended the session, because box 1 refused 1 InvalidBitValue at opening, naming box 1"],
+        );
     }
 }
 

@@ -8,10 +8,7 @@ use nuzsdike_host::{
 };
 
 fn lent(plan: Plan, round: usize, common: &Common) -> Lent<'_> {
-    Lent {
-        r: if plan.r_len(round) != 0 { &common.r } else { &[] },
-        perm: if plan.perm_len(round) != 0 { &common.perm } else { &[] },
-    }
+    Lent { r: if plan.r_len(round) != 0 { &common.r } else { &[] }, perm: if plan.perm_len(round) != 0 { &common.perm } else { &[] } }
 }
 
 /// All boxes of a session in memory, in step.
@@ -304,11 +301,11 @@ fn refusals_say_what_and_where() {
     mail.mark_missing(2);
     let refusal = run.call(0, &mail).err().unwrap();
     assert_eq!(refusal, Refusal { reason: Reason(14), party: 2, call: Call::Round(9), over: true });
+    assert_eq!(refusal.to_string(), "refused 14 MissingMessage in round 9 (echo of fashare comm), names box 2: a message is missing");
     assert_eq!(
-        refusal.to_string(),
-        "refused 14 MissingMessage in round 9 (echo of fashare comm), names box 2: a message is missing"
+        (Reason(7).name(), Reason(20).name(), Reason(21).name(), Reason(0).name()),
+        ("InconsistentBroadcast", "SessionOver", "Unknown", "Unknown")
     );
-    assert_eq!((Reason(7).name(), Reason(20).name(), Reason(21).name(), Reason(0).name()), ("InconsistentBroadcast", "SessionOver", "Unknown", "Unknown"));
 }
 
 // ---- combining

@@ -103,7 +103,7 @@ fn main() -> ExitCode {
 
 fn run(options: &Options, number: &mut Option<usize>) -> Result<(), Failure> {
     let begin = Instant::now();
-    let (header, inputs) = files::load(&options.inputs, |file| files::read_inputs(file))?;
+    let (header, inputs) = files::load(&options.inputs, files::read_inputs)?;
     *number = Some(header.i);
     let common = common(&options.common, header)?;
     let Header { n, i, l, id, .. } = header;
@@ -156,7 +156,7 @@ fn place(refusal: &Refusal) -> Place {
 
 /// What all boxes have in common, of the same deal as the inputs.
 fn common(path: &Path, inputs: Header) -> Result<Common, Failure> {
-    let (header, common) = files::load(path, |file| files::read_common(file))?;
+    let (header, common) = files::load(path, files::read_common)?;
     match (header.n, header.l, header.id) == (inputs.n, inputs.l, inputs.id) {
         true => Ok(common),
         false => Err(Failure::Host(format!("{} belongs to another deal than the inputs", path.display()))),

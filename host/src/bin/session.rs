@@ -240,15 +240,14 @@ fn introduce(boxes: &mut Boxes, addresses: &str) {
 fn verdict(plan: Plan, folder: &Folder) -> Result<Checked, String> {
     let mut parts = vec![];
     for i in 0..plan.n {
-        let (_, inputs) = files::load(&folder.inputs(i), |file| files::read_inputs(file)).map_err(|error| error.to_string())?;
-        let (header, results) = files::load(&folder.results(i), |file| files::read_results(file)).map_err(|error| error.to_string())?;
+        let (_, inputs) = files::load(&folder.inputs(i), files::read_inputs).map_err(|error| error.to_string())?;
+        let (header, results) = files::load(&folder.results(i), files::read_results).map_err(|error| error.to_string())?;
         if (header.plan(), header.i) != (plan, i) {
             return Err(format!("the results of box {i} are another's"));
         }
         parts.push((inputs.delta, inputs.alpha.clone(), inputs.beta.clone(), results));
     }
-    let outputs: Vec<Outputs> =
-        parts.iter().map(|(delta, alpha, beta, results)| Outputs { delta, alpha, beta, results }).collect();
+    let outputs: Vec<Outputs> = parts.iter().map(|(delta, alpha, beta, results)| Outputs { delta, alpha, beta, results }).collect();
     check::check(plan, &outputs).map_err(|wrong| wrong.to_string())
 }
 

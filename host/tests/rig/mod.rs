@@ -55,7 +55,7 @@ impl Deal {
 
     /// Box i's bit in a record of the list of bits.
     pub fn bit(&self, i: usize, record: usize) -> u8 {
-        let (_, inputs) = files::load(&self.inputs(i), |file| files::read_inputs(file)).unwrap();
+        let (_, inputs) = files::load(&self.inputs(i), files::read_inputs).unwrap();
         inputs.bits[record * nuzsdike_host::record_len(self.plan.n)]
     }
 }
@@ -187,16 +187,14 @@ pub fn end(boxes: Vec<Process>) -> Vec<Ended> {
 /// The checker's word about results.
 pub fn verdict(deal: &Deal, results: &[PathBuf]) -> Result<Checked, String> {
     let load = |i: usize| {
-        let (_, inputs) = files::load(&deal.inputs(i), |file| files::read_inputs(file)).unwrap();
-        let (header, records) = files::load(&results[i], |file| files::read_results(file)).map_err(|error| error.to_string())?;
+        let (_, inputs) = files::load(&deal.inputs(i), files::read_inputs).unwrap();
+        let (header, records) = files::load(&results[i], files::read_results).map_err(|error| error.to_string())?;
         assert_eq!((header.n, header.i, header.l), (deal.plan.n, i, deal.plan.l));
         Ok((inputs, records))
     };
     let parts: Vec<_> = (0..deal.plan.n).map(load).collect::<Result<_, String>>()?;
-    let outputs: Vec<Outputs> = parts
-        .iter()
-        .map(|(inputs, results)| Outputs { delta: &inputs.delta, alpha: &inputs.alpha, beta: &inputs.beta, results })
-        .collect();
+    let outputs: Vec<Outputs> =
+        parts.iter().map(|(inputs, results)| Outputs { delta: &inputs.delta, alpha: &inputs.alpha, beta: &inputs.beta, results }).collect();
     check::check(deal.plan, &outputs).map_err(|wrong| wrong.to_string())
 }
 
@@ -247,12 +245,7 @@ fn read_frames(mut from: TcpStream, forth: bool, sender: Sender<(bool, Vec<u8>)>
     let _ = sender.send((forth, vec![]));
 }
 
-fn forward(
-    caller: TcpStream,
-    callee: TcpStream,
-    frames: Receiver<(bool, Vec<u8>)>,
-    mut tamper: impl FnMut(bool, usize, &[u8]) -> Act,
-) {
+fn forward(caller: TcpStream, callee: TcpStream, frames: Receiver<(bool, Vec<u8>)>, mut tamper: impl FnMut(bool, usize, &[u8]) -> Act) {
     let mut stalled = [false; 2];
     for (forth, bytes) in frames {
         let mut to = if forth { &callee } else { &caller };
