@@ -19,7 +19,7 @@ use std::{
 use nuzsdike_host::{
     check::{self, Checked, Outputs},
     dealer, files,
-    transport::{read_head, HEAD, HELLO},
+    transport::{head, read_head, HEAD, HELLO, MESSAGE},
     Plan,
 };
 
@@ -209,8 +209,8 @@ pub enum Act {
     Stall(Vec<u8>),
 }
 
-/// A line in between: whoever calls `address` gets through to `target`. `tamper` sees each frame, with whether the caller sent it, and its
-/// round.
+/// A line in between: whoever calls `address` gets through to `target`. `tamper` sees each message's frame, with whether the caller sent it, and
+/// its round.
 pub fn detour(target: SocketAddr, tamper: impl FnMut(bool, usize, &[u8]) -> Act + Send + 'static) -> SocketAddr {
     let listener = TcpListener::bind("127.0.0.1:0").unwrap();
     let address = listener.local_addr().unwrap();
@@ -258,8 +258,9 @@ fn forward(caller: TcpStream, callee: TcpStream, frames: Receiver<(bool, Vec<u8>
                 let _ = to.shutdown(Shutdown::Write);
                 continue;
             }
-            HELLO => Act::Pass, // no frame of these tests is as long
-            _ => tamper(forth, usize::from(bytes[3]), &bytes),
+            HELLO if bytes[..2] != head(MESSAGE, 0, 0)[..2] => Act::Pass,
+            _ if bytes[2] == MESSAGE => tamper(forth, usize::from(bytes[3]), &bytes),
+            _ => Act::Pass,
         };
         let (bytes, act) = match act {
             Act::Pass => (bytes, Act::Pass),
