@@ -1,5 +1,5 @@
-# Reads host/microscope/allowed and then memcheck's logs: lists every kind of report once, with its reason, and fails if one has none.
-# A line of `allowed` is: jump or address, the call (open, or round K), the function, and behind a bar the reason.
+# Reads host/microscope/allowed and then memcheck's logs: lists each function that has a report, by call, with its reason, and fails if one has
+# none or has another number of places.
 
 FILENAME == ARGV[1] {
     if ($0 ~ /^[ \t]*(#|$)/) next
@@ -7,6 +7,10 @@ FILENAME == ARGV[1] {
     words = substr($0, 1, bar - 1)
     gsub(/[ \t]+/, " ", words)
     sub(/ $/, "", words)
+    count = words
+    sub(/.* /, "", count)
+    sub(/ [^ ]*$/, "", words)
+    due[words] = count + 0
     reason[words] = substr($0, bar + 2)
     next
 }
@@ -22,21 +26,23 @@ kind && /    at 0x/ {
     sub(/.*at /, "", address)
     sub(/:.*/, "", address)
     key = kind " " call " " where
-    if (!((key, address) in seen)) { seen[key, address] = 1; places[key]++ }
+    if (!((key, address) in seen)) { seen[key, address] = 1; places[key]++; found[key] = found[key] " " address }
     kind = ""
     next
 }
 # anything else that memcheck says (an invalid read, say) is no question of secrets, and worse
-/Invalid (read|write)|Jump to the invalid address|points to uninitialised|are definitely lost/ { print "memcheck: " $0; bad = 1 }
+/Invalid (read|write)|Jump to the invalid address|points to uninitialised/ { print "memcheck: " $0; bad = 1 }
 
 END {
     for (key in places) {
-        ok = key in reason
-        if (!ok) bad = 1
-        printf "%-70s %3d places  %s\n", key, places[key], ok ? reason[key] : "NOT ALLOWED" | "sort"
+        if (!(key in due)) verdict = "NOT ALLOWED:" found[key]
+        else if (due[key] != places[key]) verdict = "NOT ALLOWED: " due[key] " places are named, these were seen:" found[key]
+        else verdict = reason[key]
+        if (verdict ~ /^NOT ALLOWED/) bad = 1
+        printf "%-40s %2d  %s\n", key, places[key], verdict | "sort"
     }
     close("sort")
-    for (key in reason) if (!(key in places)) { print "stale: " key " was not seen"; bad = 1 }
-    print sessions " sessions under memcheck: " (bad ? "NOT all named" : "every jump and address that depends on a secret is named")
+    for (key in due) if (!(key in places)) { print "not seen any more: " key; bad = 1 }
+    print sessions " sessions under memcheck: " (bad ? "NOT every jump and address that depends on a secret is named" : "every jump and address that depends on a secret is named")
     exit bad
 }

@@ -131,14 +131,14 @@ fn a_flipped_bit_is_refused_two_boxes() {
 }
 
 /// Two boxes have no echoes, and what a box of two is sent in rounds 8 and 10 is not all used. The bit of a dm is: with a wrong one box 0 opens the
-/// wrong key, and box 1 refuses that.
+/// wrong key, which is no MAC of box 1's.
 #[test]
 fn a_flipped_bit_of_a_dm_is_refused_by_its_sender() {
     let deal = Deal::new(2, 3, 22);
     let ends = flipped(&deal, 10, 16); // behind two counts
     let errors = errors(&ends);
-    has(errors[1], &["refused 2 CommitmentCouldNotBeOpened in round 12 (fashare di_bi), names box 0"]);
-    has(errors[0], &["it ended the session, because box 1 refused 2 CommitmentCouldNotBeOpened in round 12 (fashare di_bi), naming box 0"]);
+    has(errors[1], &["refused 9 AShareWrongMAC in round 12 (fashare di_bi), names box 0"]);
+    has(errors[0], &["it ended the session, because box 1 refused 9 AShareWrongMAC in round 12 (fashare di_bi), naming box 0"]);
 }
 
 /// A bit of the count: what follows does not decode by it, or is too little.
