@@ -178,19 +178,18 @@ fn addresses(list: &str, n: usize) -> Result<Vec<SocketAddr>, Failure> {
 struct Totals {
     sent: usize,
     received: usize,
-    /// The time in the library's calls.
+    /// The CPU time of the library's calls.
     calls: Duration,
 }
 
 /// The session itself: opening, and then one exchange and one call for each round.
 fn session(header: Header, inputs: Inputs, common: &Common, lines: &mut Lines) -> Result<(Vec<u8>, Totals), Failure> {
     let (i, plan) = (header.i, header.plan());
-    let begin = Instant::now();
+    let (begin, cpu) = (Instant::now(), sys::cpu_time());
     let (mut session, mut outgoing) = Session::open(plan, i, &inputs).map_err(Failure::Refused)?;
-    let opening = begin.elapsed();
+    let mut totals = Totals { sent: 0, received: 0, calls: sys::cpu_time() - cpu };
+    println!("box {i} opened call {:.6}", begin.elapsed().as_secs_f64());
     drop(inputs); // the work area has them now
-    println!("box {i} opened call {:.6}", opening.as_secs_f64());
-    let mut totals = Totals { sent: 0, received: 0, calls: opening };
     loop {
         let round = session.due();
         let mut mail = Mail::new(plan, i, round);
@@ -210,20 +209,22 @@ fn session(header: Header, inputs: Inputs, common: &Common, lines: &mut Lines) -
         let (sent, received) = (outgoing.messages().iter().map(|m| m.len()).sum::<usize>(), lens.iter().sum::<usize>());
         drop(outgoing);
 
-        let begin = Instant::now();
+        let (begin, cpu) = (Instant::now(), sys::cpu_time());
         let lent = Lent {
             r: if plan.r_len(round) != 0 { &common.r } else { &[] },
             perm: if plan.perm_len(round) != 0 { &common.perm } else { &[] },
         };
         let step = session.round(&mail, lent).map_err(Failure::Refused)?;
-        let call = begin.elapsed();
+        let (call, cpu) = (begin.elapsed(), sys::cpu_time() - cpu);
         println!(
             "box {i} round {round} sent {sent} received {received} wait {:.6} call {:.6} name {}",
             wait.as_secs_f64(),
             call.as_secs_f64(),
             round_name(round)
         );
-        totals = Totals { sent: totals.sent + sent, received: totals.received + received, calls: totals.calls + call };
+        totals.sent += sent;
+        totals.received += received;
+        totals.calls += cpu;
         match step {
             Step::Send(next) => outgoing = next,
             Step::Done(results) => return Ok((results, totals)),

@@ -382,9 +382,22 @@ impl View {
     }
 }
 
-/// Roughly what a round costs, so that the bar moves evenly; nothing else depends on it.
+/// Roughly what a round takes, with reading and opening in round 1: tenths of a second at n = 3, l = 100,000. It only makes the bar move evenly.
 fn cost(plan: Plan, round: usize) -> f64 {
-    (plan.message_len(round) * (plan.n - 1)) as f64 + 1.0
+    match round {
+        1 => 17.0,
+        5 => 9.0,
+        12 if plan.n == 2 => 12.0, // no echo: its call does what 13's does else
+        13 => 12.0,
+        14 => 7.0,
+        15 | 16 => 4.0,
+        17 => 5.0,
+        19 => 7.0,
+        20 => 2.0,
+        21 => 9.0,
+        22 => 4.0,
+        _ => 0.1,
+    }
 }
 
 fn seconds(time: Duration) -> String {
