@@ -218,7 +218,7 @@ fn a_shortened_message_is_refused() {
     });
     let errors = errors(&ends);
     has(errors[0], &["refused 13 Undecodable in round 10 (fashare ver), names box 1"]);
-    has(errors[1], &["line to box 0 failed", "box 0 refused 13 Undecodable in round 10 (fashare ver), naming box 1"]);
+    has(errors[1], &["it ended the session, because box 0 refused 13 Undecodable in round 10 (fashare ver), naming box 1"]);
     has(errors[2], &["ended the session"]);
 }
 

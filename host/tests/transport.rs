@@ -247,7 +247,7 @@ fn a_box_that_ends_says_why() {
     assert_eq!(heard[HEAD..], [0, 12, 2, 0, 1]);
 }
 
-/// With three boxes, one of which goes away in round 2: both others end, and name it or each other.
+/// With three boxes, one of which goes away after round 1: both others end, and name it or each other.
 #[test]
 fn when_one_box_goes_away_all_end() {
     let results = boxes(3, |i, lines| {
@@ -265,7 +265,8 @@ fn when_one_box_goes_away_all_end() {
     });
     for i in [0, 2] {
         let error = results[i].clone().unwrap_err();
-        assert_eq!(error.place, Place::Round(2));
+        // It may be seen while the other one's message of round 1 is still awaited.
+        assert!([Place::Round(1), Place::Round(2)].contains(&error.place), "{error}");
         let gone = matches!(error.trouble, Trouble::Closed { .. }) && error.peer == Some(1);
         let told = matches!(error.trouble, Trouble::Ended(Notice { cause: Cause::Line(Some(1)), .. }));
         assert!(gone || told, "{error}");
