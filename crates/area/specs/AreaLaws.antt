@@ -98,17 +98,14 @@ module _ (n l : ℕ) (r : InRange n l) where
                                             (
                                               omega arith,
                                               (
-                                                omega arith,
+                                                omega (arith, by-result (bucketSize l - 1) (let h : bucketSize l - 1 ≤ 4 = omega (arith, bucket-high l) in h)),
                                                 (
-                                                  omega (arith, by-result (bucketSize l - 1) (let h : bucketSize l - 1 ≤ 4 = omega (arith, bucket-high l) in h)),
+                                                  omega (arith, by-result (2 * recordLen n) (let h : 2 * recordLen n ≤ 514 = omega arith in h)),
                                                   (
-                                                    omega (arith, by-result (2 * recordLen n) (let h : 2 * recordLen n ≤ 514 = omega arith in h)),
+                                                    omega arith,
                                                     (
                                                       omega arith,
-                                                      (
-                                                        omega arith,
-                                                        tt,
-                                                      ),
+                                                      tt,
                                                     ),
                                                   ),
                                                 ),

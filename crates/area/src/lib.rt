@@ -1,17 +1,18 @@
 // The work area's layout (docs/WORK_AREA.md; crates/rounds, Area): how long each section is, where it starts, and how long the whole is. All of it
 // goes by n and l, which are public, and not by the own number i.
 ghost use mathlib.Core.Path.{_≡_};
-ghost use Prim.Native.Nat.{ℕ, _≤_};
+ghost use Prim.Native.Nat.{ℕ, _≤_, _<_};
+ghost use lib.ListN.{length};
 ghost use Rattle.lists.specs.Pick.{pick};
 ghost use Rattle.plan.specs.Plan.{inRange, InRange};
 ghost use Rattle.engine.specs.Step.{frame};
 ghost use Rattle.engine.specs.Area.{off};
-ghost use Rattle.rounds.specs.Area.{sizeOf, workLen};
+ghost use Rattle.rounds.specs.Area.{sizeOf, workLen, at};
 
-// The bytes of section s; 25 is the end.
+// The bytes of section s; 24 is the end.
 pub fn section_len(n: usize, l: usize, s: usize) -> usize
     requires { ⌜ InRange n l ⌝ }
-    requires { ⌜ s ≤ 25 ⌝ }
+    requires { ⌜ s ≤ 24 ⌝ }
     ensures { λ r. ⌜ r ≡ sizeOf (frame n l 0) s ⌝ }
 {
     let leaky = plan::leaky(l);
@@ -36,12 +37,11 @@ pub fn section_len(n: usize, l: usize, s: usize) -> usize
         16 => n * leaky,
         17 => leaky * 16,
         18 => n * (leaky * 32),
-        19 => leaky,
-        20 => leaky * 4,
-        21 => l * (plan::bucket_size(l) - 1),
-        22 => l * (2 * record),
-        23 => 2,
-        24 => n * 16,
+        19 => leaky * 4,
+        20 => l * (plan::bucket_size(l) - 1),
+        21 => l * (2 * record),
+        22 => 2,
+        23 => n * 16,
         _ => 0,
     }
 }
@@ -49,7 +49,7 @@ pub fn section_len(n: usize, l: usize, s: usize) -> usize
 // Where section s starts.
 pub fn section_at(n: usize, l: usize, s: usize) -> usize
     requires { ⌜ InRange n l ⌝ }
-    requires { ⌜ s ≤ 25 ⌝ }
+    requires { ⌜ s ≤ 24 ⌝ }
     ensures { λ r. ⌜ r ≡ off (sizeOf (frame n l 0)) s ⌝ }
 {
     let mut at = 0;
@@ -66,8 +66,19 @@ pub fn work_len(n: usize, l: usize) -> usize
     ensures { λ r. ⌜ r ≡ pick (inRange n l) (workLen (frame n l 0)) 0 ⌝ }
 {
     if plan::in_range(n, l) {
-        section_at(n, l, 25)
+        section_at(n, l, 24)
     } else {
         0
     }
+}
+
+// Section s of the work area, where it lies.
+pub fn section(work: &[u8], n: usize, i: usize, l: usize, s: usize) -> &[u8]
+    requires { ⌜ InRange n l × (s < 24) ⌝ }
+    requires { ⌜ length (now work) ≡ workLen (frame n l i) ⌝ }
+    ensures { λ r. ⌜ now r ≡ at (frame n l i) s (now (work .entry)) ⌝ }
+{
+    let a = section_at(n, l, s);
+    let e = a + section_len(n, l, s);
+    &work[a..e]
 }

@@ -1,3 +1,6 @@
 pub mod Given
 pub mod Bits
 pub mod ToOthers
+pub mod Dvalues
+pub mod Opened
+pub mod Place

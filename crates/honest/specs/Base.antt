@@ -39,7 +39,7 @@ use Rattle.engine.specs.StepLaws.{other-is, other-cases, or-none}
 use Rattle.engine.specs.Area.{putSec}
 use Rattle.engine.specs.Sheet.{Store, Known, putAll, filled, staysTest, fills-by}
 use Rattle.engine.specs.Honest.{before, due, storeOf}
-use Rattle.rounds.specs.Area.{DELTA, SEED, PAIRS, MASKS, BITS, ALPHA, BETA, COMMS, JOINT, PAIR-COMMS, PAIRWISE, KEY-SUMS, SHARE-COMMS, DMS, LEAKY, ZS, ES, HS, H-COMMS, PERM, DS, TRIPLES, sizeOf, at, keep, rows, firstOf}
+use Rattle.rounds.specs.Area.{DELTA, SEED, PAIRS, MASKS, BITS, ALPHA, BETA, COMMS, JOINT, PAIR-COMMS, PAIRWISE, KEY-SUMS, SHARE-COMMS, DMS, LEAKY, ZS, ES, HS, H-COMMS, PERM, DS, TRIPLES, ROUNDS-OWN, sizeOf, at, keep, rows, firstOf}
 use Rattle.rounds.specs.Echo.{hashVec}
 use Rattle.rounds.specs.Opening.{Args}
 use Rattle.rounds.specs.Table.{table, delta}
@@ -118,10 +118,10 @@ module _ (n l : ℕ) (args : ℕ → Args) (strings order : List ℕ) where
   Run = storeOf table (S.script n l args strings order) n l
 
   -- section s holds what the script says
-  pub has-at : (s : ℕ) {t i : ℕ} {w : List ℕ} → Known n l Run t i w → ltb s 23 ≡ true → leb (S.since n l args strings order s) t ≡ true
+  pub has-at : (s : ℕ) {t i : ℕ} {w : List ℕ} → Known n l Run t i w → ltb s ROUNDS-OWN ≡ true → leb (S.since n l args strings order s) t ≡ true
       → at (frame n l i) s w ≡ S.holds n l args strings order i s
   unfolding at
-  has-at s K ls r = K .has s (ltb-true s 23 ls) r
+  has-at s K ls r = K .has s (ltb-true s ROUNDS-OWN ls) r
 
   module _ {t i : ℕ} {w : List ℕ} (K : Known n l Run t i w) where
     -- what opening keeps
@@ -217,7 +217,7 @@ module _ (n l : ℕ) (args : ℕ → Args) (strings order : List ℕ) where
   -- ---- what is kept: from moment t to moment u the named sections come to hold what the script says, and no other is due by u
   -- what section s holds is as long as the section
   abbrev pub Fit : ℕ → Type 0
-  Fit s = (s < 23) × ((i : ℕ) → i < n → length (S.holds n l args strings order i s) ≡ sizeOf (frame n l i) s)
+  Fit s = (s < ROUNDS-OWN) × ((i : ℕ) → i < n → length (S.holds n l args strings order i s) ≡ sizeOf (frame n l i) s)
 
   module _ (t u i : ℕ) (li : i < n) {w : List ℕ} (K : Known n l Run t i w) where
     pub keep-none : staysTest Run t u [] ≡ true → Known n l Run u i w

@@ -1,7 +1,7 @@
 -- Opening in an honest run: the inputs of demand 3 have no reason to be refused, what has one changes nothing, and what opening leaves is what the
 -- script says.
 use mathlib.Core.Path.{_≡_, refl, sym, ap, ap₂, _∙_, subst}
-use mathlib.Core.Bool.{Bool, true, false, _&&_, _||_}
+use mathlib.Core.Bool.{Bool, true, false, _&&_}
 use mathlib.Core.Logic.{_≢_}
 use mathlib.Core.List.{List, [], _∷_}
 use Prim.Native.Nat.{ℕ, suc, _+_, _-_, _*_, _<_, _≤_}
@@ -26,7 +26,7 @@ use Rattle.engine.specs.Sheet.{Known, known-lay}
 use Rattle.engine.specs.Plain.{noLoan}
 use Rattle.engine.specs.Honest.{Lawful, due}
 use Rattle.engine.specs.PlainSession.{none-lent, HonestOpening}
-use Rattle.rounds.specs.Area.{DELTA, SEED, PAIRS, MASKS, BITS, ALPHA, BETA, MARKS, sizes, sizeOf, workLen}
+use Rattle.rounds.specs.Area.{DELTA, SEED, PAIRS, MASKS, BITS, ALPHA, BETA, ROUNDS-OWN, sizes, sizeOf, workLen}
 use Rattle.rounds.specs.Opening.{Args, listsDue, buffersDue, masksFault, orFault, bytesFault, reason, section, area, spec, opening}
 use Rattle.rounds.specs.Table.{table, lent}
 use Rattle.rounds.specs.Toss as Toss
@@ -125,29 +125,18 @@ pub own-frame : (n l b : ℕ) (a : Args) → Own n l b a → Own (a .party .n) (
 own-frame n l b a o = subst (λ (f : Frame). Own (f .n) (f .l) (f .i) a) (sym (o .party)) o
 
 module _ (n l : ℕ) (args : ℕ → Args) (strings order : List ℕ) (X : Boxes n l args) where
-  -- what is ready when round 1 is due is an input; MARKS never holds anything else than zeros
-  early : allOf 23 (λ s. pick (leb (S.since n l args strings order s) 3) (ltb s 7 || eqb s MARKS) true) ≡ true
+  -- what is ready when round 1 is due is an input
+  early : allOf ROUNDS-OWN (λ s. pick (leb (S.since n l args strings order s) 3) (ltb s 7) true) ≡ true
   unfolding allOf S.since
   early = refl
 
-  val-first : (i : ℕ) → i < n → (s : ℕ) → s < 23 → leb (S.since n l args strings order s) 3 ≡ true
+  val-first : (i : ℕ) → i < n → (s : ℕ) → s < ROUNDS-OWN → leb (S.since n l args strings order s) 3 ≡ true
       → section (args i) s ≡ S.holds n l args strings order i s
   unfolding section S.holds
-  val-first i li s ls r = go (ltb s 7) refl
-    where
-      mark : ltb s 7 ≡ false → s ≡ MARKS
-      mark e =
-          eqb-true s MARKS
-          (sym (ap (λ b. b || eqb s MARKS) e)
-          ∙ sym (ap (λ b. pick b (ltb s 7 || eqb s MARKS) true) r) ∙ of-all 23 _ early s ls)
-
-      go : (b : Bool) → ltb s 7 ≡ b → section (args i) s ≡ S.holds n l args strings order i s
-      go true e =
-          first-seven (λ s. section (args i) s ≡ S.holds n l args strings order i s)
-          (refl, (refl, (refl, (refl, (refl, (refl, (refl, tt))))))) s (ltb-true s 7 e)
-      go false e =
-          subst (λ s. section (args i) s ≡ S.holds n l args strings order i s) (sym (mark e))
-          (ap (λ (f : Frame). replicate (sizeOf f MARKS) 0) (X .own i li .party))
+  val-first i li s ls r =
+      first-seven (λ s. section (args i) s ≡ S.holds n l args strings order i s)
+      (refl, (refl, (refl, (refl, (refl, (refl, (refl, tt)))))))
+      s (ltb-true s 7 (sym (ap (λ b. pick b (ltb s 7) true) r) ∙ of-all ROUNDS-OWN _ early s ls))
 
   pub known-opened : (i : ℕ) → i < n → Known n l (Run n l args strings order) (due 1) i (area (args i))
   unfolding area

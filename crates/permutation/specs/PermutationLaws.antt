@@ -1,16 +1,15 @@
--- What a permutation is good for: its entries are below, differ, and every number below its length occurs. Then the turn of the loop that marks.
+-- What a permutation is good for: its entries are below, differ, and every number below its length occurs. Then the check in stretches, and the turn of the loop that marks.
 use mathlib.Core.Path.{_≡_, refl, sym, ap, ap₂, _∙_, subst}
 use mathlib.Core.Logic.{_≢_}
 use mathlib.Core.Bool.{Bool, true, false, not, _&&_}
 use mathlib.Core.List.{List}
-use Prim.Native.Nat.{ℕ, zero, suc, _+_, _<_, _≤_}
+use Prim.Native.Nat.{ℕ, zero, suc, _+_, _-_, _<_, _≤_}
 use native.Mathlib.Nat.{le-refl}
 use native.Mathlib.Omega.{arith}
 use lib.ListN.{length, getD, set, replicate, length-set, length-replicate, getD-replicate}
-use lib.Seq.{ext-getD, getD-set-same, getD-set-other}
-use lib.Dec.{ltb, eqb}
-use borrow.Author.Tests.{ltb-true, ltb-false, lt-ltb, le-ltb, eqb-true, eqb-false, eq-eqb, ne-eqb, not-true}
-use Rattle.lists.specs.Over.{tab, length-tab, getD-tab}
+use lib.Seq.{getD-set-same, getD-set-other}
+use lib.Dec.{ltb, leb, eqb}
+use borrow.Author.Tests.{ltb-true, ltb-false, leb-true, leb-false, lt-ltb, le-ltb, le-leb, eqb-true, eqb-false, ne-eqb, not-true}
 use Rattle.lists.specs.Pick.{pick}
 use Rattle.lists.specs.All.{allOf, all-of, of-all, all-turn, all-false, all-zero, true-false}
 use Rattle.permutation.specs.Permutation.{fresh, entryOk, isPerm}
@@ -126,74 +125,167 @@ onto (suc m) f low one y h = found m f low one (onto m (hide m f) (hide-low m f 
 pub perm-onto : (p : List ℕ) → isPerm p ≡ true → (y : ℕ) → y < length p → (t : ℕ) × (t < length p) × (getD p t 0 ≡ y)
 perm-onto p h = onto (length p) (λ t. getD p t 0) (perm-below p h) (perm-distinct p h)
 
--- The loop that marks: t entries are good, and the numbers among them are marked.
-pub record Marked (p : List ℕ) (t : ℕ) (m : List ℕ) : Type 0 where
-  pub good : allOf t (entryOk p) ≡ true
-  pub marks : (x : ℕ) → x < length p → getD m x 0 ≡ pick (fresh p t x) 0 1
-  pub same : length m ≡ length p
+-- ---- the check, as the code makes it: every entry is below the length, and for each stretch of 16,384 numbers none of them stands twice
+unfoldable pub low : List ℕ → Bool
+low p = allOf (length p) (λ t. ltb (getD p t 0) (length p))
 
-pub marked-zero : (p m : List ℕ) → m ≡ replicate (length p) 0 → Marked p 0 m
+-- the place of x among the 16,384 numbers from base on; 16,384 or more where it isn't among them
+unfoldable pub place : ℕ → ℕ → ℕ
+place base x = pick (leb base x) (x - base) 16384
+
+-- entry t stands nowhere before t, if it is among them
+unfoldable pub onceIn : List ℕ → ℕ → ℕ → Bool
+onceIn p base t = pick (ltb (place base (getD p t 0)) 16384) (fresh p t (getD p t 0)) true
+
+unfoldable pub window : List ℕ → ℕ → Bool
+window p base = allOf (length p) (onceIn p base)
+
+pub place-in : (base x : ℕ) → place base x < 16384 → x ≡ base + place base x
+unfolding place
+place-in base x = go (leb base x) refl
+  where
+    go : (b : Bool) → leb base x ≡ b → pick b (x - base) 16384 < 16384 → x ≡ base + pick b (x - base) 16384
+    go true e h = omega (arith, leb-true base x e)
+    go false e h = absurd (omega arith)
+
+place-of : (base x : ℕ) → base ≤ x → x < base + 16384 → place base x < 16384
+unfolding place
+place-of base x h l = rw (le-leb base x h) (omega arith)
+
+-- ---- a repetition, or an entry that is too high
+pub high-stops : (p : List ℕ) (t : ℕ) → t < length p → length p ≤ getD p t 0 → low p ≡ false
+unfolding low
+high-stops p t l h = all-false (length p) _ t l (le-ltb _ _ h)
+
+pub low-end : (p : List ℕ) (t : ℕ) → ((u : ℕ) → u < t → getD p u 0 < length p) → t ≡ length p → low p ≡ true
+unfolding low
+low-end p t h e = all-of (length p) _ (λ u l. lt-ltb _ _ (h u (omega arith)))
+
+of-low : (p : List ℕ) → low p ≡ true → (t : ℕ) → t < length p → getD p t 0 < length p
+unfolding low
+of-low p h t l = ltb-true _ _ (of-all (length p) _ h t l)
+
+pub not-low : (p : List ℕ) → low p ≡ false → isPerm p ≡ false
+unfolding low
+not-low p h = go (isPerm p) refl
+  where
+    go : (b : Bool) → isPerm p ≡ b → b ≡ false
+    go true e = absurd (true-false (sym (all-of (length p) _ (λ t l. lt-ltb _ _ (perm-below p e t l))) ∙ h))
+    go false e = refl
+
+-- ---- the stretches, one after another
+-- no number below base stands twice
+abbrev pub Done : List ℕ → ℕ → Type 0
+Done p base = (u t : ℕ) → u < t → t < length p → getD p t 0 < base → getD p u 0 ≡ getD p t 0 → ⊥
+
+pub done-zero : (p : List ℕ) → Done p 0
+done-zero p u t w l h = absurd (omega arith)
+
+module _ (p : List ℕ) (base : ℕ) where
+  pub window-bad : window p base ≡ false → isPerm p ≡ false
+  unfolding window onceIn
+  window-bad h = go (isPerm p) refl
+    where
+      once : isPerm p ≡ true → (t : ℕ) → t < length p → (b : Bool) → pick b (fresh p t (getD p t 0)) true ≡ true
+      once e t l true = fresh-of p t _ (λ u w q. let z : u ≡ t = perm-distinct p e u t (omega arith) l q in omega arith)
+      once e t l false = refl
+
+      go : (b : Bool) → isPerm p ≡ b → b ≡ false
+      go true e = absurd (true-false (sym (all-of (length p) (onceIn p base) (λ t l. once e t l (ltb (place base (getD p t 0)) 16384))) ∙ h))
+      go false e = refl
+
+  pub window-next : Done p base → window p base ≡ true → Done p (base + 16384)
+  unfolding window onceIn
+  window-next d h u t w l k q = go (leb base (getD p t 0)) refl
+    where
+      go : (b : Bool) → leb base (getD p t 0) ≡ b → ⊥
+      go true e =
+          of-fresh p t (getD p t 0)
+          (sym (ap (λ b. pick b (fresh p t (getD p t 0)) true) (lt-ltb _ _ (place-of base (getD p t 0) (leb-true _ _ e) k)))
+          ∙ of-all (length p) (onceIn p base) h t l) u w q
+      go false e = d u t w l (leb-false _ _ e) q
+
+-- the last stretch answers
+pub windows-end : (p : List ℕ) (base : ℕ) (r : Bool) → low p ≡ true → Done p base → length p - base ≤ 16384 → r ≡ window p base → r ≡ isPerm p
+windows-end p base true lo d h e =
+    sym (perm-of p (of-low p lo) (λ u t w l. window-next p base d (sym e) u t w l (omega (arith, of-low p lo t l))))
+windows-end p base false lo d h e = sym (window-bad p base (sym e))
+
+-- ---- the loop that marks: t entries are good, and the numbers among them are marked
+pub record Marked (p : List ℕ) (base t : ℕ) (m : List ℕ) : Type 0 where
+  pub good : allOf t (onceIn p base) ≡ true
+  pub marks : (y : ℕ) → y < 16384 → getD m y 0 ≡ pick (fresh p t (base + y)) 0 1
+  pub same : length m ≡ 16384
+
+pub marked-zero : (p : List ℕ) (base : ℕ) (m : List ℕ) → m ≡ replicate 16384 0 → Marked p base 0 m
 unfolding fresh
-marked-zero p m e =
+marked-zero p base m e =
     record {
-      good = all-zero (entryOk p);
-      marks = λ x l. rw (e, all-zero (λ u. not (eqb (getD p u 0) x))) (getD-replicate (length p) x 0 0 l);
-      same = rw e (length-replicate (length p) 0);
+      good = all-zero (onceIn p base);
+      marks = λ y l. rw (e, all-zero (λ u. not (eqb (getD p u 0) (base + y)))) (getD-replicate 16384 y 0 0 l);
+      same = rw e (length-replicate {A = ℕ} 16384 0);
     }
 
-module _ (p m : List ℕ) (t : ℕ) (k : Marked p t m) (l : t < length p) where
-  -- an entry out of range, and one seen before
-  pub high-stops : length p ≤ getD p t 0 → isPerm p ≡ false
-  unfolding isPerm entryOk
-  high-stops h = all-false (length p) _ t l (ap (λ b. b && fresh p t (getD p t 0)) (le-ltb _ _ h))
-
-  pub seen-stops : getD p t 0 < length p → getD m (getD p t 0) 0 ≢ 0 → isPerm p ≡ false
-  unfolding isPerm entryOk
-  seen-stops h n = all-false (length p) _ t l (and-false (ltb (getD p t 0) (length p)) _ (go (fresh p t (getD p t 0)) refl))
+module _ (p : List ℕ) (base : ℕ) (m : List ℕ) (t y : ℕ) (k : Marked p base t m) (l : t < length p) (at : y ≡ place base (getD p t 0)) where
+  -- an entry seen before
+  pub seen-stops : y < 16384 → getD m y 0 ≢ 0 → window p base ≡ false
+  unfolding window onceIn
+  seen-stops h n = all-false (length p) (onceIn p base) t l (rw (lt-ltb (place base (getD p t 0)) 16384 (omega arith)) (go (fresh p t (getD p t 0)) refl))
     where
-      go : (b : Bool) → fresh p t (getD p t 0) ≡ b → fresh p t (getD p t 0) ≡ false
-      go true e = absurd (n (k .marks (getD p t 0) h ∙ ap (λ b. pick b 0 1) e))
-      go false e = e
+      go : (b : Bool) → fresh p t (getD p t 0) ≡ b → b ≡ false
+      go true e =
+          absurd (n (k .marks y h ∙ ap (λ x. pick (fresh p t x) 0 1) (let q : base + y ≡ getD p t 0 = omega (arith, place-in base (getD p t 0) (omega arith)) in q)
+          ∙ ap (λ b. pick b 0 1) e))
+      go false e = refl
 
-  -- a turn
-  pub marked-turn : getD p t 0 < length p → getD m (getD p t 0) 0 ≡ 0 → Marked p (t + 1) (set m (getD p t 0) 1)
-  unfolding entryOk
-  marked-turn h n =
+  -- a turn with an entry that is elsewhere
+  pub marked-past : 16384 ≤ y → Marked p base (t + 1) m
+  unfolding onceIn
+  marked-past h =
       record {
-        good = all-turn t (entryOk p) ∙ ap₂ _&&_ (k .good) (ap₂ _&&_ (lt-ltb _ _ h) (free (fresh p t (getD p t 0)) refl));
-        marks = λ x w. one x w (eqb (getD p t 0) x) refl (fresh p t x) refl;
-        same = length-set m (getD p t 0) 1 ∙ k .same;
+        good = all-turn t (onceIn p base) ∙ ap₂ _&&_ (k .good) (ap (λ b. pick b (fresh p t (getD p t 0)) true) far);
+        marks = λ z w. k .marks z w ∙ one z w (eqb (getD p t 0) (base + z)) refl;
+        same = k .same;
       }
     where
+      far : ltb (place base (getD p t 0)) 16384 ≡ false
+      far = le-ltb (place base (getD p t 0)) 16384 (omega arith)
+
+      one : (z : ℕ) → z < 16384 → (b : Bool) → eqb (getD p t 0) (base + z) ≡ b → _≡_ {A = ℕ} (pick (fresh p t (base + z)) 0 1) (pick (fresh p (t + 1) (base + z)) 0 1)
+      one z w true e =
+          let q : getD p t 0 ≡ base + z = eqb-true _ _ e in
+          absurd (omega (arith, place-of base (getD p t 0) (omega arith) (omega arith)))
+      one z w false e = ap (λ b. pick b 0 1) (sym (fresh-turn p t (base + z) ∙ ap (λ b. fresh p t (base + z) && not b) e ∙ and-true (fresh p t (base + z))))
+
+  -- a turn that marks
+  pub marked-turn : y < 16384 → getD m y 0 ≡ 0 → Marked p base (t + 1) (set m y 1)
+  unfolding onceIn
+  marked-turn h n =
+      record {
+        good = all-turn t (onceIn p base)
+            ∙ ap₂ _&&_ (k .good) (ap (λ b. pick b (fresh p t (getD p t 0)) true) (lt-ltb (place base (getD p t 0)) 16384 (omega arith)) ∙ free (fresh p t (getD p t 0)) refl);
+        marks = λ z w. one z w (eqb (getD p t 0) (base + z)) refl;
+        same = length-set m y 1 ∙ k .same;
+      }
+    where
+      is : getD p t 0 ≡ base + y
+      is = omega (arith, place-in base (getD p t 0) (omega arith))
+
       free : (b : Bool) → fresh p t (getD p t 0) ≡ b → fresh p t (getD p t 0) ≡ true
       free true e = e
-      free false e = absurd (let z : _≡_ {A = ℕ} 0 1 = sym n ∙ k .marks (getD p t 0) h ∙ ap (λ b. pick b 0 1) e in omega arith)
+      free false e =
+          absurd (let z : _≡_ {A = ℕ} 0 1 = sym n ∙ k .marks y h ∙ ap (λ x. pick (fresh p t x) 0 1) (sym is) ∙ ap (λ b. pick b 0 1) e in omega arith)
 
-      one : (x : ℕ) → x < length p → (b : Bool) → eqb (getD p t 0) x ≡ b → (f : Bool) → fresh p t x ≡ f
-          → getD (set m (getD p t 0) 1) x 0 ≡ pick (fresh p (t + 1) x) 0 1
-      one x w true e f q =
-          rw (fresh-turn p t x, e, q)
-          (subst (λ y. getD (set m (getD p t 0) 1) y 0 ≡ pick (f && false) 0 1) (eqb-true _ _ e)
-          (getD-set-same m (getD p t 0) 1 0 (omega (arith, k .same)) ∙ sym (ap (λ b. pick b 0 1) (and-false f false refl))))
-      one x w false e f q =
-          getD-set-other m (getD p t 0) x 1 0 (λ r. eqb-false _ _ e (sym r)) ∙ k .marks x w
-          ∙ rw (fresh-turn p t x, e, q) (ap (λ b. pick b 0 1) (sym (and-true f)))
+      one : (z : ℕ) → z < 16384 → (b : Bool) → eqb (getD p t 0) (base + z) ≡ b → getD (set m y 1) z 0 ≡ pick (fresh p (t + 1) (base + z)) 0 1
+      one z w true e =
+          subst (λ x. getD (set m y 1) x 0 ≡ pick (fresh p (t + 1) (base + z)) 0 1) (let q : y ≡ z = omega (arith, is, eqb-true (getD p t 0) (base + z) e) in q)
+          (getD-set-same m y 1 0 (omega (arith, k .same))
+          ∙ ap (λ b. pick b 0 1) (sym (fresh-turn p t (base + z) ∙ ap (λ b. fresh p t (base + z) && not b) e ∙ and-false (fresh p t (base + z)) false refl)))
+      one z w false e =
+          getD-set-other m y z 1 0 (λ r. eqb-false (getD p t 0) (base + z) e (omega (arith, is))) ∙ k .marks z w
+          ∙ ap (λ b. pick b 0 1) (sym (fresh-turn p t (base + z) ∙ ap (λ b. fresh p t (base + z) && not b) e ∙ and-true (fresh p t (base + z))))
 
 -- all passed
-pub marked-end : (p m : List ℕ) (t : ℕ) → Marked p t m → t ≡ length p → isPerm p ≡ true
-unfolding isPerm
-marked-end p m t k e = subst (λ n. allOf n (entryOk p) ≡ true) e (k .good)
-
--- the loop that clears writes a zero for each mark
-abbrev pub none : ℕ → ℕ
-none i = 0
-
-pub zeros : (n : ℕ) → tab n none ≡ replicate n 0
-zeros n =
-    let e : length (tab n none) ≡ n = length-tab n none in
-    ext-getD 0 (tab n none) (replicate n 0) (e ∙ sym (length-replicate n 0))
-    (λ i h. getD-tab n i none 0 (omega arith) ∙ sym (getD-replicate n i 0 0 (omega arith)))
-
--- zeros of the length that m has are m, where m is zeros
-pub zeros-again : (m : List ℕ) (n k : ℕ) → m ≡ replicate n 0 → k ≡ length m → replicate k 0 ≡ m
-zeros-again m n k e h = ap (λ i. replicate i 0) (h ∙ ap length e ∙ length-replicate n 0) ∙ sym e
+pub marked-end : (p : List ℕ) (base : ℕ) (m : List ℕ) (t : ℕ) → Marked p base t m → t ≡ length p → window p base ≡ true
+unfolding window
+marked-end p base m t k e = subst (λ n. allOf n (onceIn p base) ≡ true) e (k .good)

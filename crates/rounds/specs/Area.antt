@@ -87,29 +87,25 @@ HS = 17
 abbrev pub H-COMMS : ℕ
 H-COMMS = 18
 
--- marks of the permutation check, zero between calls
-abbrev pub MARKS : ℕ
-MARKS = 19
-
 -- the permutation, 4 bytes each, low byte first
 abbrev pub PERM : ℕ
-PERM = 20
+PERM = 19
 
 -- the opened d of each bucket
 abbrev pub DS : ℕ
-DS = 21
+DS = 20
 
 -- for each bucket the records a and c: the combined x and z
 abbrev pub TRIPLES : ℕ
-TRIPLES = 22
+TRIPLES = 21
 
 -- number and party of a fault that the echo's call reports
 abbrev pub PENDING : ℕ
-PENDING = 23
+PENDING = 22
 
 -- `hash_vec` of the lists of the last plain round, for its echo
 abbrev pub HASHES : ℕ
-HASHES = 24
+HASHES = 23
 
 -- the bytes of a row of LEAKY
 unfoldable pub leakyLen : ℕ → ℕ
@@ -121,15 +117,15 @@ sizes f =
     16 ∷ 32 ∷ (32 * f .n) ∷ (f .n * leaky (f .l)) ∷ (bitsCount (f .l) * recordLen (f .n)) ∷ (f .l * recordLen (f .n)) ∷
     (f .l * recordLen (f .n)) ∷ (f .n * 32) ∷ 32 ∷ (f .n * 32) ∷ (f .n * 32) ∷ (f .n * (120 * 16)) ∷ (f .n * (40 * 96)) ∷
     (f .n * (40 * dmLen (f .n))) ∷ (leaky (f .l) * leakyLen (f .n)) ∷ (leaky (f .l) * 17) ∷ (f .n * leaky (f .l)) ∷
-    (leaky (f .l) * 16) ∷ (f .n * (leaky (f .l) * 32)) ∷ (leaky (f .l)) ∷ (leaky (f .l) * 4) ∷ (f .l * (bucketSize (f .l) - 1)) ∷
+    (leaky (f .l) * 16) ∷ (f .n * (leaky (f .l) * 32)) ∷ (leaky (f .l) * 4) ∷ (f .l * (bucketSize (f .l) - 1)) ∷
     (f .l * (2 * recordLen (f .n))) ∷ 2 ∷ (f .n * 16) ∷ []
 
 -- the sections of the rounds; the two of the echoes stand behind them
 abbrev pub ROUNDS-OWN : ℕ
-ROUNDS-OWN = 23
+ROUNDS-OWN = 22
 
 abbrev pub SECTIONS : ℕ
-SECTIONS = 25
+SECTIONS = 24
 
 unfoldable pub sizeOf : Frame → ℕ → ℕ
 sizeOf f s = getD (sizes f) s 0

@@ -192,15 +192,15 @@ returns-20 c = rw (c .before .before .leaky .ensures, c .match .keys20) refl
 
 returns-21 : tie.Need-returns-21
 unfolding sizeOf sizes
-returns-21 c = rw (c .before .before .leaky .ensures, c .match .keys21) refl
+returns-21 c = rw (c .bucket-size .ensures, c .before .match .keys21) refl
 
 returns-22 : tie.Need-returns-22
 unfolding sizeOf sizes
-returns-22 c = rw (c .bucket-size .ensures, c .before .match .keys22) refl
+returns-22 c = rw (c .before .record-len .ensures, c .match .keys22) refl
 
 returns-23 : tie.Need-returns-23
 unfolding sizeOf sizes
-returns-23 c = rw (c .before .record-len .ensures, c .match .keys23) refl
+returns-23 c = rw (c .match .keys23) refl
 
 returns-24 : tie.Need-returns-24
 unfolding sizeOf sizes
@@ -208,14 +208,10 @@ returns-24 c = rw (c .match .keys24) refl
 
 returns-25 : tie.Need-returns-25
 unfolding sizeOf sizes
-returns-25 c = rw (c .match .keys25) refl
-
-returns-26 : tie.Need-returns-26
-unfolding sizeOf sizes
-returns-26 c =
+returns-25 c =
     let s = c .before .before .before .args .s in
-    let r25 = c .match .rest in
-    let r24 = r25 .0 in let r23 = r24 .0 in let r22 = r23 .0 in let r21 = r22 .0 in let r20 = r21 .0 in let r19 = r20 .0 in
+    let r24 = c .match .rest in
+    let r23 = r24 .0 in let r22 = r23 .0 in let r21 = r22 .0 in let r20 = r21 .0 in let r19 = r20 .0 in
     let r18 = r19 .0 in let r17 = r18 .0 in let r16 = r17 .0 in let r15 = r16 .0 in let r14 = r15 .0 in let r13 = r14 .0 in
     let r12 = r13 .0 in let r11 = r12 .0 in let r10 = r11 .0 in let r9 = r10 .0 in let r8 = r9 .0 in let r7 = r8 .0 in
     let r6 = r7 .0 in let r5 = r6 .0 in let r4 = r5 .0 in let r3 = r4 .0 in let r2 = r3 .0 in let r1 = r2 .0 in
@@ -226,9 +222,8 @@ returns-26 c =
     let h13 = above s 12 h12 (r13 .1) in let h14 = above s 13 h13 (r14 .1) in let h15 = above s 14 h14 (r15 .1) in let h16 = above s 15 h15 (r16 .1) in
     let h17 = above s 16 h16 (r17 .1) in let h18 = above s 17 h17 (r18 .1) in let h19 = above s 18 h18 (r19 .1) in let h20 = above s 19 h19 (r20 .1) in
     let h21 = above s 20 h20 (r21 .1) in let h22 = above s 21 h21 (r22 .1) in let h23 = above s 22 h22 (r23 .1) in let h24 = above s 23 h23 (r24 .1) in
-    let h25 = above s 24 h24 (r25 .1) in
-    let most : s ≤ 25 = c .before .before .before .pre .1 in
-    rw (le-antisymm most h25) refl
+    let most : s ≤ 24 = c .before .before .before .pre .1 in
+    rw (le-antisymm most h24) refl
 
 pub section-len-spec : {M : Type 1} → statement M
 section-len-spec =
@@ -291,5 +286,4 @@ section-len-spec =
     returns-22
     returns-23
     returns-24
-    returns-25
-    returns-26)
+    returns-25)

@@ -1,0 +1,33 @@
+-- What a call is given as one record, and the tests of it that the code makes one by one.
+use mathlib.Core.Bool.{Bool, true, _&&_}
+use mathlib.Core.List.{List}
+use Prim.Native.Nat.{ℕ}
+use lib.Dec.{eqb}
+use Rattle.lists.specs.Pick.{pick}
+use Rattle.algebra.specs.Sum.{neq}
+use Rattle.message.specs.declared.Kind.{Kind}
+use Rattle.message.specs.Format as Format
+use Rattle.plan.specs.Plan.{outLen}
+use Rattle.engine.specs.Step.{Lent, Loan, frame, gone, part, inside}
+use Rattle.rounds.specs.Area.{workLen}
+
+-- the r Blocks and the permutation
+abbrev pub loan : List ℕ → List ℕ → Loan
+loan r perm = record { r = r; perm = perm }
+
+abbrev pub given : List ℕ → List ℕ → List ℕ → List ℕ → List ℕ → List ℕ → List ℕ → Lent
+given incoming starts lens missing r perm out =
+    record { incoming = incoming; starts = starts; lens = lens; missing = missing; loan = loan r perm; out = out }
+
+-- "Lent lengths are exact, but for the incoming buffer": those of the work area, the outgoing buffer, starts, lens and missing
+unfoldable pub lengthsFit : ℕ → ℕ → ℕ → ℕ → ℕ → ℕ → ℕ → ℕ → Bool
+lengthsFit n l k work out starts lens missing =
+    eqb work (workLen (frame n l 0)) && eqb out (outLen n l k) && eqb starts n && eqb lens n && eqb missing n
+
+-- party k's part lies inside, or k is the own number, or the message is missing
+unfoldable pub fits : ℕ → Lent → ℕ → Bool
+fits i q k = pick (neq i k) (pick (gone q k) true (inside q k)) true
+
+-- 14, 13 or 6 of party k, where items of a kind are due
+unfoldable pub kindFault : Kind → ℕ → Lent → ℕ → ℕ
+kindFault kind count q k = pick (gone q k) 14 (Format.formOf kind count (part q k))

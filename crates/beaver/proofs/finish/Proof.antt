@@ -1,0 +1,25 @@
+use borrow.Author.Needs.{needs}
+use denote.Ref.{now}
+use Rattle.beaver.specs.FinishLaws.{finished}
+use Rattle.beaver.proofs.finish.Statement.{statement}
+use Rattle.beaver.proofs.finish.Tie as tie
+
+returns : tie.Need-returns
+returns c =
+    let b = c .before .before .before .before .before .before in
+    let o = b .before .before .before .before in
+    let k = o .before .before in
+    let a = k .before .before .before .args in
+    finished (a .n) (a .i) (now (a .triples)) (a .a) (a .c) (now (a .beta)) (a .x) (a .d) (a .e) (o .copy-record .last .0) (b .add-record .last .0) (c .before .before .add-record2 .last .0)
+    (λ j. k .before .shared-slice-known .given j .fits) (λ j. k .shared-slice-known2 .given j .fits)
+    (o .copy-record .ensures) (b .add-record .ensures) (c .before .before .add-record2 .ensures)
+
+pub finish-spec : {M : Type 1} → statement M
+finish-spec =
+    tie.close
+    (tie.spec
+    (λ c κs. search needs)
+    (λ c κs. search needs)
+    (λ c κs. search needs)
+    (λ c. search needs)
+    returns)

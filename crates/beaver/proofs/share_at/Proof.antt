@@ -1,0 +1,24 @@
+use mathlib.Core.Path.{ap}
+use Prim.Native.Nat.{_*_}
+use native.Mathlib.Nat.{mul-le-mul}
+use native.Mathlib.Omega.{arith}
+use borrow.Author.Needs.{needs}
+use Rattle.plan.specs.PlanLaws.{record-most}
+use Rattle.beaver.proofs.share_at.Statement.{statement}
+use Rattle.beaver.proofs.share_at.Tie as tie
+
+mul-result : tie.Need-mul-result
+mul-result c =
+    let s = c .before in
+    omega (arith, mul-le-mul (s .pre .1) (record-most (s .args .n) (s .pre .0)), ap (λ m. s .args .j * m) (c .record-len .ensures))
+
+returns : tie.Need-returns
+returns c = ap (λ m. c .before .args .j * m) (c .record-len .ensures)
+
+pub share-at-spec : {M : Type 1} → statement M
+share-at-spec =
+    tie.close
+    (tie.spec
+    (λ c κs. search needs)
+    mul-result
+    returns)

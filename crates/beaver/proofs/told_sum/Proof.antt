@@ -1,0 +1,60 @@
+-- The loop's invariant: the sum has the first k parties.
+use mathlib.Core.Path.{_≡_, ap, _∙_}
+use mathlib.Core.Bool.{Bool}
+use mathlib.Core.List.{List}
+use Prim.Native.Nat.{ℕ, _-_, _≤_}
+use native.Mathlib.Omega.{arith}
+use lib.ListN.{getD}
+use borrow.Author.Needs.{needs}
+use denote.Ref.{now}
+use Rattle.algebra.specs.Group.{bits, odd}
+use Rattle.algebra.specs.Sum.{others}
+use Rattle.rounds.specs.Mail.{letter}
+use Rattle.rounds.specs.Loops.{others-none, others-turn}
+use Rattle.beaver.specs.CheckLaws.{xor-addb}
+use Rattle.beaver.proofs.told_sum.Statement.{statement}
+use Rattle.beaver.proofs.told_sum.Tie as tie
+
+-- the bit of party k
+abbrev bit : List ℕ → List ℕ → List ℕ → ℕ → ℕ → Bool
+bit incoming starts lens at k = odd (getD (letter incoming starts lens k) at 0)
+
+abbrev Inv-loop : tie.InvT-loop
+Inv-loop incoming starts lens f at n sum₀ k₀ sum k = (k ≤ f .n) × (sum ≡ others bits (f .i) k (bit incoming starts lens at))
+
+abbrev μ-loop : tie.MeasureT-loop
+μ-loop incoming starts lens f at n sum₀ k₀ sum k = f .n - k
+
+loop-holds : tie.Need-loop-holds Inv-loop μ-loop
+loop-holds c = (omega arith, others-none bits _ _)
+
+told-requires : tie.Need-told-requires Inv-loop μ-loop
+told-requires c κs = let s = c .before .before .before .before .before in ((c .loop-test .taken, s .pre .0), s .pre .1)
+
+loop-again : tie.Need-loop-again Inv-loop μ-loop
+loop-again c =
+    let l = c .before .before .loop in
+    let a = c .before .before .before .before .before .before .args in (
+      omega (arith, c .before .loop-test .taken),
+      xor-addb (l .sum) (c .told .result)
+          ∙ others-turn bits (a .f .i) (bit (now (a .incoming)) (now (a .starts)) (now (a .lens)) (a .at)) (l .k) (l .sum) (c .told .result) (l .inv .1) (c .told .ensures),
+    )
+
+returns : tie.Need-returns Inv-loop μ-loop
+returns c =
+    let l = c .before .loop in
+    let a = c .before .before .before .before .before .args in
+    l .inv .1 ∙ ap (λ m. others bits (a .f .i) m (bit (now (a .incoming)) (now (a .starts)) (now (a .lens)) (a .at))) (let e : l .k ≡ a .f .n = omega arith in e)
+
+pub told-sum-spec : {M : Type 1} → statement M
+told-sum-spec =
+    tie.close
+    (tie.spec
+    Inv-loop
+    μ-loop
+    loop-holds
+    told-requires
+    (λ c. search needs)
+    (λ c. search needs)
+    loop-again
+    returns)

@@ -1,0 +1,5 @@
+pub mod Given
+pub mod BucketLaws
+pub mod AreaLaws
+pub mod CheckLaws
+pub mod FinishLaws

@@ -1,0 +1,152 @@
+// Broadcast with abort in the work area (document 01, "What each round means"; `broadcast_verification` of src/mpc/faand.rs): the call for a round that
+// is echoed keeps the hashes of the lists and the fault that it found; the echo's call compares the hashes, then reports that fault. So a fault
+// is known to all before anybody stops for it. The definitions are those of crate engine, specs/Plain.antt; crate echo reads and writes the messages.
+ghost use mathlib.Core.Path.{_≡_};
+ghost use Prim.Native.Nat.{ℕ, _-_, _*_, _%_, _<_};
+ghost use lib.ListN.{length};
+ghost use lib.Dec.{eqb};
+ghost use Rattle.lists.specs.Pick.{pick};
+ghost use Rattle.plan.specs.Plan.{kindOf, countDue, msgLen};
+ghost use Rattle.engine.specs.Step.{frame, mask};
+ghost use Rattle.engine.specs.Step as Step;
+ghost use Rattle.engine.specs.Plain.{waits, digests, echoCheck, hashes, pending};
+ghost use Rattle.engine.specs.Area.{toOthers};
+ghost use Rattle.rounds.specs.Area.{PENDING, HASHES, keep};
+ghost use Rattle.rounds.specs.Mail.{letter};
+ghost use Rattle.rounds.specs.EchoLaws.{Received};
+ghost use Rattle.rounds.specs.Echo as Echo;
+ghost use Rattle.rounds.specs.FaultLaws.{Finds};
+ghost use Rattle.rounds.specs.Table.{table};
+ghost use Rattle.haand.specs.Given.{Work};
+use message::Kind;
+use rounds::Fault;
+
+const PENDING: usize = 22;
+
+const HASHES: usize = 23;
+
+// Keeps the hashes of the lists of round k.
+fn keep_hashes(
+    work: &mut [u8],
+    incoming: &[u8],
+    starts: &[usize],
+    lens: &[usize],
+    n: usize,
+    i: usize,
+    l: usize,
+    k: usize,
+)
+    requires { ⌜ Work n i l (now work) ⌝ }
+    requires { ⌜ Received (kindOf l k) (countDue n l k) n i (now incoming) (now starts) (now lens) ⌝ }
+    ensures { λ _. ⌜ now (work .exit) ≡ keep (frame n l i) HASHES (digests table k (frame n l i)
+        (mask (frame n l i) (letter (now (incoming .entry)) (now (starts .entry)) (now (lens .entry))))) (now (work .entry)) ⌝ }
+{
+    let a = area::section_at(n, l, HASHES);
+    let e = a + area::section_len(n, l, HASHES);
+    echo::keep_hashes(&mut work[a..e], incoming, starts, lens, n, i, l, k);
+}
+
+// The party of a fault in a byte, 0 for none.
+fn party_byte(code: u8, party: usize) -> u8
+    ensures { λ r. ⌜ r ≡ pick (eqb code 0) 0 (party % 256) ⌝ }
+{
+    if code == 0 { 0 } else { (party % 256) as u8 }
+}
+
+// Number and party of a fault, 0 0 for none.
+fn put_fault(out: &mut [u8], code: u8, party: usize)
+    requires { ⌜ length (now out) ≡ 2 ⌝ }
+    ensures { λ _. ⌜ ((x : Step.Fault) → Finds code party x → x .party < 256 → now (out .exit) ≡ waits x) ⌝ }
+{
+    out[0] = code;
+    out[1] = party_byte(code, party);
+}
+
+// Keeps a fault.
+fn keep_fault(work: &mut [u8], code: u8, party: usize, n: usize, i: usize, l: usize)
+    requires { ⌜ Work n i l (now work) ⌝ }
+    ensures { λ _. ⌜ ((x : Step.Fault) → Finds code party x → x .party < 256 → now (work .exit) ≡ keep (frame n l i) PENDING (waits x) (now (work .entry))) ⌝ }
+{
+    let a = area::section_at(n, l, PENDING);
+    let e = a + area::section_len(n, l, PENDING);
+    put_fault(&mut work[a..e], code, party);
+}
+
+// Keeps what the echo of round k is about: the hashes, and the fault that was found.
+pub fn note(
+    work: &mut [u8],
+    code: u8,
+    party: usize,
+    incoming: &[u8],
+    starts: &[usize],
+    lens: &[usize],
+    n: usize,
+    i: usize,
+    l: usize,
+    k: usize,
+)
+    requires { ⌜ Work n i l (now work) ⌝ }
+    requires { ⌜ Received (kindOf l k) (countDue n l k) n i (now incoming) (now starts) (now lens) ⌝ }
+    ensures { λ _. ⌜ ((x : Step.Fault) → Finds code party x → x .party < 256 → now (work .exit) ≡ keep (frame n l i) PENDING (waits x)
+        (keep (frame n l i) HASHES (digests table k (frame n l i)
+        (mask (frame n l i) (letter (now (incoming .entry)) (now (starts .entry)) (now (lens .entry))))) (now (work .entry)))) ⌝ }
+{
+    keep_hashes(work, incoming, starts, lens, n, i, l, k);
+    keep_fault(work, code, party, n, i, l);
+}
+
+fn wide(b: u8) -> usize
+    ensures { λ r. ⌜ r ≡ b ⌝ }
+{
+    b as usize
+}
+
+// The fault that waits for the echo.
+fn pending(work: &[u8], n: usize, i: usize, l: usize) -> Fault
+    requires { ⌜ Work n i l (now work) ⌝ }
+    ensures { λ r. ⌜ Finds (r .code) (r .party) (pending table (frame n l i) (now (work .entry))) ⌝ }
+{
+    let p = area::section(work, n, i, l, PENDING);
+    Fault {
+        code: p[0],
+        party: wide(p[1]),
+    }
+}
+
+// The echo's call: 3 or 7 with the first sender whose echo has a fault, else the fault that waited.
+pub fn check(
+    work: &[u8],
+    incoming: &[u8],
+    starts: &[usize],
+    lens: &[usize],
+    n: usize,
+    i: usize,
+    l: usize,
+) -> Fault
+    requires { ⌜ Work n i l (now work) ⌝ }
+    requires { ⌜ Received Kind.Options n n i (now incoming) (now starts) (now lens) ⌝ }
+    ensures { λ r. ⌜ Finds (r .code) (r .party) (echoCheck table (frame n l i) (now (work .entry))
+        (mask (frame n l i) (letter (now (incoming .entry)) (now (starts .entry)) (now (lens .entry))))) ⌝ }
+{
+    let e = echo::check_echoes(
+        area::section(work, n, i, l, HASHES),
+        incoming,
+        starts,
+        lens,
+        n,
+        i,
+    );
+    if e.code != 0 {
+        return e;
+    }
+    pending(work, n, i, l)
+}
+
+// The echoes to all others, from the hashes that are kept.
+pub fn write(out: &mut [u8], work: &[u8], n: usize, i: usize, l: usize)
+    requires { ⌜ Work n i l (now work) ⌝ }
+    requires { ⌜ length (now out) ≡ (n - 1) * msgLen n 1 2 ⌝ }
+    ensures { λ _. ⌜ now (out .exit) ≡ toOthers n i (Echo.echoMsg n i (hashes table (frame n l i) (now (work .entry)))) ⌝ }
+{
+    echo::write_echoes(out, area::section(work, n, i, l, HASHES), n, i);
+}

@@ -1,0 +1,161 @@
+-- The loop's invariant: ok says whether the first e MACs are right.
+use mathlib.Core.Path.{_≡_, sym, ap, _∙_}
+use Prim.Native.Nat.{ℕ, _+_, _-_, _*_, _<_, _≤_}
+use native.Mathlib.Omega.{arith}
+use lib.ListN.{length}
+use borrow.Author.Needs.{needs}
+use denote.Ref.{now}
+use Rattle.lists.specs.All.{allOf, all-zero}
+use Rattle.share.specs.Record.{recordLen}
+use Rattle.plan.specs.Plan.{bucketSize}
+use Rattle.plan.specs.PlanLaws.{bucket-low, bucket-high}
+use Rattle.rounds.specs.Buckets.{later}
+use Rattle.rounds.specs.BucketsLaws.{y-within}
+use Rattle.buckets.specs.Dvalues.{dHolds, bucketHolds, d-holds, all-more, bucket-in}
+use Rattle.buckets.proofs.bucket_holds.Statement.{statement}
+use Rattle.buckets.proofs.bucket_holds.Tie as tie
+
+abbrev Inv-loop : tie.InvT-loop
+Inv-loop m recs perm delta f k j due bits macs y0 ok₀ e₀ ok e = (e ≤ due) × (ok ≡ allOf e (dHolds f delta recs perm m k j))
+
+abbrev μ-loop : tie.MeasureT-loop
+μ-loop m recs perm delta f k j due bits macs y0 ok₀ e₀ ok e = due - e
+
+due-is : (c : tie.After-bucket-size Inv-loop μ-loop) → c .bucket-size .result - 1 ≡ later (c .before .before .before .before .args .f)
+unfolding later
+due-is c = ap (λ b. b - 1) (c .bucket-size .ensures)
+
+sub-due : tie.Need-sub-due Inv-loop μ-loop
+sub-due c = omega (arith, c .bucket-size .ensures, bucket-low (c .before .before .before .before .args .f .l))
+
+-- the bucket lies within
+module _ (c : tie.After-bucket-at Inv-loop μ-loop) where
+  abbrev sized : tie.After-bucket-size Inv-loop μ-loop
+  sized = c .before
+
+  abbrev s : tie.Start Inv-loop μ-loop
+  s = sized .before .before .before .before
+
+  abbrev due : ℕ
+  due = sized .bucket-size .result - 1
+
+  inside : c .bucket-at .result + (16 + due * 17) ≤ length (now (s .args .m))
+  inside =
+      omega (arith, bucket-in (s .args .f) (now (s .args .m)) (s .pre .1 .1 .2) (s .args .j) (s .pre .1 .1 .0), c .bucket-at .ensures, due-is sized)
+
+add-bits : tie.Need-add-bits Inv-loop μ-loop
+add-bits c = omega (arith, inside c, s c .good)
+
+add-macs : tie.Need-add-macs Inv-loop μ-loop
+add-macs c = omega (arith, inside c, s c .good)
+
+add-macs-2 : tie.Need-add-macs-2 Inv-loop μ-loop
+add-macs-2 c = omega (arith, inside c, s c .good)
+
+y-at-requires : tie.Need-y-at-requires Inv-loop μ-loop
+y-at-requires c κs = (s c .pre .0, (s c .pre .1 .0 .numbers, s c .pre .1 .1 .0, omega (arith, bucket-low (s c .args .f .l))))
+
+loop-holds : tie.Need-loop-holds Inv-loop μ-loop
+loop-holds c = (search needs, sym (all-zero _))
+
+-- a turn
+module _ (c : tie.In-loop Inv-loop μ-loop) where
+  abbrev first : tie.After-y-at Inv-loop μ-loop
+  first = c .before .before
+
+  abbrev placed : tie.After-bucket-at Inv-loop μ-loop
+  placed = first .before
+
+  abbrev start : tie.Start Inv-loop μ-loop
+  start = s placed
+
+  next : c .before .loop .e + 1 < bucketSize (start .args .f .l)
+  next = omega (arith, c .loop-test .taken, sized placed .bucket-size .ensures)
+
+  inside-0 : first .y-at .result + recordLen (start .args .f .n) ≤ length (now (start .args .recs))
+  inside-0 =
+      y-within (start .args .f) (now (start .args .recs)) (now (start .args .perm)) (start .args .j) 0 (first .y-at .result) (start .pre .0 .one) (start .pre .1 .0 .records)
+      (first .y-at .ensures)
+
+  bit-in : placed .bucket-at .result + 8 + c .before .loop .e < length (now (start .args .m))
+  bit-in = omega (arith, inside placed, c .loop-test .taken)
+
+  mac-in : placed .bucket-at .result + 8 + due placed + 8 + c .before .loop .e * 16 + 16 ≤ length (now (start .args .m))
+  mac-in = omega (arith, inside placed, c .loop-test .taken)
+
+add-y-at : tie.Need-add-y-at Inv-loop μ-loop
+add-y-at c = omega (arith, next c, bucket-high (start c .args .f .l))
+
+y-at-requires-2 : tie.Need-y-at-requires-2 Inv-loop μ-loop
+y-at-requires-2 c κs = (start c .pre .0, (start c .pre .1 .0 .numbers, start c .pre .1 .1 .0, next c))
+
+add-mac-holds : tie.Need-add-mac-holds Inv-loop μ-loop
+add-mac-holds c = omega (arith, bit-in (c .before), start (c .before) .good)
+
+mul-mac-holds : tie.Need-mul-mac-holds Inv-loop μ-loop
+mul-mac-holds c = omega (arith, mac-in (c .before), start (c .before) .good)
+
+add-mac-holds-2 : tie.Need-add-mac-holds-2 Inv-loop μ-loop
+add-mac-holds-2 c = omega (arith, mac-in (c .before), start (c .before) .good)
+
+inside-1 : (c : tie.After-y-at2 Inv-loop μ-loop) → c .y-at2 .result + recordLen (start (c .before) .args .f .n) ≤ length (now (start (c .before) .args .recs))
+inside-1 c =
+    let a = start (c .before) in
+    y-within (a .args .f) (now (a .args .recs)) (now (a .args .perm)) (a .args .j) (c .before .before .loop .e + 1) (c .y-at2 .result) (a .pre .0 .one) (a .pre .1 .0 .records)
+    (c .y-at2 .ensures)
+
+mac-holds-requires : tie.Need-mac-holds-requires Inv-loop μ-loop
+mac-holds-requires c κs =
+    let i = c .before in
+    let a = start i in (
+      (bit-in i, mac-in i),
+      (omega (arith, a .pre .1 .1, a .pre .0 .eight), omega (arith, inside-0 i, a .pre .1 .1), omega (arith, inside-1 c, a .pre .1 .1)),
+    )
+
+loop-again : tie.Need-loop-again Inv-loop μ-loop
+loop-again c =
+    let y = c .before in
+    let i = y .before in
+    let p = placed i in
+    let a = start i .args in
+    let l = i .before .loop in (
+      omega (arith, i .loop-test .taken),
+      all-more (dHolds (a .f) (a .delta) (now (a .recs)) (now (a .perm)) (now (a .m)) (a .k) (a .j)) (l .e) (l .ok) _ (l .inv .1)
+          (d-holds (a .f) (a .delta) (now (a .recs)) (now (a .perm)) (now (a .m)) (a .k) (a .j) (l .e) (first i .y-at .result) (y .y-at2 .result)
+          (p .bucket-at .result + 8 + l .e) (p .bucket-at .result + 8 + due p + 8 + l .e * 16) _ (first i .y-at .ensures) (y .y-at2 .ensures)
+          (omega (arith, p .bucket-at .ensures)) (omega (arith, p .bucket-at .ensures, due-is (sized p))) (c .mac-holds .ensures)),
+    )
+
+returns : tie.Need-returns Inv-loop μ-loop
+unfolding bucketHolds
+returns c =
+    let l = c .before .loop in
+    let z = c .before .before .before .before in
+    let a = z .before .before .before .before .args in
+    l .inv .1 ∙ ap (λ e. allOf e (dHolds (a .f) (a .delta) (now (a .recs)) (now (a .perm)) (now (a .m)) (a .k) (a .j)))
+    (let e : l .e ≡ later (a .f) = omega (arith, due-is z) in e)
+
+pub bucket-holds-spec : {M : Type 1} → statement M
+bucket-holds-spec =
+    tie.close
+    (tie.spec
+    Inv-loop
+    μ-loop
+    (λ c κs. search needs)
+    sub-due
+    (λ c κs. search needs)
+    add-bits
+    add-macs
+    add-macs-2
+    y-at-requires
+    loop-holds
+    add-y-at
+    y-at-requires-2
+    add-mac-holds
+    mul-mac-holds
+    add-mac-holds-2
+    mac-holds-requires
+    (λ c. search needs)
+    (λ c. search needs)
+    loop-again
+    returns)

@@ -1,0 +1,57 @@
+-- The loop's invariant: the sum has the first k parties.
+use mathlib.Core.Path.{_≡_, ap, _∙_}
+use mathlib.Core.Bool.{Bool}
+use mathlib.Core.List.{List}
+use Prim.Native.Nat.{ℕ, _-_, _≤_}
+use native.Mathlib.Omega.{arith}
+use borrow.Author.Needs.{needs}
+use denote.Ref.{now}
+use Rattle.algebra.specs.Group.{bits}
+use Rattle.algebra.specs.Sum.{others}
+use Rattle.engine.specs.declared.Frame.{Frame}
+use Rattle.rounds.specs.Mail.{letter}
+use Rattle.rounds.specs.Loops.{others-none, others-turn}
+use Rattle.rounds.specs.Buckets.{dTold}
+use Rattle.buckets.specs.Bits.{xor-bits}
+use Rattle.buckets.specs.Opened.{toldSum}
+use Rattle.buckets.proofs.told_sum.Statement.{statement}
+use Rattle.buckets.proofs.told_sum.Tie as tie
+
+-- the bit of party k
+abbrev of : List ℕ → List ℕ → List ℕ → Frame → ℕ → ℕ → ℕ → Bool
+of incoming starts lens f j e k = dTold f (letter incoming starts lens) k j e
+
+abbrev Inv-loop : tie.InvT-loop
+Inv-loop incoming starts lens f j e n sum₀ k₀ sum k = (k ≤ f .n) × (sum ≡ others bits (f .i) k (of incoming starts lens f j e))
+
+abbrev μ-loop : tie.MeasureT-loop
+μ-loop incoming starts lens f j e n sum₀ k₀ sum k = f .n - k
+
+loop-holds : tie.Need-loop-holds Inv-loop μ-loop
+loop-holds c = (omega arith, others-none bits _ _)
+
+d-told-requires : tie.Need-d-told-requires Inv-loop μ-loop
+d-told-requires c κs =
+    let s = c .before .before .before .before .before in
+    ((s .pre .0 .0, s .pre .0 .1, s .pre .0 .2, c .loop-test .taken), s .pre .1)
+
+loop-again : tie.Need-loop-again Inv-loop μ-loop
+loop-again c =
+    let l = c .before .before .loop in
+    let a = c .before .before .before .before .before .before .args in (
+      omega (arith, c .before .loop-test .taken),
+      xor-bits (l .sum) (c .d-told .result)
+          ∙ others-turn bits (a .f .i) (of (now (a .incoming)) (now (a .starts)) (now (a .lens)) (a .f) (a .j) (a .e)) (l .k) (l .sum) (c .d-told .result) (l .inv .1) (c .d-told .ensures),
+    )
+
+returns : tie.Need-returns Inv-loop μ-loop
+unfolding toldSum
+returns c =
+    let l = c .before .loop in
+    let a = c .before .before .before .before .before .args in
+    l .inv .1 ∙ ap (λ m. others bits (a .f .i) m (of (now (a .incoming)) (now (a .starts)) (now (a .lens)) (a .f) (a .j) (a .e))) (let e : l .k ≡ a .f .n = omega arith in e)
+
+pub told-sum-spec : {M : Type 1} → statement M
+told-sum-spec =
+    tie.close
+    (tie.spec Inv-loop μ-loop loop-holds d-told-requires (λ c. search needs) (λ c. search needs) loop-again returns)

@@ -1,0 +1,31 @@
+use denote.Ref.{now}
+use Rattle.rounds.specs.Combine.{args}
+use Rattle.nuzsdike.specs.InterfaceLaws.{combines}
+use borrow.Author.Needs.{needs}
+use Rattle.nuzsdike.proofs.nuzsdike_combine.Statement.{statement}
+use Rattle.nuzsdike.proofs.nuzsdike_combine.Tie as tie
+use Rattle.nuzsdike.proofs.nuzsdike_combine.Reads as reads
+use Rattle.nuzsdike.proofs.nuzsdike_combine.Lts as lts
+use Rattle.combine.proofs.combine.Reads as combine-reads
+use Rattle.nuzsdike.proofs.answer.Reads as answer-reads
+
+-- src/lib.rt:133:12
+combine-requires : tie.Need-combine-requires
+combine-requires c κs = search needs
+
+-- src/lib.rt:133:5
+answer-requires : tie.Need-answer-requires
+answer-requires c κs = search needs
+
+-- src/lib.rt:122:1
+same-length : tie.Need-same-length
+same-length c = search needs
+
+-- src/lib.rt:122:1
+returns : tie.Need-returns
+returns c =
+    let a = c .before .before .before .before .before .before .before .before .args in
+    combines (args (a .n) (a .i) (a .count) (now (a .triples)) (now (a .d)) (now (a .out))) (c .answer .result) (c .before .before .before .combine .last .1 .1 .1 .1 .1 .0) (c .before .before .before .combine .result) (c .answer .ensures) (c .before .before .before .combine .ensures)
+
+pub nuzsdike-combine-spec : {M : Type 1} → statement M
+nuzsdike-combine-spec = tie.close (tie.spec combine-requires answer-requires same-length returns)

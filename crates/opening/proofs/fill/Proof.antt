@@ -1,0 +1,12 @@
+use mathlib.Core.Path.{refl}
+use borrow.Author.Needs.{needs}
+use Rattle.opening.proofs.fill.Statement.{statement}
+use Rattle.opening.proofs.fill.Tie as tie
+
+returns : tie.Need-returns
+returns c = rw (c .before .before .clear-rest .ensures, c .before .before .before .before .before .before .put-lists .ensures, c .before .before .before .before .before .before .before .before .before .before .put-seeds .ensures) refl
+
+pub fill-spec : {M : Type 1} → statement M
+fill-spec =
+    tie.close
+    (tie.spec (λ c κs. search needs) (λ c κs. search needs) (λ c κs. search needs) (λ c. search needs) returns)

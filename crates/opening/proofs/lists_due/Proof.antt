@@ -1,0 +1,12 @@
+use mathlib.Core.Path.{refl}
+use Rattle.opening.specs.Given.{lists?}
+use borrow.Author.Needs.{needs}
+use Rattle.opening.proofs.lists_due.Statement.{statement}
+use Rattle.opening.proofs.lists_due.Tie as tie
+
+returns : tie.Need-returns
+unfolding lists?
+returns c = rw (c .before .before .before .bits-len .ensures, c .before .before .before .before .shares-len .ensures) refl
+
+pub lists-due-spec : {M : Type 1} → statement M
+lists-due-spec = tie.close (tie.spec (λ c κs. search needs) (λ c κs. search needs) returns)

@@ -1,0 +1,215 @@
+-- Opening by the case it falls into.
+use mathlib.Core.Path.{_≡_, refl, sym, ap, ap₂, _∙_}
+use mathlib.Core.Bool.{Bool, true, false, not, _&&_}
+use mathlib.Core.Logic.{_≢_}
+use mathlib.Core.List.{List}
+use Prim.Native.Nat.{ℕ, zero, suc, _+_, _-_, _*_, _<_}
+use native.Mathlib.Omega.{arith}
+use lib.ListN.{getD}
+use lib.Dec.{ltb, leb, eqb}
+use borrow.Author.Tests.{eq-eqb, ne-eqb, eqb-true, eqb-false, leb-true, ltb-true}
+use Rattle.lists.specs.Pick.{pick, pick-then}
+use Rattle.lists.specs.All.{allOf, true-false, all-turn}
+use Rattle.algebra.specs.Sum.{neq-true, neq-self}
+use Rattle.share.specs.Record.{recordLen}
+use Rattle.plan.specs.Plan.{InRange, parties?, inRange, leaky, bitsCount, outLen, msgLen}
+use Rattle.plan.specs.PlanLaws.{in-range, parties-true, bits-len, shares-len, masks-len, pairs-len, out-len, order-first}
+use Rattle.engine.specs.Step.{frame, outcome}
+use Rattle.engine.specs.Area.{toOthers}
+use Rattle.engine.specs.declared.Verdict.the-variants.{Accepted, Refused}
+use Rattle.rounds.specs.Area.{workLen}
+use Rattle.rounds.specs.Opening.{Args, orFault, listsDue, buffersDue, masksFault, bytesFault, reason, area, spec}
+use Rattle.rounds.specs.Toss as Toss
+use Rattle.area.specs.AreaLaws.{work-any}
+use Rattle.opening.specs.Given.{Lens, lens, found, lists?, buffers?, lengthsFault, row?, masks?, bytesOf, Asked}
+
+-- ---- a chain of reasons
+or-none : (x y : ℕ) → orFault x y ≡ 0 → (x ≡ 0) × (y ≡ 0)
+unfolding orFault
+or-none x y h = go (eqb x 0) refl h
+  where
+    go : (b : Bool) → eqb x 0 ≡ b → pick b y x ≡ 0 → (x ≡ 0) × (y ≡ 0)
+    go true e p = (eqb-true x 0 e, p)
+    go false e p = absurd (eqb-false x 0 e p)
+
+pub or-left : (x y : ℕ) → x ≢ 0 → orFault x y ≡ x
+unfolding orFault
+or-left x y h = rw (ne-eqb x 0 h) refl
+
+pub or-right : (x y : ℕ) → x ≡ 0 → orFault x y ≡ y
+unfolding orFault
+or-right x y h = rw (eq-eqb x 0 h) refl
+
+unless-none : (b : Bool) (c : ℕ) → pick b 0 (suc c) ≡ 0 → b ≡ true
+unless-none b c h = pick-then b 0 (suc c) 0 (λ z. absurd (omega arith)) h .0
+
+and-left : (p q : Bool) → (p && q) ≡ true → p ≡ true
+and-left true q e = refl
+and-left false q e = e
+
+and-right : (p q : Bool) → (p && q) ≡ true → q ≡ true
+and-right true q e = e
+and-right false q e = absurd (true-false (sym e))
+
+and-true : (b : Bool) → b ≡ (b && true)
+and-true true = refl
+and-true false = refl
+
+and-3 : (p q r : Bool) → (p && q && r) ≡ true → (p ≡ true) × (q ≡ true) × (r ≡ true)
+and-3 p q r e = let d = and-left (p && q) r e in (and-left p q d, and-right p q d, and-right (p && q) r e)
+
+and-6 : (p q r s t u : Bool) → (p && q && r && s && t && u) ≡ true
+    → (p ≡ true) × (q ≡ true) × (r ≡ true) × (s ≡ true) × (t ≡ true) × (u ≡ true)
+and-6 p q r s t u e =
+    let a = and-3 (p && q && r && s) t u e in
+    let b = and-3 (p && q) r s (a .0) in
+    (and-left p q (b .0), and-right p q (b .0), b .1, b .2, a .1, a .2)
+
+not-zero : (l : ℕ) → not (eqb l 0) ≡ true → l ≢ 0
+not-zero zero e = absurd (true-false (sym e))
+not-zero (suc l) e = λ z. omega arith
+
+-- one test more, all looked at
+pub all-more : (f : ℕ → Bool) (t : ℕ) (good b : Bool) → good ≡ allOf t f → b ≡ f t → (good && b) ≡ allOf (t + 1) f
+all-more f t good b h e = ap₂ _&&_ h e ∙ sym (all-turn t f)
+
+-- ---- the rows of the masks
+module _ (i l : ℕ) (masks : List ℕ) (k : ℕ) (good : Bool) (h : good ≡ allOf k (row? i l masks)) where
+  pub row-other : (count : ℕ) (r : Bool) → i ≢ k → count ≡ leaky l → r ≡ allOf count (λ t. leb (getD masks (k * count + t) 0) 1)
+      → (good && r) ≡ allOf (k + 1) (row? i l masks)
+  unfolding row?
+  row-other count r ne e hr =
+      all-more (row? i l masks) k good r h
+      (hr ∙ ap (λ m. allOf m (λ t. leb (getD masks (k * m + t) 0) 1)) e ∙ rw (neq-true i k ne) refl)
+
+  pub row-own : i ≡ k → good ≡ allOf (k + 1) (row? i l masks)
+  unfolding row?
+  row-own e =
+      let own : true ≡ row? i l masks k = rw (e, neq-self k) refl in
+      h ∙ and-true (allOf k (row? i l masks)) ∙ ap (λ b. allOf k (row? i l masks) && b) own ∙ sym (all-turn k (row? i l masks))
+
+-- ---- what stands behind the tests of the numbers and the lengths
+module _ (n i l : ℕ) (v : Lens) where
+  pub record Due : Type 0 where
+    pub range : InRange n l
+    pub own : i < n
+    pub bits : v .bits ≡ bitsCount l * recordLen n
+    pub alpha : v .alpha ≡ l * recordLen n
+    pub beta : v .beta ≡ l * recordLen n
+    pub delta : v .delta ≡ 16
+    pub seed : v .seed ≡ 32
+    pub pairs : v .pairs ≡ 32 * n
+    pub masks : v .masks ≡ n * leaky l
+    pub work : v .work ≡ workLen (frame n l 0)
+    pub out : v .out ≡ (n - 1) * msgLen n l 1
+
+  out-due : InRange n l → outLen n l 0 ≡ (n - 1) * msgLen n l 1
+  out-due r = out-len n l r 0 (omega arith) refl ∙ ap (λ k. (n - 1) * msgLen n l k) (order-first n)
+
+  work-due : InRange n l → pick (inRange n l) (workLen (frame n l 0)) 0 ≡ workLen (frame n l 0)
+  work-due r = rw (in-range n l r) refl
+
+  pub due-of : lengthsFault n i l v ≡ 0 → Due
+  unfolding lengthsFault lists? buffers?
+  due-of h =
+      let e1 = or-none (pick (parties? n && ltb i n) 0 15) _ h in
+      let e2 = or-none (pick (leb l 300000) 0 16) _ (e1 .1) in
+      let e3 = or-none (pick (not (eqb l 0)) 0 3) _ (e2 .1) in
+      let e4 = or-none (pick (lists? n l v) 0 6) _ (e3 .1) in
+      let p = unless-none (parties? n && ltb i n) 14 (e1 .0) in
+      let q = parties-true n (and-left (parties? n) (ltb i n) p) in
+      let some = not-zero l (unless-none (not (eqb l 0)) 2 (e3 .0)) in
+      let r : InRange n l = record { two = q .0; eight = q .1; one = omega (arith, some); most = leb-true l 300000 (unless-none (leb l 300000) 15 (e2 .0)) } in
+      let s = and-3 _ _ _ (unless-none (lists? n l v) 5 (e4 .0)) in
+      let b = and-6 _ _ _ _ _ _ (unless-none (buffers? n l v) 16 (e4 .1)) in
+      record {
+        range = r;
+        own = ltb-true i n (and-right (parties? n) (ltb i n) p);
+        bits = eqb-true _ _ (s .0) ∙ bits-len n l r;
+        alpha = eqb-true _ _ (s .1) ∙ shares-len n l r;
+        beta = eqb-true _ _ (s .2) ∙ shares-len n l r;
+        delta = eqb-true _ _ (b .0);
+        seed = eqb-true _ _ (b .1);
+        pairs = eqb-true _ _ (b .2) ∙ pairs-len n l r;
+        masks = eqb-true _ _ (b .3) ∙ masks-len n l r;
+        work = eqb-true _ _ (b .4) ∙ work-due r;
+        out = eqb-true _ _ (b .5) ∙ out-due r;
+      }
+
+  pub asked-of : (b x y m : ℕ) → v .bits ≡ b → v .alpha ≡ x → v .beta ≡ y → v .masks ≡ m → Due → Asked n i l b x y m
+  asked-of b x y m hb hx hy hm d =
+      record {
+        range = d .range;
+        own = d .own;
+        bits = sym hb ∙ d .bits;
+        alpha = sym hx ∙ d .alpha;
+        beta = sym hy ∙ d .beta;
+        masks = sym hm ∙ d .masks;
+      }
+
+-- ---- the chain of the definition
+-- p: n and i are in range; m: l is at most 300000; z: l is 0; lists and buffers: as the definition has them, and as the code tests them
+chain : (p m z lists lists′ buffers buffers′ : Bool) (y : ℕ) → (p ≡ true → m ≡ true → z ≡ false → (lists ≡ lists′) × (buffers ≡ buffers′))
+    → pick p (pick m (pick z 3 (pick lists (pick buffers y 17) 6)) 16) 15
+    ≡ orFault (orFault (pick p 0 15) (orFault (pick m 0 16) (orFault (pick (not z) 0 3) (orFault (pick lists′ 0 6) (pick buffers′ 0 17))))) y
+unfolding orFault
+chain false m z lists lists′ buffers buffers′ y h = refl
+chain true false z lists lists′ buffers buffers′ y h = refl
+chain true true true lists lists′ buffers buffers′ y h = refl
+chain true true false lists lists′ buffers buffers′ y h =
+    let e = h refl refl refl in
+    rw (e .0, e .1) (last lists′ buffers′)
+  where
+    last : (a b : Bool) → pick a (pick b y 17) 6 ≡ orFault (orFault (pick a 0 6) (pick b 0 17)) y
+    last false b = refl
+    last true false = refl
+    last true true = refl
+
+module _ (a : Args) where
+  abbrev n : ℕ
+  n = a .party .n
+
+  abbrev i : ℕ
+  i = a .party .i
+
+  abbrev l : ℕ
+  l = a .party .l
+
+  lists-same : InRange n l → listsDue a ≡ lists? n l (lens a)
+  unfolding listsDue lists?
+  lists-same r = rw (bits-len n l r, shares-len n l r) refl
+
+  buffers-same : InRange n l → buffersDue a ≡ buffers? n l (lens a)
+  unfolding buffersDue buffers?
+  buffers-same r = rw (pairs-len n l r, masks-len n l r, work-due n i l (lens a) r, out-due n i l (lens a) r, work-any n l 0 i) refl
+
+  bytes-same : bytesFault a ≡ bytesOf n i l (a .bits) (a .alpha) (a .beta) (a .masks)
+  unfolding bytesFault masksFault bytesOf masks? row?
+  bytes-same = refl
+
+  pub reason-found : reason a ≡ found a
+  unfolding reason lengthsFault parties?
+  reason-found =
+      chain (leb 2 n && leb n 8 && ltb i n) (leb l 300000) (eqb l 0) (listsDue a) (lists? n l (lens a)) (buffersDue a) (buffers? n l (lens a)) (bytesFault a)
+      (λ p m z.
+      let q = and-3 (leb 2 n) (leb n 8) (ltb i n) p in
+      let r : InRange n l = record { two = leb-true 2 n (q .0); eight = leb-true n 8 (q .1); one = omega (arith, eqb-false l 0 z); most = leb-true l 300000 m } in
+      (lists-same r, buffers-same r))
+      ∙ ap (orFault (lengthsFault n i l (lens a))) bytes-same
+
+  -- it is refused
+  pub refuses : (code : ℕ) → code ≡ found a → code ≢ 0
+      → outcome (record { party = a .party; due = 0 }) (Refused code i) (a .work) (a .out) ≡ spec a
+  unfolding spec
+  refuses code e h =
+      let q : code ≡ reason a = e ∙ sym reason-found in
+      rw (ne-eqb (reason a) 0 (λ z. h (q ∙ z))) (ap (λ k. outcome (record { party = a .party; due = 0 }) (Refused k i) (a .work) (a .out)) q)
+
+  -- it is not
+  pub accepts : (code : ℕ) → code ≡ found a → code ≡ 0
+      → spec a ≡ outcome (record { party = a .party; due = 1 }) Accepted (area a) (toOthers n i (λ r. Toss.commMsg (a .seed) i))
+  unfolding spec
+  accepts code e h = rw (eq-eqb (reason a) 0 (reason-found ∙ sym e ∙ h)) refl
+
+  pub due : (code : ℕ) → code ≡ found a → code ≡ 0 → Due n i l (lens a)
+  due code e h = due-of n i l (lens a) (or-none _ _ (sym e ∙ h) .0)

@@ -1,0 +1,4 @@
+pub mod Given
+pub mod MaskLaws
+pub mod WorkLaws
+pub mod MailLaws

@@ -1,0 +1,57 @@
+use mathlib.Core.Path.{_≡_, ap, _∙_}
+use lib.Dec.{eqb}
+use denote.Ref.{now}
+use Rattle.lists.specs.Pick.{pick}
+use Rattle.engine.specs.Step.{frame, mask}
+use Rattle.rounds.specs.Mail.{letter}
+use Rattle.engine.specs.Plain.{hashes}
+use Rattle.rounds.specs.Table as Table
+use Rattle.rounds.specs.Table.{table}
+use Rattle.session.specs.PartyLaws.{judge-party}
+use Rattle.session.specs.HeldLaws.{held-is, hashes-kept}
+use borrow.Author.Needs.{needs}
+use Rattle.session.proofs.hold_echo.Statement.{statement}
+use Rattle.session.proofs.hold_echo.Tie as tie
+use Rattle.session.proofs.hold_echo.Reads as reads
+use Rattle.session.proofs.hold_echo.Lts as lts
+use Rattle.broadcast.proofs.note.Reads as note-reads
+use Rattle.session.proofs.keep_clean.Reads as keep-clean-reads
+use Rattle.receive.proofs.judge.Reads as judge-reads
+
+-- src/lib.rt:98:9
+judge-requires : tie.Need-judge-requires
+judge-requires c κs = search needs
+
+-- src/lib.rt:99:5
+keep-clean-requires : tie.Need-keep-clean-requires
+keep-clean-requires c κs = search needs
+
+-- src/lib.rt:100:5
+note-requires : tie.Need-note-requires
+note-requires c κs = search needs
+
+-- src/lib.rt:84:1
+same-length : tie.Need-same-length
+same-length c = search needs
+
+-- src/lib.rt:84:1
+returns : tie.Need-returns
+returns c =
+    let p = c .before .before in
+    let q = p .before .before .before .before in
+    let j = q .before .before in
+    let s = j .before .before .before .before .before .before in
+    let a = s .args in
+    let f = frame (a .n) (a .l) (a .i) in
+    let w = now (a .work) in
+    let m = mask f (letter (now (a .incoming)) (now (a .starts)) (now (a .lens))) in
+    let small = judge-party f (s .pre .work .ranges .own) (s .pre .work .ranges .eight) (a .k) w m in
+    let noted = p .note .ensures (Table.judge (a .k) f w m) (j .judge .ensures) small in (
+      noted
+          ∙ held-is f (a .k) m w (q .keep-clean .last .0) (q .keep-clean .ensures ∙ ap (λ x. pick (eqb x 0) (Table.kept (a .k) f w m) w) (j .judge .ensures .code-is)),
+      ap (hashes table f) noted ∙ hashes-kept f (a .k) m (Table.judge (a .k) f w m) (q .keep-clean .last .0) (q .keep-clean .kept .0 ∙ s .pre .work .whole),
+    )
+
+pub hold-echo-spec : {M : Type 1} → statement M
+hold-echo-spec =
+    tie.close (tie.spec judge-requires keep-clean-requires note-requires same-length returns)

@@ -1,0 +1,61 @@
+-- The three ways that a round call ends, against `roundSpec`.
+use mathlib.Core.Path.{_≡_, refl, sym, ap, ap₂, _∙_}
+use mathlib.Core.Bool.{Bool, true, false}
+use mathlib.Core.Logic.{_≢_}
+use mathlib.Core.List.{List}
+use Prim.Native.Nat.{ℕ, _≤_}
+use lib.ListN.{length, replicate}
+use lib.Dec.{eqb}
+use borrow.Author.Tests.{eqb-true, eqb-false}
+use Rattle.lists.specs.Pick.{pick}
+use Rattle.plan.specs.Plan.{nextRound}
+use Rattle.engine.specs.declared.Session.{Session}
+use Rattle.engine.specs.declared.Verdict.{Verdict}
+use Rattle.engine.specs.declared.Verdict.the-variants.{Accepted, Refused}
+use Rattle.engine.specs.Step.{Lent, Outcome, outcome, Fault, part, mask, orElse, reasonOf, faultOf, ended, refused, faulted, accepted, roundSpec}
+use Rattle.engine.specs.StepLaws.{round-refuses, round-faults, round-accepts}
+use Rattle.engine.specs.Plain.{nextOf, ruleOf, protocolOf, keepOf, writeOf}
+use Rattle.rounds.specs.Mail.{letter}
+use Rattle.rounds.specs.FaultLaws.{Finds}
+use Rattle.rounds.specs.Table.{table}
+use Rattle.session.specs.SessionLaws.{next-is}
+
+-- no fault, so neither of the two
+pub or-zero : (a b : Fault) → orElse a b .code ≡ 0 → (a .code ≡ 0) × (b .code ≡ 0)
+unfolding orElse
+or-zero a b h = go (eqb (a .code) 0) refl h
+  where
+    go : (t : Bool) → eqb (a .code) 0 ≡ t → pick t b a .code ≡ 0 → (a .code ≡ 0) × (b .code ≡ 0)
+    go true e z = (eqb-true (a .code) 0 e, z)
+    go false e z = absurd (eqb-false (a .code) 0 e z)
+
+module _ (s : Session) (k : ℕ) (q : Lent) (w : List ℕ) where
+  -- refused, and all as it was
+  pub call-refused : (code : ℕ) → code ≡ reasonOf (protocolOf table) s k q w → code ≢ 0
+      → outcome s (Refused code (s .party .i)) w (q .out) ≡ roundSpec (protocolOf table) s k q w
+  unfolding refused
+  call-refused code e ne =
+      ap (λ c. outcome s (Refused c (s .party .i)) w (q .out)) e ∙ sym (round-refuses (protocolOf table) s k q w (λ z. ne (e ∙ z)))
+
+  module _ (z : reasonOf (protocolOf table) s k q w ≡ 0) where
+    -- a received fault
+    pub call-faulted : (code party : ℕ) (t : Session) (v : List ℕ) → Finds code party (faultOf (ruleOf table k) (s .party) q w) → code ≢ 0
+        → t ≡ ended s → v ≡ replicate (length w) 0
+        → outcome t (Refused code party) v (q .out) ≡ roundSpec (protocolOf table) s k q w
+    unfolding faulted
+    call-faulted code party t v h ne et ev =
+        let bad : faultOf (ruleOf table k) (s .party) q w .code ≢ 0 = λ x. ne (h .code-is ∙ x) in
+        ap₂ (λ (a : Session) (b : List ℕ). outcome a (Refused code party) b (q .out)) et ev
+        ∙ ap₂ (λ c p. outcome (ended s) (Refused c p) (replicate (length w) 0) (q .out)) (h .code-is) (h .party-is bad)
+        ∙ sym (round-faults (protocolOf table) s k q w z bad)
+
+    -- accepted
+    pub call-accepted : faultOf (ruleOf table k) (s .party) q w .code ≡ 0 → k ≤ 22 → (next : ℕ) → next ≡ nextRound (s .party .n) k → (v o : List ℕ)
+        → v ≡ keepOf table k (s .party) (q .loan) w (mask (s .party) (letter (q .incoming) (q .starts) (q .lens)))
+        → o ≡ writeOf table k (s .party) (q .loan) w (mask (s .party) (letter (q .incoming) (q .starts) (q .lens)))
+        → outcome (record { party = s .party; due = next }) Accepted v o ≡ roundSpec (protocolOf table) s k q w
+    unfolding accepted part letter
+    call-accepted y h next e v o ev eo =
+        ap (λ d. outcome (record { party = s .party; due = d }) Accepted v o) (e ∙ sym (next-is (s .party .n) k h))
+        ∙ ap₂ (λ (a b : List ℕ). outcome (record { party = s .party; due = nextOf table (eqb (s .party .n) 2) k }) Accepted a b) ev eo
+        ∙ sym (round-accepts (protocolOf table) s k q w z y)

@@ -1,0 +1,5 @@
+pub mod CallLaws
+pub mod Given
+pub mod HeldLaws
+pub mod PartyLaws
+pub mod SessionLaws

@@ -1,0 +1,154 @@
+-- The loop's invariant: the entries of the first k parties are written.
+use mathlib.Core.Path.{refl, ap, ap₂, _∙_}
+use Prim.Native.Nat.{ℕ, _+_, _-_, _*_, _<_, _≤_}
+use native.Mathlib.Omega.{arith}
+use lib.ListN.{length, getD, length-set}
+use borrow.Author.Needs.{needs}
+use denote.Ref.{now}
+use Rattle.algebra.specs.Group.{XorGroup, sel, odd, num}
+use Rattle.block.specs.Group.{blocks}
+use Rattle.share.specs.Record.{recordLen, macAt, keyAt}
+use Rattle.share.specs.Share.{Share, shareAt, entryBytes, entryOf, recordOf}
+use Rattle.share.specs.ShareLaws.{length-entryOf}
+use Rattle.share.proofs.Laws.{Filled, filled-none, filled-turn, filled-bit}
+use Rattle.plan.specs.Plan.{leaky}
+use Rattle.engine.specs.Step.{frame}
+use Rattle.rounds.specs.Haand.{r, zAt}
+use Rattle.rounds.specs.Flaand.{zKey}
+use Rattle.rounds.specs.Buckets.{zShare}
+use Rattle.triples.specs.Given.{r-in, z-in, e-in}
+use Rattle.triples.proofs.put_z_record.Statement.{statement}
+use Rattle.triples.proofs.put_z_record.Tie as tie
+
+abbrev Inv-loop : tie.InvT-loop
+Inv-loop out₀ recs zs es delta t at n i l k₀ out k = (k ≤ n) × Filled (entryOf i (zShare (frame n l i) delta recs zs es t)) n k out₀ out
+
+abbrev μ-loop : tie.MeasureT-loop
+μ-loop out₀ recs zs es delta t at n i l k₀ out k = n - k
+
+-- of a call
+module _ (s : tie.Start Inv-loop μ-loop) where
+  abbrev z : Share
+  z = zShare (s .args .f) (s .args .delta) (now (s .args .recs)) (now (s .args .zs)) (now (s .args .es)) (s .args .t)
+
+  below : s .args .t < leaky (s .args .f .l)
+  below = s .pre .0 .1
+
+r-at-requires : tie.Need-r-at-requires Inv-loop μ-loop
+r-at-requires c κs = let s = c .before .before .before .before in (s .pre .0 .0 .eight, s .pre .0 .0 .most, below s)
+
+loop-holds : tie.Need-loop-holds Inv-loop μ-loop
+loop-holds c =
+    let s = c .before .before .before .before .before in
+    (search needs, filled-none _ (s .args .f .n) (now (s .args .out)) (length-entryOf (s .args .f .i) (z s)) (s .pre .0 .2))
+
+-- in a turn
+module _ (c : tie.In-loop Inv-loop μ-loop) where
+  abbrev start : tie.Start Inv-loop μ-loop
+  start = c .before .before .before .before .before .before .before
+
+  abbrev k : ℕ
+  k = c .before .loop .k
+
+  record-in : c .before .before .r-at .result + recordLen (k + 1) ≤ length (now (start .args .recs))
+  record-in =
+      omega (
+        arith,
+        r-in (start .args .f) (now (start .args .recs)) (now (start .args .zs)) (now (start .args .es)) (start .pre .1) (start .args .t) (below start),
+        c .before .before .r-at .ensures,
+        c .loop-test .taken,
+      )
+
+  few : k < 8
+  few = omega (arith, c .loop-test .taken, start .pre .0 .0 .eight)
+
+mac-off-requires : tie.Need-mac-off-requires Inv-loop μ-loop
+mac-off-requires c κs = few c
+
+add-e : tie.Need-add-e Inv-loop μ-loop
+add-e c = omega (arith, c .mac-off .ensures, few (c .before))
+
+z-key-requires : tie.Need-z-key-requires Inv-loop μ-loop
+z-key-requires c κs =
+    let i = c .before in
+    let s = start i in (
+      (few i, record-in i),
+      (s .pre .0 .0 .most, e-in (s .args .f) (now (s .args .recs)) (now (s .args .zs)) (now (s .args .es)) (s .pre .1) (s .args .t) (below s) (k i) (i .loop-test .taken)),
+    )
+
+part-put-entry-of-end : tie.Need-part-put-entry-of-end Inv-loop μ-loop
+part-put-entry-of-end c =
+    let o = c .before in
+    let i = o .before in
+    omega (arith, o .mac-off .ensures, i .loop-test .taken, i .before .loop .inv .1 .same, i .before .loop .inv .1 .whole)
+
+mac-at-requires : tie.Need-mac-at-requires Inv-loop μ-loop
+mac-at-requires c κs = let i = c .before .before .before in (few i, record-in i)
+
+loop-again : tie.Need-loop-again Inv-loop μ-loop
+unfolding entryOf zShare zKey r shareAt
+loop-again c =
+    let p = c .before .before in
+    let y = p .before .before .before in
+    let o = y .before in
+    let i = o .before in
+    let s = start i in
+    let at = i .before .before .r-at in
+    let a = s .args in (
+      omega (arith, i .loop-test .taken),
+      filled-turn (i .before .loop .inv .1) (o .mac-off .result) (o .mac-off .result + 32) (o .mac-off .ensures) refl (p .put-entry-of .last .0) (i .loop-test .taken)
+          (p .put-entry-of .ensures
+          ∙ ap₂ (entryBytes (a .f .i) (k i))
+          (p .before .mac-at .ensures ∙ ap (λ q. macAt (now (a .recs)) q (k i)) (at .ensures))
+          (y .z-key .ensures ∙ ap (λ q. blocks .op (keyAt (now (a .recs)) q (k i)) (sel blocks (odd (getD (now (a .es)) (k i * leaky (a .f .l) + a .t) 0)) (a .delta))) (at .ensures))),
+    )
+
+-- z lies within
+z-within : (c : tie.After-loop Inv-loop μ-loop) → let s = c .before .before .before .before .before .before .before in s .args .t * 17 < length (now (s .args .zs))
+z-within c =
+    let s = c .before .before .before .before .before .before .before in
+    z-in (s .args .f) (now (s .args .recs)) (now (s .args .zs)) (now (s .args .es)) (s .pre .1) (s .args .t) (below s)
+
+mul-bit : tie.Need-mul-bit Inv-loop μ-loop
+mul-bit c = omega (arith, z-within c, c .before .before .before .before .before .before .before .good)
+
+bit-requires : tie.Need-bit-requires Inv-loop μ-loop
+bit-requires c κs = z-within c
+
+slice-write-out : tie.Need-slice-write-out Inv-loop μ-loop
+slice-write-out c = let l = c .before .before .before in omega (arith, l .loop .inv .1 .same, l .loop .inv .1 .whole)
+
+same-length : tie.Need-same-length Inv-loop μ-loop
+same-length c = simp length-set (c .before .before .before .loop .inv .1 .same)
+
+returns : tie.Need-returns Inv-loop μ-loop
+unfolding recordOf zShare zAt
+returns c =
+    let l = c .before .before .before in
+    filled-bit (l .loop .inv .1) (c .bit-byte .result) _ (omega (arith, c .before .before .loop-test .left)) (c .bit-byte .ensures ∙ ap num (c .before .bit .ensures))
+
+pub put-z-record-spec : {M : Type 1} → statement M
+put-z-record-spec =
+    tie.close
+    (tie.spec
+    Inv-loop
+    μ-loop
+    r-at-requires
+    loop-holds
+    mac-off-requires
+    add-e
+    z-key-requires
+    (λ c. search needs)
+    (λ c. search needs)
+    part-put-entry-of-end
+    mac-at-requires
+    (λ c κs. search needs)
+    (λ c. search needs)
+    (λ c. search needs)
+    loop-again
+    mul-bit
+    bit-requires
+    (λ c κs. search needs)
+    slice-write-out
+    same-length
+    returns)
