@@ -134,5 +134,12 @@ int main(int argc, char **argv) {
         for (size_t i = 0; i < n; i++) free(out[i]), free(incoming[i]), out[i] = next[i];
     }
     if (flip) return puts("nobody refused"), 0;
-    return 0;
+
+    /* Combining by itself: records of the list of bits as triples; d is public, as it is opened. */
+    uint8_t d[4] = {0, 1, 1, 0}, *combined = buffer(3 * (1 + 32 * n));
+    VALGRIND_PRINTF("CALL combine\n");
+    uint64_t answer = nuzsdike_combine(n, 0, 5, bits[0], 15 * (1 + 32 * n), d, 4, combined, 3 * (1 + 32 * n));
+    VALGRIND_PRINTF("CALL none\n");
+    show(&answer, sizeof answer);
+    return answer != 0;
 }

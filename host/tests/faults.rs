@@ -9,7 +9,7 @@ use std::{
 };
 
 use nuzsdike_host::transport::{head, HEAD, MESSAGE};
-use rig::{detour, end, introduce, session, Act, Deal, Ended, Process, TIMEOUT};
+use rig::{detour, end, introduce, session, verdict, Act, Deal, Ended, Process, TIMEOUT};
 
 /// Every box failed; gives their errors.
 fn errors(ends: &[Ended]) -> Vec<&str> {
@@ -139,6 +139,27 @@ fn a_flipped_bit_of_a_dm_is_refused_by_its_sender() {
     let errors = errors(&ends);
     has(errors[1], &["refused 9 AShareWrongMAC in round 12 (fashare di_bi), names box 0"]);
     has(errors[0], &["it ended the session, because box 1 refused 9 AShareWrongMAC in round 12 (fashare di_bi), naming box 0"]);
+}
+
+/// The third commitments of round 8, which nobody opens, and the MACs of round 10, which are for the sender's keys at a third box: with two boxes
+/// a flipped bit there changes nothing. The line has to be authenticated anyway (docs/SECURITY.md).
+#[test]
+fn bits_that_decide_nothing_for_two_boxes() {
+    let deal = Deal::new(2, 3, 22);
+    for round in [8, 10] {
+        let at = deal.plan.message_len(round) - 1;
+        let tamper = move |forth: bool, due: usize, frame: &[u8]| {
+            let mut frame = frame.to_vec();
+            if forth && due == round {
+                frame[HEAD + at] ^= 1;
+            }
+            Act::Instead(frame)
+        };
+        let boxes = session(&deal, |i, k, address| if (i, k) == (1, 0) { detour(address, tamper) } else { address });
+        let results: Vec<_> = boxes.iter().map(|process| process.results.clone()).collect();
+        assert!(end(boxes).iter().all(|ended| ended.status.success()));
+        assert!(verdict(&deal, &results).is_ok());
+    }
 }
 
 /// A bit of the count: what follows does not decode by it, or is too little.
