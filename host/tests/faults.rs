@@ -141,8 +141,8 @@ fn a_flipped_bit_of_a_dm_is_refused_by_its_sender() {
     has(errors[0], &["it ended the session, because box 1 refused 9 AShareWrongMAC in round 12 (fashare di_bi), naming box 0"]);
 }
 
-/// The third commitments of round 8, which nobody opens, and the MACs of round 10, which are for the sender's keys at a third box: with two boxes
-/// a flipped bit there changes nothing. The line has to be authenticated anyway (docs/SECURITY.md).
+/// The third commitments of round 8, which nobody opens, and the MACs of round 10 for the receiver itself, which it doesn't check: two boxes have no
+/// echo, and a flipped bit there changes nothing. The line has to be authenticated anyway (docs/SECURITY.md).
 #[test]
 fn bits_that_decide_nothing_for_two_boxes() {
     let deal = Deal::new(2, 3, 22);
