@@ -1,0 +1,145 @@
+/* Secrets under a microscope: runs n boxes in one process under valgrind's memcheck, every secret input marked as undefined. memcheck then reports
+ * each conditional jump and each address that depends on one, and host/secrets holds what it reports to host/microscope/allowed.
+ *
+ *   secrets N L       a session
+ *   secrets N L K     the same with one bit of box 1's message of round K to box 0 flipped: the ways of a refusal too
+ *   secrets control   a jump and an address that do depend on a secret: memcheck has to see both
+ *
+ * Secret: delta, the seeds, the share records and the masks. Public: n, i, l, r, the permutation, and what is on the line. So what a call wrote to
+ * the outgoing buffer is declared defined before it is carried over; the results stay undefined, and are looked at by nobody.
+ */
+#include <stdio.h>
+#include <stdlib.h>
+#include <string.h>
+#include <valgrind/memcheck.h>
+
+#include "nuzsdike.h"
+
+enum { MOST = 8 };
+
+static uint64_t state = 1;
+static uint8_t byte(void) {
+    state = state * 6364136223846793005u + 1442695040888963407u;
+    return (uint8_t)(state >> 56);
+}
+
+static uint8_t *buffer(size_t len) {
+    uint8_t *p = calloc(len + 8, 1);
+    if (!p) abort();
+    return p;
+}
+
+static uint8_t *random_bytes(size_t len) {
+    uint8_t *p = buffer(len);
+    for (size_t k = 0; k < len; k++) p[k] = byte();
+    return p;
+}
+
+static void hide(const void *p, size_t len) { VALGRIND_MAKE_MEM_UNDEFINED(p, len); }
+static void show(const void *p, size_t len) { VALGRIND_MAKE_MEM_DEFINED(p, len); }
+
+/* Share records for n boxes, as docs/INTEGRATION.md has them. */
+static void deal(size_t n, uint8_t *delta[], uint8_t *list[], size_t count) {
+    size_t record = 1 + 32 * n;
+    for (size_t t = 0; t < count; t++)
+        for (size_t j = 0; j < n; j++) {
+            uint8_t bit = list[j][t * record] = byte() & 1;
+            for (size_t k = 0; k < n; k++) {
+                if (k == j) continue;
+                uint8_t *key = list[k] + t * record + 17 + 32 * j, *mac = list[j] + t * record + 1 + 32 * k;
+                for (size_t b = 0; b < 16; b++) {
+                    key[b] = byte();
+                    mac[b] = key[b] ^ (delta[k][b] & -bit);
+                }
+            }
+        }
+}
+
+/* The control: what a leak looks like. */
+static volatile uint8_t sink;
+__attribute__((noinline)) static void control_jump(const uint8_t *secret) {
+    if (*secret & 1) sink = 1;
+}
+__attribute__((noinline)) static void control_address(const uint8_t *secret) {
+    static volatile uint8_t table[256];
+    sink = table[*secret];
+}
+
+int main(int argc, char **argv) {
+    if (argc == 2 && !strcmp(argv[1], "control")) {
+        uint8_t secret = 5;
+        hide(&secret, 1);
+        VALGRIND_PRINTF("CALL control\n");
+        control_jump(&secret);
+        control_address(&secret);
+        return 0;
+    }
+    size_t n = argc > 1 ? strtoul(argv[1], 0, 10) : 0, l = argc > 2 ? strtoul(argv[2], 0, 10) : 0, flip = argc > 3 ? strtoul(argv[3], 0, 10) : 0;
+    size_t work_len = nuzsdike_work_len(n, l);
+    if (!work_len) {
+        fputs("usage: secrets N L [K] | secrets control\n", stderr);
+        return 2;
+    }
+    size_t bits_len = nuzsdike_bits_len(n, l), shares_len = nuzsdike_shares_len(n, l), masks_len = nuzsdike_masks_len(n, l);
+    size_t pairs_len = nuzsdike_pairs_len(n), r_len = 0, perm_len = 0;
+    for (size_t k = 1; k; k = nuzsdike_next_round(n, k)) r_len += nuzsdike_r_len(n, l, k), perm_len += nuzsdike_perm_len(n, l, k);
+    uint8_t *r = random_bytes(r_len), *delta[MOST], *seed[MOST], *pairs[MOST], *masks[MOST], *bits[MOST], *alpha[MOST], *beta[MOST], *work[MOST], *out[MOST];
+    uint32_t *perm = (uint32_t *)buffer(4 * perm_len);
+    size_t session[MOST][NUZSDIKE_SESSION];
+    for (size_t t = 0; t < perm_len; t++) perm[t] = (uint32_t)(perm_len - 1 - t);
+    for (size_t i = 0; i < n; i++) {
+        delta[i] = random_bytes(16), seed[i] = random_bytes(32), pairs[i] = random_bytes(pairs_len), masks[i] = random_bytes(masks_len);
+        for (size_t k = 0; k < masks_len; k++) masks[i][k] &= 1;
+        bits[i] = buffer(bits_len), alpha[i] = buffer(shares_len), beta[i] = buffer(shares_len), work[i] = buffer(work_len), out[i] = 0;
+    }
+    deal(n, delta, bits, bits_len / (1 + 32 * n));
+    deal(n, delta, alpha, l);
+    deal(n, delta, beta, l);
+    for (size_t i = 0; i < n; i++) {
+        hide(delta[i], 16), hide(seed[i], 32), hide(pairs[i], pairs_len), hide(masks[i], masks_len);
+        hide(bits[i], bits_len), hide(alpha[i], shares_len), hide(beta[i], shares_len);
+    }
+
+    for (size_t i = 0; i < n; i++) {
+        out[i] = buffer(nuzsdike_out_len(n, l, 0));
+        VALGRIND_PRINTF("CALL open\n");
+        uint64_t answer = nuzsdike_open(session[i], NUZSDIKE_SESSION, n, i, l, delta[i], 16, seed[i], 32, pairs[i], pairs_len, bits[i], bits_len, alpha[i],
+                                        shares_len, beta[i], shares_len, masks[i], masks_len, work[i], work_len, out[i], nuzsdike_out_len(n, l, 0));
+        VALGRIND_PRINTF("CALL none\n");
+        show(&answer, sizeof answer), show(session[i], sizeof session[i]); /* an answer is public */
+        if (answer) return fprintf(stderr, "opening: refused %u\n", NUZSDIKE_CODE(answer)), 1;
+    }
+    for (size_t round = 1; round; round = nuzsdike_next_round(n, round)) {
+        size_t len = nuzsdike_message_len(n, l, round), out_len = nuzsdike_out_len(n, l, round), refused = 0;
+        uint8_t *incoming[MOST], *next[MOST];
+        for (size_t i = 0; i < n; i++) show(out[i], (n - 1) * len); /* it is on the line */
+        for (size_t i = 0; i < n; i++) {
+            incoming[i] = buffer(n * len), next[i] = buffer(out_len);
+            for (size_t k = 0; k < n; k++)
+                if (k != i) memcpy(incoming[i] + k * len, out[k] + (i < k ? i : i - 1) * len, len);
+        }
+        if (round == flip) incoming[0][2 * len - 1] ^= 1;
+        for (size_t i = 0; i < n; i++) {
+            size_t starts[MOST] = {0}, lens[MOST] = {0};
+            uint8_t missing[MOST] = {0};
+            for (size_t k = 0; k < n; k++) starts[k] = k * len, lens[k] = len;
+            VALGRIND_PRINTF("CALL round %zu\n", round);
+            uint64_t answer = nuzsdike_round(session[i], NUZSDIKE_SESSION, round, incoming[i], n * len, starts, n, lens, n, missing, n, r,
+                                             nuzsdike_r_len(n, l, round), perm, nuzsdike_perm_len(n, l, round), work[i], work_len, next[i], out_len);
+            VALGRIND_PRINTF("CALL none\n");
+            show(&answer, sizeof answer), show(session[i], sizeof session[i]);
+            if (answer) printf("round %zu: box %zu refuses %u, naming %zu\n", round, i, NUZSDIKE_CODE(answer), NUZSDIKE_PARTY(answer)), refused = 1;
+        }
+        if (refused) return flip ? 0 : 1;
+        for (size_t i = 0; i < n; i++) free(out[i]), free(incoming[i]), out[i] = next[i];
+    }
+    if (flip) return puts("nobody refused"), 0;
+
+    /* Combining by itself: records of the list of bits as triples; d is public, as it is opened. */
+    uint8_t d[4] = {0, 1, 1, 0}, *combined = buffer(3 * (1 + 32 * n));
+    VALGRIND_PRINTF("CALL combine\n");
+    uint64_t answer = nuzsdike_combine(n, 0, 5, bits[0], 15 * (1 + 32 * n), d, 4, combined, 3 * (1 + 32 * n));
+    VALGRIND_PRINTF("CALL none\n");
+    show(&answer, sizeof answer);
+    return answer != 0;
+}

@@ -1,0 +1,76 @@
+//! Words of a command line: `--name value`.
+
+use std::{fmt::Display, str::FromStr};
+
+/// What the words say, or the line that says what is wrong with them.
+pub struct Args {
+    words: Vec<(String, String)>,
+}
+
+impl Args {
+    /// Takes `--name value` for the names given. `None` where the words ask for help.
+    pub fn parse(words: impl Iterator<Item = String>, names: &[&str]) -> Result<Option<Args>, String> {
+        let mut parsed: Vec<(String, String)> = vec![];
+        let mut words = words;
+        while let Some(word) = words.next() {
+            if word == "--help" || word == "-h" {
+                return Ok(None);
+            }
+            let name = word.strip_prefix("--").filter(|name| names.contains(name));
+            let Some(name) = name else { return Err(format!("unknown word '{word}'")) };
+            if parsed.iter().any(|(earlier, _)| earlier == name) {
+                return Err(format!("--{name} is there twice"));
+            }
+            let Some(value) = words.next() else { return Err(format!("--{name} needs a value")) };
+            parsed.push((name.into(), value));
+        }
+        Ok(Some(Args { words: parsed }))
+    }
+
+    pub fn get(&self, name: &str) -> Option<&str> {
+        self.words.iter().find(|(earlier, _)| earlier == name).map(|(_, value)| &value[..])
+    }
+
+    pub fn need(&self, name: &str) -> Result<&str, String> {
+        self.get(name).ok_or(format!("--{name} is missing"))
+    }
+
+    /// A number within bounds, digits alone.
+    pub fn number<T: FromStr + PartialOrd + Display>(&self, name: &str, least: T, most: T) -> Result<Option<T>, String> {
+        let Some(value) = self.get(name) else { return Ok(None) };
+        let digits = !value.is_empty() && value.bytes().all(|byte| byte.is_ascii_digit());
+        match value.parse() {
+            Ok(number) if digits && least <= number && number <= most => Ok(Some(number)),
+            _ => Err(format!("--{name} takes a number from {least} to {most}, not '{value}'")),
+        }
+    }
+}
+
+#[cfg(test)]
+mod tests {
+    use super::*;
+
+    fn parse(words: &[&str]) -> Result<Option<Args>, String> {
+        Args::parse(words.iter().map(|word| word.to_string()), &["n", "l"])
+    }
+
+    #[test]
+    fn words_are_taken() {
+        let args = parse(&["--l", "7", "--n", "3"]).unwrap().unwrap();
+        assert_eq!(args.number("n", 2, 8), Ok(Some(3)));
+        assert_eq!(args.number("l", 1, 300_000), Ok(Some(7)));
+        assert!(parse(&["--n", "3", "--help", "nonsense"]).unwrap().is_none());
+        assert_eq!(parse(&[]).unwrap().unwrap().number("n", 2, 8), Ok(None));
+    }
+
+    #[test]
+    fn bad_words_are_refused() {
+        for words in [&["--m", "3"][..], &["3"], &["--n"], &["--n", "3", "--n", "4"], &["-n", "3"], &["--n=3"]] {
+            assert!(parse(words).is_err(), "{words:?}");
+        }
+        for value in ["", "1", "9", "-3", "+3", "3x", " 3", "99999999999999999999"] {
+            let args = parse(&["--n", value]).unwrap().unwrap();
+            assert!(args.number("n", 2, 8).is_err(), "'{value}'");
+        }
+    }
+}

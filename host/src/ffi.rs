@@ -1,0 +1,82 @@
+//! include/nuzsdike.h, word for word. Nothing but lib.rs uses it; its safe wrapper says what each call needs.
+
+// The library is compiled for x86-64: size_t is u64 there, and usize.
+#[cfg(not(target_pointer_width = "64"))]
+compile_error!("libnuzsdike.a is for 64-bit machines");
+
+pub const SESSION: usize = 4;
+
+extern "C" {
+    pub fn nuzsdike_open(
+        session: *mut usize,
+        session_len: usize,
+        n: usize,
+        i: usize,
+        l: usize,
+        delta: *const u8,
+        delta_len: usize,
+        seed: *const u8,
+        seed_len: usize,
+        pairs: *const u8,
+        pairs_len: usize,
+        bits: *const u8,
+        bits_len: usize,
+        alpha: *const u8,
+        alpha_len: usize,
+        beta: *const u8,
+        beta_len: usize,
+        masks: *const u8,
+        masks_len: usize,
+        work: *mut u8,
+        work_len: usize,
+        out: *mut u8,
+        out_len: usize,
+    ) -> u64;
+
+    pub fn nuzsdike_round(
+        session: *mut usize,
+        session_len: usize,
+        round: usize,
+        incoming: *const u8,
+        incoming_len: usize,
+        starts: *const usize,
+        starts_len: usize,
+        lens: *const usize,
+        lens_len: usize,
+        missing: *const u8,
+        missing_len: usize,
+        r: *const u8,
+        r_len: usize,
+        perm: *const u32,
+        perm_len: usize,
+        work: *mut u8,
+        work_len: usize,
+        out: *mut u8,
+        out_len: usize,
+    ) -> u64;
+
+    pub fn nuzsdike_combine(
+        n: usize,
+        i: usize,
+        count: usize,
+        triples: *const u8,
+        triples_len: usize,
+        d: *const u8,
+        d_len: usize,
+        out: *mut u8,
+        out_len: usize,
+    ) -> u64;
+
+    pub fn nuzsdike_work_len(n: usize, l: usize) -> usize;
+    pub fn nuzsdike_out_len(n: usize, l: usize, round: usize) -> usize;
+    pub fn nuzsdike_message_len(n: usize, l: usize, round: usize) -> usize;
+    pub fn nuzsdike_bits_len(n: usize, l: usize) -> usize;
+    pub fn nuzsdike_shares_len(n: usize, l: usize) -> usize;
+    pub fn nuzsdike_masks_len(n: usize, l: usize) -> usize;
+    pub fn nuzsdike_pairs_len(n: usize) -> usize;
+    pub fn nuzsdike_r_len(n: usize, l: usize, round: usize) -> usize;
+    pub fn nuzsdike_perm_len(n: usize, l: usize, round: usize) -> usize;
+    pub fn nuzsdike_next_round(n: usize, round: usize) -> usize;
+    pub fn nuzsdike_due(session: *const usize, session_len: usize) -> usize;
+    pub fn nuzsdike_round_name(round: usize, k: usize) -> u8;
+}

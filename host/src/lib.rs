@@ -1,0 +1,408 @@
+//! The host kit of Nuzsdike: a safe wrapper over include/nuzsdike.h (this file), lines between boxes (transport), honest inputs for demos
+//! and tests (dealer), a checker that sees every box's outputs (check), and files for both (files).
+//!
+//! A session, with any transport:
+//!
+//! ```text
+//! let (mut session, mut outgoing) = Session::open(plan, i, &inputs)?;
+//! loop {
+//!     // send outgoing.to(k) to every other box k; gather the others' messages of the round that is due
+//!     let mut mail = Mail::new(plan, i, session.due());
+//!     ...
+//!     match session.round(&mail, lent)? {
+//!         Step::Send(next) => outgoing = next,
+//!         Step::Done(results) => break,
+//!     }
+//! }
+//! ```
+
+use std::hint;
+
+pub mod args;
+pub mod check;
+pub mod dealer;
+mod ffi;
+pub mod files;
+mod refusal;
+pub mod sys;
+pub mod transport;
+
+pub use refusal::{Reason, Refusal};
+
+/// The calls of the interface that can refuse.
+#[derive(Clone, Copy, Debug, PartialEq, Eq)]
+pub enum Call {
+    Open,
+    Round(usize),
+    Combine,
+}
+
+/// The name of a round as the library has it, empty for what is no round.
+pub fn round_name(round: usize) -> String {
+    // Sound: reads no memory of ours.
+    let byte = |k| unsafe { ffi::nuzsdike_round_name(round, k) };
+    (0..16).map(byte).take_while(|b| *b != 0).map(char::from).collect()
+}
+
+/// The name of a round for messages: an echo says what it echoes.
+pub fn round_title(round: usize) -> String {
+    match round_name(round) {
+        name if name == "echo" => format!("echo of {}", round_name(round - 1)),
+        name => name,
+    }
+}
+
+/// The bytes of a share record: the bit, then for each party a MAC and a key.
+pub const fn record_len(n: usize) -> usize {
+    1 + 32 * n
+}
+
+/// The numbers of a session of n boxes for l ANDs. Every length is the library's own answer; all are 0 where opening would refuse n or l.
+#[derive(Clone, Copy, Debug, PartialEq, Eq)]
+pub struct Plan {
+    pub n: usize,
+    pub l: usize,
+}
+
+// Sound throughout: these calls take numbers and touch no memory.
+impl Plan {
+    pub fn new(n: usize, l: usize) -> Self {
+        Plan { n, l }
+    }
+
+    pub fn work_len(self) -> usize {
+        unsafe { ffi::nuzsdike_work_len(self.n, self.l) }
+    }
+
+    /// The outgoing buffer of the call for a round; round 0 is opening.
+    pub fn out_len(self, round: usize) -> usize {
+        unsafe { ffi::nuzsdike_out_len(self.n, self.l, round) }
+    }
+
+    pub fn message_len(self, round: usize) -> usize {
+        unsafe { ffi::nuzsdike_message_len(self.n, self.l, round) }
+    }
+
+    pub fn bits_len(self) -> usize {
+        unsafe { ffi::nuzsdike_bits_len(self.n, self.l) }
+    }
+
+    /// Of alpha, of beta and of the results.
+    pub fn shares_len(self) -> usize {
+        unsafe { ffi::nuzsdike_shares_len(self.n, self.l) }
+    }
+
+    pub fn masks_len(self) -> usize {
+        unsafe { ffi::nuzsdike_masks_len(self.n, self.l) }
+    }
+
+    pub fn pairs_len(self) -> usize {
+        unsafe { ffi::nuzsdike_pairs_len(self.n) }
+    }
+
+    /// The bytes of r to lend with the call for a round.
+    pub fn r_len(self, round: usize) -> usize {
+        unsafe { ffi::nuzsdike_r_len(self.n, self.l, round) }
+    }
+
+    /// The numbers of the permutation to lend with the call for a round.
+    pub fn perm_len(self, round: usize) -> usize {
+        unsafe { ffi::nuzsdike_perm_len(self.n, self.l, round) }
+    }
+
+    /// The round after a round, 0 after the last; the first after 0.
+    pub fn next_round(self, round: usize) -> usize {
+        unsafe { ffi::nuzsdike_next_round(self.n, round) }
+    }
+
+    /// The rounds in order: 14 for two boxes, else 22.
+    pub fn rounds(self) -> Vec<usize> {
+        let next = |round: &usize| Some(self.next_round(*round)).filter(|next| *next != 0);
+        std::iter::successors(next(&0), next).collect()
+    }
+
+    /// All of r, whichever call it is lent with.
+    pub fn r_total(self) -> usize {
+        self.rounds().into_iter().map(|round| self.r_len(round)).sum()
+    }
+
+    /// The whole permutation, l times the bucket size.
+    pub fn perm_total(self) -> usize {
+        self.rounds().into_iter().map(|round| self.perm_len(round)).sum()
+    }
+
+    /// The bytes of the messages that a box sends in a session, and receives.
+    pub fn traffic(self) -> usize {
+        let messages: usize = self.rounds().into_iter().map(|round| self.message_len(round)).sum();
+        messages * self.n.saturating_sub(1)
+    }
+}
+
+/// What a box brings to a session. All of it is secret, and good for one session.
+pub struct Inputs {
+    pub delta: [u8; 16],
+    /// Own seed of the joint toss.
+    pub seed: [u8; 32],
+    /// Own seeds of the pairwise tosses, 32 bytes by party.
+    pub pairs: Vec<u8>,
+    pub bits: Vec<u8>,
+    pub alpha: Vec<u8>,
+    pub beta: Vec<u8>,
+    /// A byte for each party and leaky AND, by party.
+    pub masks: Vec<u8>,
+}
+
+impl Drop for Inputs {
+    fn drop(&mut self) {
+        wipe(&mut self.delta);
+        wipe(&mut self.seed);
+        for list in [&mut self.pairs, &mut self.bits, &mut self.alpha, &mut self.beta, &mut self.masks] {
+            wipe(list);
+        }
+    }
+}
+
+/// Zeroes memory that held secrets. `black_box` keeps the compiler from dropping writes that nobody reads.
+pub fn wipe(bytes: &mut [u8]) {
+    bytes.fill(0);
+    hint::black_box(bytes);
+}
+
+/// The messages of a round to the other boxes.
+pub struct Outgoing {
+    round: usize,
+    n: usize,
+    i: usize,
+    bytes: Vec<u8>,
+}
+
+impl Outgoing {
+    pub fn round(&self) -> usize {
+        self.round
+    }
+
+    /// The message to box k, empty for the own number.
+    pub fn to(&self, k: usize) -> &[u8] {
+        assert!(k < self.n, "there is no box {k} of {}", self.n);
+        if k == self.i {
+            return &[];
+        }
+        // They lie one after another, own left out.
+        let len = self.bytes.len() / (self.n - 1);
+        let place = if k < self.i { k } else { k - 1 };
+        &self.bytes[place * len..][..len]
+    }
+
+    /// By party, the own one empty.
+    pub fn messages(&self) -> Vec<&[u8]> {
+        (0..self.n).map(|k| self.to(k)).collect()
+    }
+}
+
+/// The others' messages of a round, as a round call takes them. At first each is missing.
+pub struct Mail {
+    round: usize,
+    i: usize,
+    /// The room for one message.
+    room: usize,
+    buffer: Vec<u8>,
+    starts: Vec<usize>,
+    lens: Vec<usize>,
+    missing: Vec<u8>,
+}
+
+impl Mail {
+    /// Room for a message of the due length from each other box.
+    pub fn new(plan: Plan, i: usize, round: usize) -> Self {
+        let len = plan.message_len(round);
+        let place = |k: usize| if k < i { k } else { k.saturating_sub(1) };
+        Mail {
+            round,
+            i,
+            room: len,
+            buffer: vec![0; len * plan.n.saturating_sub(1)],
+            // The library ignores the own entry, but it has to lie inside.
+            starts: (0..plan.n).map(|k| if k == i { 0 } else { place(k) * len }).collect(),
+            lens: vec![0; plan.n],
+            missing: vec![1; plan.n],
+        }
+    }
+
+    pub fn round(&self) -> usize {
+        self.round
+    }
+
+    /// A message of any length, copied.
+    pub fn put(&mut self, from: usize, message: &[u8]) {
+        if message.len() > self.room || from == self.i {
+            self.starts[from] = self.buffer.len();
+            self.buffer.extend_from_slice(message);
+        } else {
+            self.buffer[self.starts[from]..][..message.len()].copy_from_slice(message);
+        }
+        self.arrived(from, message.len());
+    }
+
+    /// The room for each party's message, the own one empty: for a transport that reads into it, and says `arrived`.
+    pub fn slots(&mut self) -> Vec<&mut [u8]> {
+        let mut rest = &mut self.buffer[..];
+        let mut slots = vec![];
+        for k in 0..self.starts.len() {
+            let (slot, behind) = rest.split_at_mut(if k == self.i { 0 } else { self.room });
+            slots.push(slot);
+            rest = behind;
+        }
+        slots
+    }
+
+    /// Says that a message of `len` bytes lies in a party's slot.
+    pub fn arrived(&mut self, from: usize, len: usize) {
+        (self.lens[from], self.missing[from]) = (len, 0);
+    }
+
+    pub fn mark_missing(&mut self, from: usize) {
+        self.missing[from] = 1;
+    }
+}
+
+/// What is lent with some calls, the same at every box; both are public. Empty unless `Plan::r_len` and `Plan::perm_len` ask for them.
+#[derive(Clone, Copy, Default)]
+pub struct Lent<'a> {
+    pub r: &'a [u8],
+    pub perm: &'a [u32],
+}
+
+/// What an accepted round call gives.
+pub enum Step {
+    /// The messages of the next round.
+    Send(Outgoing),
+    /// The results: l share records. The session is over and its work area zero.
+    Done(Vec<u8>),
+}
+
+/// A session of one box: the library's four numbers and the work area. It neither waits nor starts a thread.
+pub struct Session {
+    plan: Plan,
+    i: usize,
+    state: [usize; ffi::SESSION],
+    work: Vec<u8>,
+}
+
+impl Session {
+    /// Opens a session for box i, and gives the messages of round 1. The inputs are copied to the work area and may be dropped.
+    pub fn open(plan: Plan, i: usize, inputs: &Inputs) -> Result<(Session, Outgoing), Refusal> {
+        let mut session = Session { plan, i, state: [0; ffi::SESSION], work: vec![0; plan.work_len()] };
+        let mut bytes = vec![0; plan.out_len(0)];
+        // Sound: each pair is a slice's pointer (never null, in Rust) and its length; what is written is borrowed mutably and so overlaps
+        // nothing; the library keeps no pointer.
+        let answer = unsafe {
+            ffi::nuzsdike_open(
+                session.state.as_mut_ptr(),
+                session.state.len(),
+                plan.n,
+                i,
+                plan.l,
+                inputs.delta.as_ptr(),
+                inputs.delta.len(),
+                inputs.seed.as_ptr(),
+                inputs.seed.len(),
+                inputs.pairs.as_ptr(),
+                inputs.pairs.len(),
+                inputs.bits.as_ptr(),
+                inputs.bits.len(),
+                inputs.alpha.as_ptr(),
+                inputs.alpha.len(),
+                inputs.beta.as_ptr(),
+                inputs.beta.len(),
+                inputs.masks.as_ptr(),
+                inputs.masks.len(),
+                session.work.as_mut_ptr(),
+                session.work.len(),
+                bytes.as_mut_ptr(),
+                bytes.len(),
+            )
+        };
+        if answer != 0 {
+            return Err(Refusal::new(answer, Call::Open, true));
+        }
+        let out = Outgoing { round: session.due(), n: plan.n, i, bytes };
+        Ok((session, out))
+    }
+
+    /// The call for the round of `mail`. Where it is refused the session may be over (`Refusal::over`), or as it was before.
+    pub fn round(&mut self, mail: &Mail, lent: Lent) -> Result<Step, Refusal> {
+        let round = mail.round;
+        let mut bytes = vec![0; self.plan.out_len(round)];
+        // Sound: as in `open`.
+        let answer = unsafe {
+            ffi::nuzsdike_round(
+                self.state.as_mut_ptr(),
+                self.state.len(),
+                round,
+                mail.buffer.as_ptr(),
+                mail.buffer.len(),
+                mail.starts.as_ptr(),
+                mail.starts.len(),
+                mail.lens.as_ptr(),
+                mail.lens.len(),
+                mail.missing.as_ptr(),
+                mail.missing.len(),
+                lent.r.as_ptr(),
+                lent.r.len(),
+                lent.perm.as_ptr(),
+                lent.perm.len(),
+                self.work.as_mut_ptr(),
+                self.work.len(),
+                bytes.as_mut_ptr(),
+                bytes.len(),
+            )
+        };
+        if answer != 0 {
+            return Err(Refusal::new(answer, Call::Round(round), self.due() == 0));
+        }
+        match self.due() {
+            0 => Ok(Step::Done(bytes)),
+            due => Ok(Step::Send(Outgoing { round: due, n: self.plan.n, i: self.i, bytes })),
+        }
+    }
+
+    /// The round that is due, 0 once the session is over.
+    pub fn due(&self) -> usize {
+        // Sound: a slice of ours, read only.
+        unsafe { ffi::nuzsdike_due(self.state.as_ptr(), self.state.len()) }
+    }
+
+    pub fn plan(&self) -> Plan {
+        self.plan
+    }
+
+    pub fn number(&self) -> usize {
+        self.i
+    }
+
+    /// Whether the work area is all zero, as the library leaves it once a session is over.
+    pub fn is_wiped(&self) -> bool {
+        self.work.iter().all(|byte| *byte == 0)
+    }
+}
+
+impl Drop for Session {
+    fn drop(&mut self) {
+        // A session that is over was zeroed by the library.
+        if self.due() != 0 {
+            wipe(&mut self.work);
+        }
+    }
+}
+
+/// Combines `count` triples of records x, y, z into one, by count - 1 bytes d.
+pub fn combine(n: usize, i: usize, count: usize, triples: &[u8], d: &[u8]) -> Result<Vec<u8>, Refusal> {
+    let mut out = vec![0; 3 * record_len(n)];
+    // Sound: as in `Session::open`.
+    let answer =
+        unsafe { ffi::nuzsdike_combine(n, i, count, triples.as_ptr(), triples.len(), d.as_ptr(), d.len(), out.as_mut_ptr(), out.len()) };
+    match answer {
+        0 => Ok(out),
+        _ => Err(Refusal::new(answer, Call::Combine, false)),
+    }
+}

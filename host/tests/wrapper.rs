@@ -1,0 +1,330 @@
+//! The wrapper: lengths, sessions in memory, and each refusal that a host can bring about.
+
+use nuzsdike_host::{
+    check::{self, Checked, Outputs},
+    combine, dealer,
+    files::Common,
+    record_len, round_name, round_title, Call, Inputs, Lent, Mail, Outgoing, Plan, Reason, Refusal, Session, Step,
+};
+
+fn lent(plan: Plan, round: usize, common: &Common) -> Lent<'_> {
+    Lent { r: if plan.r_len(round) != 0 { &common.r } else { &[] }, perm: if plan.perm_len(round) != 0 { &common.perm } else { &[] } }
+}
+
+/// All boxes of a session in memory, in step.
+struct Run {
+    plan: Plan,
+    inputs: Vec<Inputs>,
+    common: Common,
+    sessions: Vec<Session>,
+    outgoing: Vec<Outgoing>,
+}
+
+impl Run {
+    fn new(n: usize, l: usize, seed: u64) -> Self {
+        let plan = Plan::new(n, l);
+        let (inputs, common) = dealer::deal_in_memory(plan, seed);
+        let open = |(i, inputs)| Session::open(plan, i, inputs).unwrap_or_else(|refusal| panic!("{refusal}"));
+        let (sessions, outgoing) = inputs.iter().enumerate().map(open).unzip();
+        Run { plan, inputs, common, sessions, outgoing }
+    }
+
+    /// What box i is to be given for the round that is due.
+    fn mail(&self, i: usize) -> Mail {
+        let mut mail = Mail::new(self.plan, i, self.outgoing[i].round());
+        for k in (0..self.plan.n).filter(|k| *k != i) {
+            mail.put(k, self.outgoing[k].to(i));
+        }
+        mail
+    }
+
+    fn call(&mut self, i: usize, mail: &Mail) -> Result<Step, Refusal> {
+        self.sessions[i].round(mail, lent(self.plan, mail.round(), &self.common))
+    }
+
+    /// Carries out the round that is due; gives the results after the last.
+    fn step(&mut self) -> Option<Vec<Vec<u8>>> {
+        let mails: Vec<Mail> = (0..self.plan.n).map(|i| self.mail(i)).collect();
+        let mut results = vec![];
+        for (i, mail) in mails.iter().enumerate() {
+            match self.call(i, mail).unwrap_or_else(|refusal| panic!("box {i}: {refusal}")) {
+                Step::Send(outgoing) => self.outgoing[i] = outgoing,
+                Step::Done(records) => results.push(records),
+            }
+        }
+        (!results.is_empty()).then_some(results)
+    }
+
+    /// Up to the given round, which is then due.
+    fn until(mut self, round: usize) -> Self {
+        while self.sessions[0].due() != round {
+            assert!(self.step().is_none(), "there is no round {round}");
+        }
+        self
+    }
+
+    fn check(&self, results: &[Vec<u8>]) -> Result<Checked, check::Wrong> {
+        let outputs: Vec<Outputs> = (self.inputs.iter().zip(results))
+            .map(|(inputs, results)| Outputs { delta: &inputs.delta, alpha: &inputs.alpha, beta: &inputs.beta, results })
+            .collect();
+        check::check(self.plan, &outputs)
+    }
+}
+
+#[track_caller]
+fn refused<T>(result: Result<T, Refusal>, number: u8, party: usize, over: bool) {
+    let refusal = result.err().expect("a refusal");
+    assert_eq!((refusal.reason.number(), refusal.party, refusal.over), (number, party, over), "{refusal}");
+}
+
+// ---- sessions
+
+#[test]
+fn sessions_of_two_to_eight_boxes() {
+    for n in 2..=8 {
+        let mut run = Run::new(n, 12, n as u64);
+        let mut rounds = 0;
+        let results = loop {
+            rounds += 1;
+            if let Some(results) = run.step() {
+                break results;
+            }
+        };
+        assert_eq!(rounds, if n == 2 { 14 } else { 22 });
+        assert_eq!(run.check(&results), Ok(Checked { ands: 12, macs: 12 * n * (n - 1) }));
+        for session in &run.sessions {
+            assert!(session.due() == 0 && session.is_wiped());
+        }
+        // Done is done.
+        let again = Mail::new(run.plan, 1, 22);
+        refused(run.call(1, &again), 20, 1, true);
+    }
+}
+
+/// Both bits occur as results: the check is not one of zeros alone.
+#[test]
+fn results_have_ones() {
+    let mut run = Run::new(2, 64, 5);
+    let results = loop {
+        if let Some(results) = run.step() {
+            break results;
+        }
+    };
+    let ones = (0..64).filter(|t| results[0][t * 65] ^ results[1][t * 65] == 1).count();
+    assert!((5..30).contains(&ones), "{ones} of 64");
+}
+
+// ---- numbers
+
+#[test]
+fn lengths_are_those_of_the_documents() {
+    for n in 2..=8 {
+        for (l, b) in [(1, 5), (3_099, 5), (3_100, 4), (279_999, 4), (280_000, 3), (300_000, 3)] {
+            let (plan, record, lb) = (Plan::new(n, l), record_len(n), l * b);
+            assert_eq!(plan.bits_len(), (3 * lb + 160) * record);
+            assert_eq!(plan.shares_len(), l * record);
+            assert_eq!(plan.masks_len(), n * lb);
+            assert_eq!(plan.pairs_len(), 32 * n);
+            assert_eq!(plan.r_total(), 120 * 16 * (3 * lb + 160).div_ceil(128));
+            assert_eq!((plan.r_len(5), plan.r_len(6), plan.r_len(0)), (plan.r_total(), 0, 0));
+            assert_eq!(plan.perm_total(), lb);
+            assert_eq!(plan.perm_len(if n == 2 { 19 } else { 20 }), lb);
+            assert_eq!(plan.message_len(14), 8 + 2 * lb);
+            assert_eq!(plan.message_len(17), 8 + 32 * lb);
+            assert_eq!(plan.message_len(21), 8 + l * (16 + 17 * (b - 1)));
+            assert_eq!(plan.out_len(0), 40 * (n - 1));
+            assert_eq!(plan.out_len(22), l * record);
+            assert!(plan.work_len() > plan.bits_len() + 2 * plan.shares_len() + plan.masks_len());
+        }
+    }
+    for (n, l) in [(1, 1), (9, 1), (2, 0), (2, 300_001), (usize::MAX, usize::MAX)] {
+        let plan = Plan::new(n, l);
+        assert_eq!((plan.work_len(), plan.bits_len(), plan.out_len(0), plan.shares_len()), (0, 0, 0, 0));
+    }
+}
+
+#[test]
+fn rounds_have_order_and_names() {
+    assert_eq!(Plan::new(3, 1).rounds(), (1..=22).collect::<Vec<_>>());
+    assert_eq!(Plan::new(2, 1).rounds(), [1, 3, 4, 5, 6, 8, 10, 12, 14, 15, 17, 19, 21, 22]);
+    assert_eq!((round_name(1), round_name(12), round_name(22)), ("RNG comm".into(), "fashare di_bi".into(), "faand".into()));
+    assert_eq!((round_title(9), round_title(20)), ("echo of fashare comm".into(), "echo of flaand hash".into()));
+    assert_eq!((round_name(0), round_name(23), round_name(usize::MAX)), (String::new(), String::new(), String::new()));
+}
+
+// ---- refusals
+
+#[test]
+fn opening_refuses() {
+    let plan = Plan::new(3, 2);
+    let deal = || dealer::deal_in_memory(plan, 3).0.remove(1);
+    let open = |plan, i, inputs: &Inputs| Session::open(plan, i, inputs).map(drop);
+    assert!(open(plan, 1, &deal()).is_ok());
+    for n in [0, 1, 9] {
+        refused(open(Plan::new(n, 2), 1, &deal()), 15, 1, true);
+    }
+    refused(open(plan, 3, &deal()), 15, 3, true);
+    refused(open(Plan::new(3, 300_001), 1, &deal()), 16, 1, true);
+    refused(open(Plan::new(3, 0), 1, &deal()), 3, 1, true);
+    // Another box's number: its own entries are elsewhere.
+    refused(open(plan, 0, &deal()), 4, 0, true);
+
+    let with = |change: fn(&mut Inputs)| {
+        let mut inputs = deal();
+        change(&mut inputs);
+        open(plan, 1, &inputs)
+    };
+    refused(with(|inputs| inputs.bits.truncate(97)), 6, 1, true);
+    refused(with(|inputs| inputs.alpha.push(0)), 6, 1, true);
+    refused(with(|inputs| inputs.beta.clear()), 6, 1, true);
+    refused(with(|inputs| inputs.masks.truncate(5)), 17, 1, true);
+    refused(with(|inputs| inputs.pairs.push(0)), 17, 1, true);
+    refused(with(|inputs| inputs.bits[0] = 2), 1, 1, true);
+    refused(with(|inputs| inputs.beta[97] = 255), 1, 1, true);
+    refused(with(|inputs| inputs.bits[97 + 1 + 32] = 1), 4, 1, true);
+    refused(with(|inputs| inputs.masks[0] = 3), 1, 1, true);
+    // The own masks are neither used nor checked.
+    let lb = plan.perm_total();
+    let mut inputs = deal();
+    inputs.masks[lb..2 * lb].fill(9);
+    assert!(open(plan, 1, &inputs).is_ok());
+}
+
+/// What the host gets wrong leaves the session as it was: the right call is accepted afterwards.
+#[test]
+fn a_hosts_mistakes_leave_the_session() {
+    let mut run = Run::new(3, 2, 4).until(5);
+    let mail = run.mail(0);
+    // Without r, and with a permutation that is not due.
+    refused(run.sessions[0].round(&mail, Lent::default()), 17, 0, false);
+    let perm = run.common.perm.clone();
+    let both = Lent { r: &run.common.r, perm: &perm };
+    refused(run.sessions[0].round(&mail, both), 17, 0, false);
+    refused(run.call(0, &Mail::new(Plan::new(3, 2), 0, 6)), 19, 0, false);
+    refused(run.call(0, &Mail::new(Plan::new(3, 2), 0, 0)), 19, 0, false);
+    assert_eq!(run.sessions[0].due(), 5);
+    assert!(run.call(0, &mail).is_ok());
+
+    let mut run = Run::new(3, 2, 4).until(20);
+    let mail = run.mail(2);
+    let mut twice = run.common.perm.clone();
+    twice[0] = twice[1];
+    refused(run.sessions[2].round(&mail, Lent { r: &[], perm: &twice }), 18, 2, false);
+    let mut outside = run.common.perm.clone();
+    outside[3] = outside.len() as u32;
+    refused(run.sessions[2].round(&mail, Lent { r: &[], perm: &outside }), 18, 2, false);
+    refused(run.sessions[2].round(&mail, Lent::default()), 17, 2, false);
+    assert!(run.call(2, &mail).is_ok());
+}
+
+/// What the others get wrong ends the session and zeroes the work area.
+#[test]
+fn received_faults_end_the_session() {
+    type Change = fn(&mut Vec<u8>);
+    let faulty = |n, round, from: usize, change: Change| {
+        let mut run = Run::new(n, 2, 6).until(round);
+        let mut mail = run.mail(0);
+        let mut message = run.outgoing[from].to(0).to_vec();
+        change(&mut message);
+        mail.put(from, &message);
+        let result = run.call(0, &mail);
+        (result, run)
+    };
+    let ended = |(result, run): (Result<Step, Refusal>, Run), number, party| {
+        refused(result, number, party, true);
+        assert!(run.sessions[0].due() == 0 && run.sessions[0].is_wiped());
+    };
+    ended(faulty(2, 3, 1, |message| message[8] ^= 1), 2, 1);
+    ended(faulty(2, 6, 1, |message| message[9] ^= 1), 8, 1);
+    ended(faulty(3, 2, 1, |message| *message.last_mut().unwrap() ^= 1), 7, 1);
+    ended(faulty(3, 6, 1, |message| message[8] = 2), 13, 1);
+    ended(faulty(3, 6, 2, |message| message.truncate(100)), 13, 2);
+    ended(faulty(3, 6, 2, |message| message.clear()), 13, 2);
+    ended(faulty(2, 21, 1, |message| *message.last_mut().unwrap() ^= 128), 11, 1);
+    ended(faulty(2, 22, 1, |message| *message.last_mut().unwrap() ^= 128), 12, 1);
+    // A list of another count, whole.
+    ended(
+        faulty(3, 14, 1, |message| {
+            message[0] -= 1;
+            message.truncate(message.len() - 2);
+        }),
+        6,
+        1,
+    );
+    // Missing: parties in ascending order.
+    let mut run = Run::new(4, 2, 6).until(8);
+    let mut mail = run.mail(1);
+    mail.mark_missing(3);
+    mail.put(2, &[]);
+    ended((run.call(1, &mail), run_of(run)), 13, 2);
+
+    fn run_of(mut run: Run) -> Run {
+        run.sessions.swap(0, 1);
+        run
+    }
+    let mut run = Run::new(4, 2, 6).until(8);
+    let mut mail = run.mail(1);
+    mail.mark_missing(3);
+    let result = run.call(1, &mail);
+    assert!(run.sessions[1].is_wiped());
+    refused(result, 14, 3, true);
+    refused(run.call(1, &Mail::new(Plan::new(4, 2), 1, 8)), 20, 1, true);
+}
+
+/// The own entry may be anything.
+#[test]
+fn the_own_message_is_ignored() {
+    let mut run = Run::new(3, 2, 7).until(6);
+    let mut mail = run.mail(1);
+    mail.put(1, b"nonsense");
+    assert!(run.call(1, &mail).is_ok());
+}
+
+/// A message may lie anywhere in the buffer, and be read where a transport put it.
+#[test]
+fn slots_and_copies_agree() {
+    let mut run = Run::new(4, 2, 8).until(10);
+    let mut mail = Mail::new(run.plan, 2, 10);
+    for (k, slot) in mail.slots().into_iter().enumerate().filter(|(k, _)| *k != 2) {
+        slot.copy_from_slice(run.outgoing[k].to(2));
+    }
+    for k in [0, 1, 3] {
+        mail.arrived(k, run.outgoing[k].to(2).len());
+    }
+    assert!(run.call(2, &mail).is_ok());
+}
+
+#[test]
+fn refusals_say_what_and_where() {
+    let mut run = Run::new(3, 2, 9).until(9);
+    let mut mail = run.mail(0);
+    mail.mark_missing(2);
+    let refusal = run.call(0, &mail).err().unwrap();
+    assert_eq!(refusal, Refusal { reason: Reason(14), party: 2, call: Call::Round(9), over: true });
+    assert_eq!(refusal.to_string(), "refused 14 MissingMessage in round 9 (echo of fashare comm), names box 2: a message is missing");
+    assert_eq!(
+        (Reason(7).name(), Reason(20).name(), Reason(21).name(), Reason(0).name()),
+        ("InconsistentBroadcast", "SessionOver", "Unknown", "Unknown")
+    );
+}
+
+// ---- combining
+
+/// Document 01's case by hand: bits x1 1, z1 0, x2 1, z2 1; d 1 gives x 0, z 0, and d 0 gives z 1.
+#[test]
+fn combining_by_hand() {
+    let len = record_len(2);
+    let mut triples = vec![0; 6 * len];
+    for (record, bit) in [(0, 1), (2, 0), (3, 1), (5, 1)] {
+        triples[record * len] = bit;
+    }
+    let bits = |out: Vec<u8>| (out[0], out[len], out[2 * len]);
+    assert_eq!(combine(2, 0, 2, &triples, &[1]).map(bits), Ok((0, 0, 0)));
+    assert_eq!(combine(2, 0, 2, &triples, &[0]).map(bits), Ok((0, 0, 1)));
+    refused(combine(2, 0, 0, &[], &[]), 5, 0, false);
+    refused(combine(2, 0, 6, &[0; 18 * 65], &[0; 5]), 16, 0, false);
+    refused(combine(2, 0, 2, &triples[1..], &[1]), 6, 0, false);
+    refused(combine(2, 0, 2, &triples, &[]), 6, 0, false);
+    refused(combine(2, 0, 2, &triples, &[2]), 1, 0, false);
+    refused(combine(9, 0, 2, &triples, &[1]), 15, 0, false);
+}
