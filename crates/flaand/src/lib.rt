@@ -13,7 +13,7 @@ ghost use Rattle.encode.specs.Encode.{bitBlock};
 ghost use Rattle.plan.specs.Plan as Plan;
 ghost use Rattle.engine.specs.Step.{frame};
 ghost use Rattle.engine.specs.Area.{toOthers};
-ghost use Rattle.rounds.specs.Area.{BITS, LEAKY, ZS, HS, at, keep};
+ghost use Rattle.rounds.specs.Area.{BITS, LEAKY, ZS, HS, leakyLen, at, keep};
 ghost use Rattle.rounds.specs.Loops.{rowOf};
 ghost use Rattle.rounds.specs.Mail as Mail;
 ghost use Rattle.rounds.specs.Haand as R;
@@ -22,7 +22,7 @@ ghost use Rattle.rounds.specs.FaultLaws.{Finds, faultAt};
 ghost use Rattle.haand.specs.Given.{Ranges, Work, Starts};
 ghost use Rattle.flaand.specs.Given.{Hashes, Kept};
 ghost use Rattle.flaand.specs.Laws.{opens, openFault, summed};
-ghost use Rattle.flaand.specs.HLaws.{term, zTerm, hashesAt, maskedAt};
+ghost use Rattle.flaand.specs.HLaws.{zTerm, hashesAt, maskedAt};
 use block::Block;
 use rounds::Fault;
 
@@ -568,11 +568,20 @@ fn u_sum(
     sum
 }
 
-// What all others add to h: the MACs and keys of z, and u where x is 1. x is multiplied once, behind the loops: in a loop it would be the same in every
-// turn, and the compiler would make a branch of it.
-fn h_terms(
-    recs: &[u8],
-    at: usize,
+// The sums of G over the x keys and over the x MACs.
+fn hashes(recs: &[u8], rows: &[u8], zs: &[u8], n: usize, i: usize, l: usize, t: usize) -> Block
+    requires { ⌜ (Kept n i l (now recs) (now rows) (now zs)) × (t < Plan.leaky l) ⌝ }
+    ensures { λ r. ⌜ r ≡ hashesAt (frame n l i) (now (rows .entry)) (now (zs .entry)) t ⌝ }
+{
+    let key_hash = block::load(rows, t * haand::leaky_len(n) + 16);
+    key_hash.xor(block::load(zs, t * 17 + 1))
+}
+
+// The received u and phi where x is 1, and delta where z is 1. u and phi are added first and multiplied by x once, behind the loop: in the loop, or for a
+// Block that is just loaded, the compiler makes a branch of the product, and x is secret.
+fn masked(
+    rows: &[u8],
+    zs: &[u8],
     x: bool,
     delta: Block,
     incoming: &[u8],
@@ -583,44 +592,15 @@ fn h_terms(
     l: usize,
     t: usize,
 ) -> Block
-    requires { ⌜ (n ≤ 8) × (t < Plan.leaky l) ⌝ }
-    requires { ⌜ at + recordLen n ≤ length (now recs) ⌝ }
+    requires { ⌜ (n ≤ 8) × ((t < Plan.leaky l) × (length (now rows) ≡ Plan.leaky l * leakyLen n) × (length (now zs) ≡ Plan.leaky l * 17)) ⌝ }
     requires { ⌜ Mail.Arrived n i (8 + Plan.leaky l * 17) (now incoming) (now starts) (now lens) ⌝ }
-    ensures { λ r. ⌜ r ≡ others blocks i n (term (now (recs .entry)) at x delta
-        (Mail.letter (now (incoming .entry)) (now (starts .entry)) (now (lens .entry))) t) ⌝ }
+    ensures { λ r. ⌜ r ≡ maskedAt (frame n l i) delta x (now (rows .entry)) (now (zs .entry))
+        (Mail.letter (now (incoming .entry)) (now (starts .entry)) (now (lens .entry))) t ⌝ }
 {
-    let zs = z_terms(recs, at, delta, incoming, starts, lens, n, i, l, t);
     let us = u_sum(incoming, starts, lens, n, i, l, t);
-    zs.xor(us.const_mul(x))
-}
-
-// The sums of G over the x keys and over the x MACs.
-fn hashes(recs: &[u8], rows: &[u8], zs: &[u8], n: usize, i: usize, l: usize, t: usize) -> Block
-    requires { ⌜ (Kept n i l (now recs) (now rows) (now zs)) × (t < Plan.leaky l) ⌝ }
-    ensures { λ r. ⌜ r ≡ hashesAt (frame n l i) (now (rows .entry)) (now (zs .entry)) t ⌝ }
-{
-    let key_hash = block::load(rows, t * haand::leaky_len(n) + 16);
-    key_hash.xor(block::load(zs, t * 17 + 1))
-}
-
-// phi where x is 1, and delta where z is 1.
-fn masked(
-    recs: &[u8],
-    rows: &[u8],
-    zs: &[u8],
-    x: bool,
-    delta: Block,
-    n: usize,
-    i: usize,
-    l: usize,
-    t: usize,
-) -> Block
-    requires { ⌜ (Kept n i l (now recs) (now rows) (now zs)) × (t < Plan.leaky l) ⌝ }
-    ensures { λ r. ⌜ r ≡ maskedAt (frame n l i) delta x (now (rows .entry)) (now (zs .entry)) t ⌝ }
-{
     let phi = block::load(rows, t * haand::leaky_len(n));
     let z = block::bit(zs, t * 17);
-    phi.const_mul(x).xor(delta.const_mul(z))
+    us.xor(phi).const_mul(x).xor(delta.const_mul(z))
 }
 
 // h at position t.
@@ -643,10 +623,9 @@ pub fn h(
         (Mail.letter (now (incoming .entry)) (now (starts .entry)) (now (lens .entry))) t ⌝ }
 {
     let x = share::bit_at(recs, haand::x_at(n, t));
-    let told = h_terms(
+    let told = z_terms(
         recs,
         r_at(n, l, t),
-        x,
         delta,
         incoming,
         starts,
@@ -656,8 +635,19 @@ pub fn h(
         l,
         t,
     );
-    told.xor(hashes(recs, rows, zs, n, i, l, t))
-        .xor(masked(recs, rows, zs, x, delta, n, i, l, t))
+    told.xor(hashes(recs, rows, zs, n, i, l, t)).xor(masked(
+        rows,
+        zs,
+        x,
+        delta,
+        incoming,
+        starts,
+        lens,
+        n,
+        i,
+        l,
+        t,
+    ))
 }
 
 // The same from the sections of the work area, which start at `recs`, `rows` and `zs`.

@@ -10,7 +10,6 @@ use engine::Session;
 use engine::Verdict;
 
 mod deal;
-
 mod report;
 
 // What a box has room for: n at most 3, l at most 2. All boxes' rooms stand one after the other.
@@ -127,7 +126,15 @@ fn opened(work: &mut [u8], out: &mut [u8], ins: &[u8], n: usize, i: usize, l: us
     )
 }
 
-fn open(log: &mut [usize], work: &mut [u8], out: &mut [u8], ins: &[u8], n: usize, i: usize, l: usize)
+fn open(
+    log: &mut [usize],
+    work: &mut [u8],
+    out: &mut [u8],
+    ins: &[u8],
+    n: usize,
+    i: usize,
+    l: usize,
+)
     requires { ⌜ (length (now log) ≡ 15) × (length (now work) ≡ 43400) × (length (now out) ≡ 7696) × (length (now ins) ≡ 19008) × (i < 3) ⌝ }
 {
     let a = opened(work, out, ins, n, i, l);
@@ -140,7 +147,11 @@ fn open(log: &mut [usize], work: &mut [u8], out: &mut [u8], ins: &[u8], n: usize
 fn offset(i: usize, j: usize, len: usize) -> usize
     ensures { λ r. ⌜ r ≤ len ⌝ }
 {
-    if (i == 0) | ((i == 1) & (j == 0)) { 0 } else { len }
+    if (i == 0) | ((i == 1) & (j == 0)) {
+        0
+    } else {
+        len
+    }
 }
 
 fn hit(f: Flip, k: usize, j: usize, i: usize) -> bool {
@@ -272,7 +283,16 @@ fn answer(
 {
     let mut mail = [0u8; 11544];
     let mut missing = [0u8; 3];
-    gather(&mut mail, &mut missing, sent, log, least(report::message_len(n, l, k), MESSAGE), f, k, i);
+    gather(
+        &mut mail,
+        &mut missing,
+        sent,
+        log,
+        least(report::message_len(n, l, k), MESSAGE),
+        f,
+        k,
+        i,
+    );
     let s = Session {
         party: Frame { n: n, i: i, l: l },
         due: log[5 * i],
@@ -314,7 +334,15 @@ fn open_all(log: &mut [usize], work: &mut [u8], outs: &mut [u8], ins: &[u8], n: 
         let w = 43400 * i;
         let o = 7696 * i;
         let a = 19008 * i;
-        open(log, &mut work[w..w + 43400], &mut outs[o..o + 7696], &ins[a..a + 19008], n, i, l);
+        open(
+            log,
+            &mut work[w..w + 43400],
+            &mut outs[o..o + 7696],
+            &ins[a..a + 19008],
+            n,
+            i,
+            l,
+        );
         i += 1;
     }
 }
@@ -339,7 +367,19 @@ fn calls(
     while i < n {
         let w = 43400 * i;
         let o = 7696 * i;
-        call(log, &mut work[w..w + 43400], &mut outs[o..o + 7696], sent, r, perm, f, n, i, l, k);
+        call(
+            log,
+            &mut work[w..w + 43400],
+            &mut outs[o..o + 7696],
+            sent,
+            r,
+            perm,
+            f,
+            n,
+            i,
+            l,
+            k,
+        );
         i += 1;
     }
 }
@@ -534,7 +574,19 @@ fn play(ins: &[u8], r: &[u8], perm: &[u32], f: Flip, n: usize, l: usize)
     let mut sent = [0u8; 23088];
     open_all(&mut log, &mut work, &mut outs, ins, n, l);
     let sum = rounds(&mut log, &mut work, &mut outs, &mut sent, r, perm, f, n, l);
-    finish(&mut log, &mut work, &mut outs, &sent, ins, r, perm, f, n, l, sum);
+    finish(
+        &mut log,
+        &mut work,
+        &mut outs,
+        &sent,
+        ins,
+        r,
+        perm,
+        f,
+        n,
+        l,
+        sum,
+    );
 }
 
 // Makes the inputs, and plays.

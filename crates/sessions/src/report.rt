@@ -86,7 +86,8 @@ fn mac_holds(outs: &[u8], ins: &[u8], at: usize, j: usize, k: usize) -> bool
     let mut q = 0;
     while q < 16 {
         let d = if bit == 1 { ins[19008 * k + q] } else { 0 };
-        good = good & (outs[7696 * j + at + 1 + 32 * k + q] == outs[7696 * k + at + 17 + 32 * j + q] ^ d);
+        good = good
+            & (outs[7696 * j + at + 1 + 32 * k + q] == outs[7696 * k + at + 17 + 32 * j + q] ^ d);
         q += 1;
     }
     good

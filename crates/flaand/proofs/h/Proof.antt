@@ -12,7 +12,7 @@ use Rattle.engine.specs.declared.Frame.{Frame}
 use Rattle.engine.specs.Step.{frame}
 use Rattle.rounds.specs.Mail.{letter}
 use Rattle.haand.specs.GivenLaws.{position-most, x-in, r-in}
-use Rattle.flaand.specs.HLaws.{term, maskedAt, h-parts}
+use Rattle.flaand.specs.HLaws.{zTerm, maskedAt, h-parts}
 use Rattle.flaand.specs.KeptLaws.{asked}
 use borrow.Author.Needs.{needs}
 use Rattle.flaand.proofs.h.Statement.{statement}
@@ -33,10 +33,16 @@ r-at-requires c κs =
     let s = c .before .before .before .before .before .before .before .before in
     (s .pre .0 .0 .ranges .eight, (s .pre .0 .0 .ranges .most, position-most (asked (s .pre .0 .0) (s .args .t) (s .pre .0 .1))))
 
-h-terms-requires : tie.Need-h-terms-requires
-h-terms-requires c κs =
+z-terms-requires : tie.Need-z-terms-requires
+z-terms-requires c κs =
     let s = c .before .before .before .before .before .before .before .before .before in
     ((s .pre .0 .0 .ranges .eight, s .pre .0 .1), (rw (c .r-at .ensures) (r-in (asked (s .pre .0 .0) (s .args .t) (s .pre .0 .1))), s .pre .1))
+
+masked-requires : tie.Need-masked-requires
+masked-requires c κs =
+    let s = c .before .before .before .before .before .before .before .before .before .before .before .before in
+    let k = s .pre .0 .0 in
+    ((k .ranges .eight, (s .pre .0 .1, k .leakies, k .bits)), s .pre .1)
 
 returns : tie.Need-returns
 returns c =
@@ -50,9 +56,9 @@ returns c =
     ∙ ap₂ (blocks .op)
     (c .before .before .xor .ensures
     ∙ ap₂ (blocks .op)
-    (y .h-terms .ensures ∙ ap₂ (λ at (z : Bool). others blocks (a .i) (a .n) (term (now (a .recs)) at z (a .delta) m (a .t))) (y .before .r-at .ensures) x)
+    (y .z-terms .ensures ∙ ap (λ at. others blocks (a .i) (a .n) (zTerm (now (a .recs)) at (a .delta) m (a .t))) (y .before .r-at .ensures))
     (c .before .before .before .hashes .ensures))
-    (c .before .masked .ensures ∙ ap (λ (z : Bool). maskedAt f (a .delta) z (now (a .rows)) (now (a .zs)) (a .t)) x)
+    (c .before .masked .ensures ∙ ap (λ (z : Bool). maskedAt f (a .delta) z (now (a .rows)) (now (a .zs)) m (a .t)) x)
     ∙ h-parts f (a .delta) (now (a .recs)) (now (a .rows)) (now (a .zs)) m (a .t)
 
 pub h-spec : {M : Type 1} → statement M
@@ -62,9 +68,9 @@ h-spec =
     x-at-requires
     bit-at-requires
     r-at-requires
-    h-terms-requires
+    z-terms-requires
     (λ c κs. search needs)
     (λ c κs. search needs)
-    (λ c κs. search needs)
+    masked-requires
     (λ c κs. search needs)
     returns)

@@ -4,62 +4,105 @@ use Prim.Native.Nat.{ℕ, _+_, _*_, _≤_}
 use native.Mathlib.Omega.{arith}
 use lib.ListN.{length}
 use denote.Ref.{now}
+use Rattle.lists.specs.Over.{in-chunks}
 use Rattle.algebra.specs.Group.{XorGroup, sel}
 use Rattle.block.specs.Block.{blockAt}
 use Rattle.block.specs.Group.{blocks}
+use Rattle.plan.specs.Plan.{leaky}
 use Rattle.rounds.specs.Area.{leakyLen}
 use Rattle.rounds.specs.Haand as R
 use Rattle.flaand.specs.HLaws.{maskedAt}
-use Rattle.flaand.specs.KeptLaws.{row-in, z-in}
 use borrow.Author.Needs.{needs}
 use Rattle.flaand.proofs.masked.Statement.{statement}
 use Rattle.flaand.proofs.masked.Tie as tie
+use Rattle.flaand.proofs.masked.Reads as reads
+use Rattle.flaand.proofs.masked.Lts as lts
+use Rattle.block.proofs.Block.const_mul.Reads as const-mul-reads
+use Rattle.block.proofs.Block.xor.Reads as xor-reads
+use Rattle.block.proofs.bit.Reads as bit-reads
+use Rattle.block.proofs.load.Reads as load-reads
+use Rattle.flaand.proofs.u_sum.Reads as u-sum-reads
+use Rattle.haand.proofs.leaky_len.Reads as leaky-len-reads
 
+-- src/lib.rt:600:9
+u-sum-requires : tie.Need-u-sum-requires
+u-sum-requires c κs = search needs
+
+-- src/lib.rt:601:37
 leaky-len-requires : tie.Need-leaky-len-requires
-leaky-len-requires c κs = c .before .before .before .pre .0 .ranges .eight
+leaky-len-requires c κs = search needs
 
-read-in : (c : tie.After-leaky-len) → let a = c .before .before .before .before .args in a .t * c .leaky-len .result + 16 ≤ length (now (a .rows))
+-- the row of LEAKY begins with phi
+read-in : (c : tie.After-leaky-len) → let a = c .before .before .before .before .before .before .before .args in a .t * c .leaky-len .result + 16 ≤ length (now (a .rows))
 unfolding leakyLen
 read-in c =
-    let s = c .before .before .before .before in
-    omega (arith, row-in (s .pre .0) (s .args .t) (s .pre .1) 0 (omega arith), ap (λ m. s .args .t * m) (c .leaky-len .ensures))
+    let s = c .before .before .before .before .before .before .before in
+    let a = s .args in
+    omega (arith, in-chunks (a .t) (leaky (a .l)) (leakyLen (a .n)) (s .pre .0 .1 .0), ap (λ m. a .t * m) (c .leaky-len .ensures), s .pre .0 .1 .1)
 
+-- src/lib.rt:601:33
 mul-load : tie.Need-mul-load
 mul-load c = omega (arith, read-in c)
 
+-- src/lib.rt:601:9
 load-requires : tie.Need-load-requires
 load-requires c κs = read-in c
 
 -- the row of ZS
-z-at : (c : tie.After-load) → let a = c .before .before .before .before .before .args in a .t * 17 + 17 ≤ length (now (a .zs))
-z-at c = let s = c .before .before .before .before .before in z-in (s .pre .0) (s .args .t) (s .pre .1)
+z-in : (c : tie.After-load) → let a = c .before .before .before .before .before .before .before .before .args in a .t * 17 + 17 ≤ length (now (a .zs))
+z-in c =
+    let s = c .before .before .before .before .before .before .before .before in
+    omega (arith, in-chunks (s .args .t) (leaky (s .args .l)) 17 (s .pre .0 .1 .0), s .pre .0 .1 .2)
 
+-- src/lib.rt:602:28
 mul-bit : tie.Need-mul-bit
-mul-bit c = omega (arith, z-at c)
+mul-bit c = omega (arith, z-in c)
 
+-- src/lib.rt:602:9
 bit-requires : tie.Need-bit-requires
-bit-requires c κs = omega (arith, z-at c)
+bit-requires c κs = omega (arith, z-in c)
 
+-- src/lib.rt:603:5
+xor-requires : tie.Need-xor-requires
+xor-requires c κs = search needs
+
+-- src/lib.rt:603:5
+const-mul-requires : tie.Need-const-mul-requires
+const-mul-requires c κs = search needs
+
+-- src/lib.rt:603:34
+const-mul-requires-2 : tie.Need-const-mul-requires-2
+const-mul-requires-2 c κs = search needs
+
+-- src/lib.rt:603:5
+xor-requires-2 : tie.Need-xor-requires-2
+xor-requires-2 c κs = search needs
+
+-- src/lib.rt:582:1
 returns : tie.Need-returns
 unfolding maskedAt R.phiAt R.zAt
 returns c =
-    let d = c .before .before .before .before in
-    let a = d .before .before .before .before .before .args in
-    c .xor .ensures
+    let d = c .before .before .before .before .before in
+    let y = d .before in
+    let a = y .before .before .before .before .before .before .before .args in
+    c .xor2 .ensures
     ∙ ap₂ (blocks .op)
-    (c .before .before .const-mul .ensures ∙ ap (sel blocks (a .x)) (d .load .ensures ∙ ap (λ m. blockAt (now (a .rows)) (a .t * m)) (d .before .leaky-len .ensures)))
-    (c .before .const-mul2 .ensures ∙ ap (λ (b : Bool). sel blocks b (a .delta)) (c .before .before .before .bit .ensures))
+    (c .before .before .const-mul .ensures
+    ∙ ap (sel blocks (a .x)) (c .before .before .before .xor .ensures ∙ ap₂ (blocks .op) (y .before .u-sum .ensures) (d .load .ensures ∙ ap (λ m. blockAt (now (a .rows)) (a .t * m)) (y .leaky-len .ensures))))
+    (c .before .const-mul2 .ensures ∙ ap (λ (b : Bool). sel blocks b (a .delta)) (c .before .before .before .before .bit .ensures))
 
 pub masked-spec : {M : Type 1} → statement M
 masked-spec =
     tie.close
     (tie.spec
+    u-sum-requires
     leaky-len-requires
     mul-load
     load-requires
     mul-bit
     bit-requires
-    (λ c κs. search needs)
-    (λ c κs. search needs)
-    (λ c κs. search needs)
+    xor-requires
+    const-mul-requires
+    const-mul-requires-2
+    xor-requires-2
     returns)
