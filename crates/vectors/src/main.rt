@@ -216,9 +216,10 @@ fn all(s: &[u8], x: u8) -> bool {
 }
 
 fn fill(s: &mut [u8], x: u8) {
+    let n = s.len();
     let mut j = 0;
-    while j < s.len() {
-        s[j] = x;
+    while j < n {
+        put_byte(s, j, x);
         j += 1;
     }
 }
@@ -398,29 +399,50 @@ fn put_r(r: &mut [u8], seed: u64, count: usize) {
     }
 }
 
+fn put_index(perm: &mut [u32], at: usize, x: u32) {
+    if at < perm.len() {
+        perm[at] = x;
+    }
+}
+
 fn put_perm(perm: &mut [u32], s: &[u8], count: usize) {
     let mut t = 0;
     while t < count {
-        if t < perm.len() {
-            perm[t] = byte(s, sum(perm_at(s), t)) as u32;
-        }
+        put_index(perm, t, byte(s, sum(perm_at(s), t)) as u32);
         t += 1;
     }
 }
 
-// All inputs of box j but delta, seed first.
-fn put_inputs(out: &mut [u8], s: &[u8], deltas: &[u8], j: usize) {
+// Delta and the seeds of box j.
+fn put_seeds(out: &mut [u8], s: &[u8], deltas: &[u8], j: usize) {
+    let seed = word(s, 8);
+    put_block(out, 0, block_at(deltas, product(16, j)));
+    put_digest(out, SEED, draw(seed, 1, j, 0, 0));
+    put_pairs(out, PAIRS, seed, parties(s), j);
+}
+
+fn put_lists(out: &mut [u8], s: &[u8], deltas: &[u8], j: usize) {
     let seed = word(s, 8);
     let n = parties(s);
     let l = ands(s);
-    let count = leaky(s);
-    put_block(out, 0, block_at(deltas, product(16, j)));
-    put_digest(out, SEED, draw(seed, 1, j, 0, 0));
-    put_pairs(out, PAIRS, seed, n, j);
-    put_masks(out, MASKS, seed, n, j, count);
     put_records(out, ALPHA, deltas, seed, 5, n, j, l);
     put_records(out, BETA, deltas, seed, 6, n, j, l);
-    put_records(out, BITS, deltas, seed, 4, n, j, sum(product(3, count), 160));
+    put_records(
+        out,
+        BITS,
+        deltas,
+        seed,
+        4,
+        n,
+        j,
+        sum(product(3, leaky(s)), 160),
+    );
+}
+
+fn put_inputs(out: &mut [u8], s: &[u8], deltas: &[u8], j: usize) {
+    put_seeds(out, s, deltas, j);
+    put_masks(out, MASKS, word(s, 8), parties(s), j, leaky(s));
+    put_lists(out, s, deltas, j);
 }
 
 // ---- opening
@@ -437,14 +459,7 @@ fn part(s: &[u8], at: usize, len: usize) -> &[u8] {
     &s[at..e]
 }
 
-fn opened(
-    x: &[u8],
-    n: usize,
-    i: usize,
-    l: usize,
-    work: &mut [u8],
-    out: &mut [u8],
-) -> Answer {
+fn opened(x: &[u8], n: usize, i: usize, l: usize, work: &mut [u8], out: &mut [u8]) -> Answer {
     let shares = product(l, record_len(n));
     let count = product(l, 5);
     opening::open(
@@ -496,7 +511,8 @@ fn open_one(
     put_inputs(&mut x, s, deltas, i);
     let a = opened(&x, n, i, l, work, out);
     let now = a.session;
-    note(tally, number(a.verdict) == 0, i, 0, b"opening refused");
+    let v = a.verdict;
+    note(tally, number(v) == 0, i, 0, b"opening refused");
     note(tally, is_of(now, n, i, l), i, 0, b"session");
     note(tally, now.due == 1, i, 0, b"round due");
     put(tally, sum(DUE, i), now.due);
@@ -559,7 +575,7 @@ fn is_to(to: usize, i: usize) -> bool {
     (to == i) | (to == 255)
 }
 
-// Rule at `at` of s: the byte that it changes in the message to i.
+// The rule at `at` of s: the byte that it changes in the message to i.
 fn damage_one(sent: &mut [u8], s: &[u8], at: usize, m: usize, i: usize) {
     let from = byte(s, sum(at, 2));
     if from == i {
@@ -577,7 +593,11 @@ fn damage_one(sent: &mut [u8], s: &[u8], at: usize, m: usize, i: usize) {
     }
 }
 
-fn damage_all(sent: &mut [u8], s: &[u8], at: usize, m: usize) {
+// Its bytes in all messages, where it is one of round k that changes a byte.
+fn damage_all(sent: &mut [u8], s: &[u8], at: usize, k: usize, m: usize) {
+    if (byte(s, at) != 0) | (byte(s, sum(at, 1)) != k) {
+        return;
+    }
     let n = parties(s);
     let mut i = 0;
     while i < n {
@@ -586,15 +606,12 @@ fn damage_all(sent: &mut [u8], s: &[u8], at: usize, m: usize) {
     }
 }
 
-// All rules of round k that change a byte.
+// All rules.
 fn damage(sent: &mut [u8], s: &[u8], k: usize, m: usize) {
     let count = rules(s);
     let mut q = 0;
     while q < count {
-        let at = rule_at(q);
-        if (byte(s, at) == 0) & (byte(s, sum(at, 1)) == k) {
-            damage_all(sent, s, at, m);
-        }
+        damage_all(sent, s, rule_at(q), k, m);
         q += 1;
     }
 }
@@ -682,6 +699,30 @@ fn put_mail(
 
 // ---- the round call
 
+// The first n numbers, bytes, or numbers of the permutation.
+fn firsts(s: &[usize; 8], n: usize) -> &[usize] {
+    let t = &s[..];
+    if t.len() < n {
+        return t;
+    }
+    &t[0..n]
+}
+
+fn marks(s: &[u8; 8], n: usize) -> &[u8] {
+    let t = &s[..];
+    if t.len() < n {
+        return t;
+    }
+    &t[0..n]
+}
+
+fn indices(s: &[u32], n: usize) -> &[u32] {
+    if s.len() < n {
+        return s;
+    }
+    &s[0..n]
+}
+
 fn call(
     at: Session,
     s: &[u8],
@@ -699,14 +740,14 @@ fn call(
     let mut lens = [0usize; 8];
     let mut missing = [0u8; 8];
     put_mail(s, k, m, i, heard, &mut starts, &mut lens, &mut missing);
-    let n = if parties(s) <= 8 { parties(s) } else { 8 };
+    let n = parties(s);
     session::round(
         at,
         k,
         sent,
-        &starts[..n],
-        &lens[..n],
-        &missing[..n],
+        firsts(&starts, n),
+        firsts(&lens, n),
+        marks(&missing, n),
         r,
         perm,
         work,
@@ -715,14 +756,7 @@ fn call(
 }
 
 // The end of box i, by the call for round k, against the recorded one.
-fn judge_end(
-    tally: &mut [usize; 64],
-    s: &[u8],
-    i: usize,
-    k: usize,
-    number: usize,
-    party: usize,
-) {
+fn judge_end(tally: &mut [usize; 64], s: &[u8], i: usize, k: usize, number: usize, party: usize) {
     let at = end_at(s, i);
     note(tally, byte(s, at) == number, i, k, b"number");
     note(tally, byte(s, sum(at, 1)) == k, i, k, b"round");
@@ -734,7 +768,13 @@ fn judge_end(
 fn judge_results(tally: &mut [usize; 64], s: &[u8], i: usize, k: usize, number: usize, out: &[u8]) {
     let at = result_at(s, i);
     if number == 0 {
-        note(tally, stands(s, at, blake3::digest_of(out)), i, k, b"results");
+        note(
+            tally,
+            stands(s, at, blake3::digest_of(out)),
+            i,
+            k,
+            b"results",
+        );
         add(tally, RESULTS, 1);
         return;
     }
@@ -743,12 +783,78 @@ fn judge_results(tally: &mut [usize; 64], s: &[u8], i: usize, k: usize, number: 
 }
 
 // The answer to the call after the end.
-fn judge_after(tally: &mut [usize; 64], i: usize, k: usize, b: Answer, same: bool, work: &[u8]) {
+fn judge_after(
+    tally: &mut [usize; 64],
+    n: usize,
+    i: usize,
+    l: usize,
+    k: usize,
+    b: Answer,
+    work: &[u8],
+) {
     let now = b.session;
-    note(tally, number(b.verdict) == 20, i, k, b"not 20 after the end");
-    note(tally, named(b.verdict) == i, i, k, b"20 names another");
-    note(tally, same & (now.due == 0), i, k, b"a round is due after the end");
+    let v = b.verdict;
+    note(tally, number(v) == 20, i, k, b"not 20 after the end");
+    note(tally, named(v) == i, i, k, b"20 names another");
+    note(tally, is_of(now, n, i, l), i, k, b"session after the end");
+    note(tally, now.due == 0, i, k, b"a round is due after the end");
     note(tally, all(work, 0), i, k, b"work area not zero");
+}
+
+// The session that the call for round k returned.
+fn judge_session(
+    tally: &mut [usize; 64],
+    n: usize,
+    i: usize,
+    l: usize,
+    k: usize,
+    now: Session,
+    code: usize,
+) {
+    let next = if code == 0 { plan::next_round(n, k) } else { 0 };
+    note(tally, is_of(now, n, i, l), i, k, b"session");
+    note(tally, now.due == next, i, k, b"round due");
+    put(tally, sum(DUE, i), now.due);
+}
+
+// The call, onto a marked outgoing buffer.
+fn first_call(
+    before: Session,
+    s: &[u8],
+    k: usize,
+    m: usize,
+    i: usize,
+    heard: &[u8; 8],
+    sent: &[u8],
+    r: &[u8],
+    perm: &[u32],
+    work: &mut [u8],
+    out: &mut [u8],
+) -> Answer {
+    fill(out, MARK);
+    call(before, s, k, m, i, heard, sent, r, perm, work, out)
+}
+
+// Once box i has ended: the same call again, and what is left.
+fn finish(
+    now: Session,
+    code: usize,
+    s: &[u8],
+    k: usize,
+    m: usize,
+    i: usize,
+    heard: &[u8; 8],
+    sent: &[u8],
+    r: &[u8],
+    perm: &[u32],
+    work: &mut [u8],
+    out: &mut [u8],
+    tally: &mut [usize; 64],
+) {
+    note(tally, all(work, 0), i, k, b"work area not zero");
+    let b = call(now, s, k, m, i, heard, sent, r, perm, work, out);
+    judge_after(tally, parties(s), i, ands(s), k, b, work);
+    judge_results(tally, s, i, k, code, out);
 }
 
 // Box i's call for round k.
@@ -771,25 +877,33 @@ fn round_one(
         party: Frame { n: n, i: i, l: l },
         due: due(tally, i),
     };
-    fill(out, MARK);
-    let a = call(before, s, k, m, i, heard, sent, r, perm, work, out);
+    let a = first_call(before, s, k, m, i, heard, sent, r, perm, work, out);
     let now = a.session;
-    let code = number(a.verdict);
-    note(tally, is_of(now, n, i, l), i, k, b"session");
-    put(tally, sum(DUE, i), now.due);
+    let v = a.verdict;
+    let code = number(v);
+    judge_session(tally, n, i, l, k, now, code);
     if (code == 0) & (k != 22) {
-        note(tally, now.due == plan::next_round(n, k), i, k, b"round due");
         return;
     }
-    note(tally, now.due == 0, i, k, b"a round is due");
-    note(tally, all(work, 0), i, k, b"work area not zero");
-    judge_end(tally, s, i, k, code, named(a.verdict));
-    let b = call(now, s, k, m, i, heard, sent, r, perm, work, out);
-    judge_after(tally, i, k, b, is_of(b.session, n, i, l), work);
-    judge_results(tally, s, i, k, code, out);
+    judge_end(tally, s, i, k, code, named(v));
+    finish(
+        now,
+        code,
+        s,
+        k,
+        m,
+        i,
+        heard,
+        sent,
+        r,
+        perm,
+        work,
+        out,
+        tally,
+    );
 }
 
-// The same, with its parts of work areas and buffers, and what is lent with this call.
+// The same, if box i is open, with its parts of work areas and buffers.
 fn round_at(
     s: &[u8],
     k: usize,
@@ -803,6 +917,9 @@ fn round_at(
     next: &mut [u8],
     tally: &mut [usize; 64],
 ) {
+    if due(tally, i) != k {
+        return;
+    }
     let w = area::work_len(parties(s), ands(s));
     let len = plan::out_len(parties(s), ands(s), k);
     let a = product(i, w);
@@ -813,7 +930,19 @@ fn round_at(
         if e <= works.len() {
             if o <= f {
                 if f <= next.len() {
-                    round_one(s, k, m, i, heard, sent, r, perm, &mut works[a..e], &mut next[o..f], tally);
+                    round_one(
+                        s,
+                        k,
+                        m,
+                        i,
+                        heard,
+                        sent,
+                        r,
+                        perm,
+                        &mut works[a..e],
+                        &mut next[o..f],
+                        tally,
+                    );
                     return;
                 }
             }
@@ -882,9 +1011,7 @@ fn call_all(
     let n = parties(s);
     let mut i = 0;
     while i < n {
-        if due(tally, i) == k {
-            round_at(s, k, m, i, heard, sent, r, perm, works, next, tally);
-        }
+        round_at(s, k, m, i, heard, sent, r, perm, works, next, tally);
         i += 1;
     }
 }
@@ -914,11 +1041,39 @@ fn pass(
     damage(sent, s, k, m);
     let lent_r = plan::r_due(n, l, k);
     let lent_perm = plan::perm_due(n, l, k);
-    if lent_r <= r.len() {
-        if lent_perm <= perm.len() {
-            call_all(s, k, m, &heard, sent, &r[..lent_r], &perm[..lent_perm], works, next, tally);
-        }
+    let lent = part(r, 0, lent_r);
+    call_all(
+        s,
+        k,
+        m,
+        &heard,
+        sent,
+        lent,
+        indices(perm, lent_perm),
+        works,
+        next,
+        tally,
+    );
+}
+
+// The same, where what is sent lies in the second buffer if q is odd.
+fn pass_either(
+    s: &[u8],
+    q: usize,
+    k: usize,
+    len: usize,
+    r: &[u8],
+    perm: &[u32],
+    works: &mut [u8],
+    even: &mut [u8],
+    odd: &mut [u8],
+    tally: &mut [usize; 64],
+) {
+    if q % 2 == 0 {
+        pass(s, q, k, len, r, perm, works, even, odd, tally);
+        return;
     }
+    pass(s, q, k, len, r, perm, works, odd, even, tally);
 }
 
 // All rounds in order. What is sent lies in one buffer and then in the other.
@@ -938,11 +1093,7 @@ fn rounds(
     let mut len = plan::out_len(n, l, 0);
     let mut q = 0;
     while q < count {
-        if q % 2 == 0 {
-            pass(s, q, k, len, r, perm, works, sent, next, tally);
-        } else {
-            pass(s, q, k, len, r, perm, works, next, sent, tally);
-        }
+        pass_either(s, q, k, len, r, perm, works, sent, next, tally);
         len = plan::out_len(n, l, k);
         k = plan::next_round(n, k);
         q += 1;
@@ -960,13 +1111,7 @@ fn check_ended(s: &[u8], tally: &mut [usize; 64]) {
 }
 
 // The whole session whose record s is.
-fn replay(
-    s: &[u8],
-    works: &mut [u8],
-    sent: &mut [u8],
-    next: &mut [u8],
-    tally: &mut [usize; 64],
-) {
+fn replay(s: &[u8], works: &mut [u8], sent: &mut [u8], next: &mut [u8], tally: &mut [usize; 64]) {
     let seed = word(s, 8);
     let mut r = [0u8; 5760];
     let mut perm = [0u32; 35];
@@ -1002,7 +1147,13 @@ fn replay_all(
         at = sum(at, len);
         q += 1;
     }
-    note(tally, (at == list.len()) & (0 < count), 0, 0, b"length of the list");
+    note(
+        tally,
+        (at == list.len()) & (0 < count),
+        0,
+        0,
+        b"length of the list",
+    );
 }
 
 // ---- combining
@@ -1054,9 +1205,31 @@ fn combine_one(s: &[u8], tally: &mut [usize; 64]) {
     put_ds(&mut d, seed, i, count);
     let len = product(product(3, count), record_len(n));
     let ds = if count == 0 { 0 } else { count - 1 };
+    combine_sized(
+        s,
+        n,
+        i,
+        count,
+        part(&triples, 0, len),
+        part(&d, 0, ds),
+        &mut out,
+        tally,
+    );
+}
+
+fn combine_sized(
+    s: &[u8],
+    n: usize,
+    i: usize,
+    count: usize,
+    triples: &[u8],
+    d: &[u8],
+    out: &mut [u8],
+    tally: &mut [usize; 64],
+) {
     let size = product(3, record_len(n));
-    if size <= 771 {
-        combine_call(s, n, i, count, part(&triples, 0, len), part(&d, 0, ds), &mut out[..size], tally);
+    if size <= out.len() {
+        combine_call(s, n, i, count, triples, d, &mut out[0..size], tally);
         return;
     }
     note(tally, false, i, 0, b"no room");
@@ -1077,7 +1250,13 @@ fn combine_call(
     note(tally, code == byte(s, 3), i, 0, b"number");
     if code == 0 {
         add(tally, COMBINED, 1);
-        note(tally, stands(s, 16, blake3::digest_of(out)), i, 0, b"combined");
+        note(
+            tally,
+            stands(s, 16, blake3::digest_of(out)),
+            i,
+            0,
+            b"combined",
+        );
         return;
     }
     add(tally, UNCOMBINED, 1);
@@ -1116,22 +1295,50 @@ fn read(name: &[u8], buf: &mut [u8]) -> usize {
     n
 }
 
+fn read_sessions(list: &mut [u8; 800000]) -> usize {
+    read(b"sessions", list)
+}
+
+fn replay_list(
+    list: &[u8; 800000],
+    n: usize,
+    works: &mut [u8; 1500000],
+    sent: &mut [u8; 280000],
+    next: &mut [u8; 280000],
+    tally: &mut [usize; 64],
+) {
+    let s = part(list, 0, n);
+    note(
+        tally,
+        is_list(s, b"NZVECT02"),
+        0,
+        0,
+        b"not a list of sessions",
+    );
+    replay_all(s, works, sent, next, tally);
+}
+
+// The buffers are those of the largest session, 8 parties and l = 7.
 fn sessions(tally: &mut [usize; 64]) {
     let mut list = [0u8; 800000];
     let mut works = [0u8; 1500000];
     let mut sent = [0u8; 280000];
     let mut next = [0u8; 280000];
-    let n = read(b"sessions", &mut list);
-    let s = part(&list, 0, n);
-    note(tally, is_list(s, b"NZVECT02"), 0, 0, b"not a list of sessions");
-    replay_all(s, &mut works, &mut sent, &mut next, tally);
+    let n = read_sessions(&mut list);
+    replay_list(&list, n, &mut works, &mut sent, &mut next, tally);
 }
 
 fn combinings(tally: &mut [usize; 64]) {
     let mut list = [0u8; 4096];
     let n = read(b"combine", &mut list);
     let s = part(&list, 0, n);
-    note(tally, is_list(s, b"NZCOMB02"), 0, 0, b"not a list of combinings");
+    note(
+        tally,
+        is_list(s, b"NZCOMB02"),
+        0,
+        0,
+        b"not a list of combinings",
+    );
     combine_all(s, tally);
 }
 
