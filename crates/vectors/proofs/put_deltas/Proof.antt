@@ -1,0 +1,30 @@
+-- `vectors::put_deltas` is safe and ends.
+use mathlib.Core.Path.{_≡_}
+use Prim.Native.Nat.{_≤_, _-_}
+use lib.ListN.{length}
+use borrow.Author.Needs.{needs}
+use Rattle.vectors.proofs.put_deltas.Statement.{statement}
+use Rattle.vectors.proofs.put_deltas.Tie as tie
+
+abbrev Inv-loop : tie.InvT-loop
+Inv-loop out₀ seed n k₀ out k = (k ≤ n) × (length out ≡ length out₀)
+
+abbrev μ-loop : tie.MeasureT-loop
+μ-loop out₀ seed n k₀ out k = n - k
+
+pub put-deltas-spec : {M : Type 1} → statement M
+put-deltas-spec =
+    tie.close
+    (tie.spec
+    Inv-loop
+    μ-loop
+    (λ c. search needs)
+    (λ c κs. search needs)
+    (λ c κs. search needs)
+    (λ c κs. search needs)
+    (λ c κs. search needs)
+    (λ c. search needs)
+    (λ c. search needs)
+    (λ c. search needs)
+    (λ c. search needs)
+    (λ c. search needs))
