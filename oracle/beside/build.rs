@@ -4,11 +4,13 @@ use std::{env, path::Path};
 
 fn main() {
     let here = env::var("CARGO_MANIFEST_DIR").unwrap();
-    let dir = env::var("NUZSDIKE_LIB").unwrap_or(format!("{here}/../../target/staticlib"));
+    // a folder with the libraries, or, as host/ has it, the file libnuzsdike.a
+    let given = env::var("NUZSDIKE_LIB").unwrap_or(format!("{here}/../../target/staticlib"));
+    let dir = given.strip_suffix("/libnuzsdike.a").unwrap_or(&given);
     println!("cargo::rerun-if-env-changed=NUZSDIKE_LIB");
     println!("cargo::rustc-link-search=native={dir}");
     for library in ["libnuzsdike.a", "librbits_bench.a"] {
-        if Path::new(&dir).join(library).exists() {
+        if Path::new(dir).join(library).exists() {
             println!("cargo::rerun-if-changed={dir}/{library}");
         }
     }
