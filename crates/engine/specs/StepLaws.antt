@@ -13,7 +13,7 @@ use borrow.Author.Tests.{ltb-true, ltb-false, eqb-true, eqb-false, eq-eqb, ne-eq
 use Rattle.lists.specs.Pick.{pick, pick-else}
 use Rattle.lists.specs.All.{all-of}
 use Rattle.algebra.specs.Sum.{neq, neq-true, apart?, Same, apart}
-use Rattle.engine.specs.Step.{Frame, Session, Lent, Refused, Outcome, outcome, Fault, Rule, Protocol, other, mask, gone, part}
+use Rattle.engine.specs.Step.{Frame, Session, Lent, Refused, Outcome, outcome, Fault, Rule, Protocol, other, mask, gone, part, heard}
 use Rattle.engine.specs.Step.{inside, partsIn, sizes, reasonOf, orElse, scan, byParty, formFault, faultOf, ended, refused, faulted}
 use Rattle.engine.specs.Step.{accepted, roundSpec}
 
@@ -165,11 +165,11 @@ by-none f c h = scan-none (f .n) _ (λ k l. other-cases f k (λ b. pick b (c k) 
 -- no fault: every other message is there and well formed, and the check passes
 pub no-fault : (R : Rule) (f : Frame) (q : Lent) (w : List ℕ)
     → ((j : ℕ) → j < f .n → f .i ≢ j → (gone q j ≡ false) × (R .form f (part q j) ≡ 0))
-    → R .check f (q .loan) w (mask f (part q)) .code ≡ 0 → faultOf R f q w .code ≡ 0
+    → R .check f (q .loan) w (mask f (heard R f q)) .code ≡ 0 → faultOf R f q w .code ≡ 0
 unfolding faultOf formFault
 no-fault R f q w h c =
     ap (λ (e : Fault). e .code)
-    (or-none (byParty f (formFault R f q)) (R .check f (q .loan) w (mask f (part q)))
+    (or-none (byParty f (formFault R f q)) (R .check f (q .loan) w (mask f (heard R f q)))
     (by-none f (formFault R f q) (λ j l ne. ap (λ b. pick b 14 (R .form f (part q j))) (h j l ne .0) ∙ h j l ne .1)))
     ∙ c
 

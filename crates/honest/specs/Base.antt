@@ -28,10 +28,10 @@ use Rattle.blake3.specs.Tree.{digest, hash}
 use Rattle.blake3.specs.ByteLaws.{length-bytes, bytes-bytes}
 use Rattle.message.specs.declared.Kind.{Kind}
 use Rattle.message.specs.declared.Kind.the-variants.{Items}
-use Rattle.message.specs.Format.{formOf}
+use Rattle.message.specs.Format.{listOf, formOf}
 use Rattle.encode.specs.Encode.{encode}
 use Rattle.encode.specs.Coded.{Coded, length-encode}
-use Rattle.encode.specs.RoundTrip.{trip-whole}
+use Rattle.encode.specs.RoundTrip.{Trip, trip-whole}
 use Rattle.plan.specs.Plan.{listLen}
 use Rattle.engine.specs.declared.Frame.{Frame}
 use Rattle.engine.specs.Step.{frame, Fault, other, orElse, scan, byParty}
@@ -98,14 +98,17 @@ pub bytes-hash : (s : List ℕ) → Bytes (hash s)
 unfolding hash
 bytes-hash s = bytes-bytes (digest s)
 
--- what an echo carries of a list
-pub length-hashVec : (l k : ℕ) (m : List ℕ) → length (hashVec l k m) ≡ 16
-unfolding hashVec
-length-hashVec l k m = length-take 16 (hash _) ∙ rw (length-hash _) refl
-
 -- ---- a message that is a list
-pub list-form : (K : Kind) (c : ℕ) (g : ℕ → List ℕ) → c < 2 ^ 64 → ((t : ℕ) → t < c → Coded K (g t)) → formOf K c (encode c g) ≡ 0
-list-form K c g small coded = trip-whole K c g small coded .form-is
+-- it is of the right form, and read to its end
+pub record Reads (K : Kind) (c : ℕ) (m : List ℕ) : Type 0 where
+  pub form-is : formOf K c m ≡ 0
+  pub list-is : listOf K m ≡ m
+
+pub reads : (K : Kind) (c : ℕ) (g : ℕ → List ℕ) → Trip K c g (encode c g) → Reads K c (encode c g)
+reads K c g T = record { form-is = T .form-is; list-is = T .list-is }
+
+pub list-form : (K : Kind) (c : ℕ) (g : ℕ → List ℕ) → c < 2 ^ 64 → ((t : ℕ) → t < c → Coded K (g t)) → Reads K c (encode c g)
+list-form K c g small coded = reads K c g (trip-whole K c g small coded)
 
 pub list-len : (n size bools c : ℕ) (g : ℕ → List ℕ) → ((t : ℕ) → t < c → length (g t) ≡ size)
     → length (encode c g) ≡ listLen n c (Items size bools)

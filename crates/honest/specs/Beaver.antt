@@ -22,7 +22,6 @@ use Rattle.share.specs.Share.{Share, shares, recordOf}
 use Rattle.share.specs.ShareLaws.{SmallShare, small-share-at, small-share-op, small-share-sel, Agree, agree-record, agree-op, agree-refl, agree-sel}
 use Rattle.share.specs.Parties.{shareOf, share-of-op, share-of-sel, share-of-at}
 use Rattle.message.specs.declared.Kind.the-variants.{Items}
-use Rattle.message.specs.Format.{formOf}
 use Rattle.encode.specs.Encode.{encode, twoBitsTwoBlocks}
 use Rattle.encode.specs.Coded.{length-twoBitsTwoBlocks, coded-twoBitsTwoBlocks}
 use Rattle.encode.specs.RoundTrip.{trip-whole, even-item}
@@ -40,7 +39,7 @@ use Rattle.rounds.specs.Buckets.{tripleRows}
 use Rattle.rounds.specs.Beaver as B
 use Rattle.honest.specs.Script as S
 use Rattle.honest.specs.Inputs.{Boxes, Inputs, deltas, alphasOf, betasOf, small-bits, small-alpha, small-beta}
-use Rattle.honest.specs.Base.{list-form, list-len, Fit, delta-is, bits-at, alpha-at, beta-at, zs-at, es-at, perm-at, ds-at, triples-at, keep-one}
+use Rattle.honest.specs.Base.{list-form, list-len, Fit, delta-is, bits-at, alpha-at, beta-at, zs-at, es-at, perm-at, ds-at, triples-at, keep-one, Reads}
 use Rattle.honest.specs.Values.{share-y, LeakyTriples}
 use Rattle.honest.specs.Buckets.{item-byte, item-block, open-all, passes, aOf, bOf, cOf, place, entry-is, first-in, good-y, l-small, length-triples, bytes-triples, a-read, c-read, small-a, small-c, abc-triple}
 
@@ -176,7 +175,7 @@ module _ (n l : ℕ) (args : ℕ → Args) (strings order : List ℕ) (I : Input
   unfolding S.sent22 B.faandMsg msgLen kindOf countDue
   faand-len j r = list-len n 34 2 l _ (λ t i. length-twoBitsTwoBlocks _ _ _ _)
 
-  faand-form : (j r : ℕ) → formOf (kindOf l 22) (countDue n l 22) (S.sent22 n l args strings order j r) ≡ 0
+  faand-form : (j r : ℕ) → Reads (kindOf l 22) (countDue n l 22) (S.sent22 n l args strings order j r)
   unfolding S.sent22 B.faandMsg kindOf countDue
   faand-form j r = list-form (Items 34 2) l _ (l-small n l args strings order I) (λ t i. coded-twoBitsTwoBlocks _ _ _ _)
 
@@ -305,7 +304,8 @@ module _ (n l : ℕ) (args : ℕ → Args) (strings order : List ℕ) (I : Input
   last-22 L = record {
     heard = record {
       lens = λ j r lj lr ne. faand-len j r;
-      formed = λ i j li lj ne. faand-form j i;
+      formed = λ i j li lj ne. faand-form j i .form-is;
+      whole = λ i j li lj ne. faand-form j i .list-is;
       judged = λ i li w K m M.
           (λ q. B.deFaults (frame n l i) (delta-is n l args strings order K q) (bits-at n l args strings order K q)
           (perm-at n l args strings order K refl q) (triples-at n l args strings order K refl q) (alpha-at n l args strings order K q)

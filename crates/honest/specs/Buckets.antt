@@ -27,7 +27,6 @@ use Rattle.share.specs.ShareLaws.{SmallShare, small-share-op, Agree, length-rec
 use Rattle.share.specs.Parties.{shareOf, share-of-op}
 use Rattle.permutation.specs.PermutationLaws.{perm-below}
 use Rattle.message.specs.declared.Kind.the-variants.{Dvalues}
-use Rattle.message.specs.Format.{formOf}
 use Rattle.encode.specs.Encode.{encode, dvalueItem}
 use Rattle.encode.specs.Coded.{ds, macs, length-ds, length-dvalue, coded-dvalue, length-encode}
 use Rattle.encode.specs.RoundTrip.{trip-whole, even-item}
@@ -49,7 +48,7 @@ use Rattle.rounds.specs.Buckets as B
 use Rattle.rounds.specs.Beaver as Beaver
 use Rattle.honest.specs.Script as S
 use Rattle.honest.specs.Inputs.{Boxes, Inputs, deltas, small-bits}
-use Rattle.honest.specs.Base.{list-form, Fit, delta-is, bits-at, perm-at, keep-one}
+use Rattle.honest.specs.Base.{list-form, Fit, delta-is, bits-at, perm-at, keep-one, Reads}
 use Rattle.honest.specs.Haand.{row-byte, row-block}
 use Rattle.honest.specs.Values.{xOf, yOf, zOf, share-x, share-y, share-z, small-z, LeakyTriples}
 use Rattle.honest.specs.Combining.{sumX, sumZ, sum-triple, tripleOf, combined, small-sumX, small-sumZ, combine-ext}
@@ -270,7 +269,7 @@ module _ (n l : ℕ) (args : ℕ → Args) (strings order : List ℕ) (I : Input
       length-encode (8 + more l + (8 + 16 * more l)) l _
       (λ t i. length-dvalue (more l) _ _ ∙ (let q : 16 + more l * 17 ≡ 8 + more l + (8 + 16 * more l) = omega arith in q))
 
-  dvalue-form : (j r : ℕ) → formOf (kindOf l 21) (countDue n l 21) (S.sent21 n l args strings order j r) ≡ 0
+  dvalue-form : (j r : ℕ) → Reads (kindOf l 21) (countDue n l 21) (S.sent21 n l args strings order j r)
   unfolding S.sent21 dvalueMsg later kindOf countDue
   dvalue-form j r = list-form (Dvalues (more l)) l _ l-small (λ t i. coded-dvalue (more l) _ _ more-small)
 
@@ -360,7 +359,8 @@ module _ (n l : ℕ) (args : ℕ → Args) (strings order : List ℕ) (I : Input
   recv-21 = record {
     heard = record {
       lens = λ j r lj lr ne. dvalue-len j r;
-      formed = λ i j li lj ne. dvalue-form j i;
+      formed = λ i j li lj ne. dvalue-form j i .form-is;
+      whole = λ i j li lj ne. dvalue-form j i .list-is;
       judged = λ i li w K m M.
           (λ q. dFaults (frame n l i) (delta-is n l args strings order K q) (bits-at n l args strings order K q)
           (perm-at n l args strings order K refl q) m .code)

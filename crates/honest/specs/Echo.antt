@@ -79,6 +79,7 @@ unfolding echo echoMsg echoFault msgLen listLen kindOf countDue
 echo-laws n small = record {
   lens = λ i r li lr ne rows h. echo-length n i r rows h li lr ne;
   formed = λ i r li lr ne rows h. echo-trip n i r rows h small .form-is;
+  whole = λ i r li lr ne rows h. echo-trip n i r rows h small .list-is;
   passes = λ i j li lj ne own sent ho hs e. scan-none n _ (λ k lk. go i j own sent hs e k lk (neq i k) (apart? i k) (neq j k) (apart? j k));
 }
   where

@@ -24,7 +24,6 @@ use Rattle.blake3.specs.Tree.{hash}
 use Rattle.share.specs.Share.{shareAt}
 use Rattle.share.specs.Parties.{sharedAt, shareOf}
 use Rattle.message.specs.declared.Kind.the-variants.{Items}
-use Rattle.message.specs.Format.{formOf}
 use Rattle.encode.specs.Coded.{length-bitBlock, coded-hash, coded-block}
 use Rattle.encode.specs.RoundTrip.{trip-whole, even-item}
 use Rattle.plan.specs.Plan.{kindOf, countDue, msgLen, leaky, bitsCount}
@@ -40,9 +39,10 @@ use Rattle.rounds.specs.Opening.{Args}
 use Rattle.rounds.specs.Table.{table, judge, kept, held, written}
 use Rattle.rounds.specs.Haand.{x, y, r, G, phi, u, phiAt, keyHash, uAt, zAt, macHash}
 use Rattle.rounds.specs.Flaand.{e, flaandMsg, eTold, uTold, eRows, zKey, h, hs, commMsg, commRows, hashMsg, hTold, opening, zeroSum, hFaults}
+use Rattle.rounds.specs.EchoLaws.{length-hashVec}
 use Rattle.honest.specs.Script as S
 use Rattle.honest.specs.Inputs.{Boxes, deltas, small-delta}
-use Rattle.honest.specs.Base.{rows-ext, length-rows, chunk-rows, length-hash, length-hashVec, list-form, list-len, Fit, delta-is, bits-at, leaky-at, zs-at, hs-at, h-comms-at, keep-none, keep-one, keep-two}
+use Rattle.honest.specs.Base.{rows-ext, length-rows, chunk-rows, length-hash, list-form, list-len, Fit, delta-is, bits-at, leaky-at, zs-at, hs-at, h-comms-at, keep-none, keep-one, keep-two, Reads, reads}
 use Rattle.honest.specs.Cells.{items-row, length-cells, cell}
 use Rattle.honest.specs.Firsts.{pairs-trip, bit-read, block-read, hash-bits}
 use Rattle.honest.specs.Haand.{leaky-small, row-block, small-G, small-phi, small-u, phi-read, key-hash-read, u-read, mac-hash-read, and-z}
@@ -239,9 +239,9 @@ module _ (n l : ℕ) (args : ℕ → Args) (strings order : List ℕ) (X : Boxes
   unfolding S.sent15 flaandMsg msgLen kindOf countDue
   flaand-len j r = list-len n 17 1 (leaky l) _ (λ t i. length-bitBlock _ _)
 
-  flaand-form : (j r : ℕ) → formOf (kindOf l 15) (countDue n l 15) (S.sent15 n l args strings order j r) ≡ 0
+  flaand-form : (j r : ℕ) → Reads (kindOf l 15) (countDue n l 15) (S.sent15 n l args strings order j r)
   unfolding S.sent15 flaandMsg kindOf countDue
-  flaand-form j r = pairs-trip (leaky l) (eOf j) _ small .form-is
+  flaand-form j r = reads (Items 17 1) (leaky l) _ (pairs-trip (leaky l) (eOf j) _ small)
 
   pub send-15 : SendAt table run n l 15
   unfolding staysTest allOf mem S.since S.sent S.sent15 held written
@@ -257,7 +257,8 @@ module _ (n l : ℕ) (args : ℕ → Args) (strings order : List ℕ) (X : Boxes
   recv-15 = record {
     heard = record {
       lens = λ j r lj lr ne. flaand-len j r;
-      formed = λ i j li lj ne. flaand-form j i;
+      formed = λ i j li lj ne. flaand-form j i .form-is;
+      whole = λ i j li lj ne. flaand-form j i .list-is;
       judged = λ i li w K m M. refl;
     };
     keeps = λ i li w K m M. keep-two n l args strings order (due 15) (before 17) i li K HS ES _ _ refl fit-hs fit-es
@@ -270,9 +271,9 @@ module _ (n l : ℕ) (args : ℕ → Args) (strings order : List ℕ) (X : Boxes
   pub list-15 : ListAt table run n l 15
   unfolding S.hashed S.sent S.sent15 flaandMsg kindOf
   list-15 = record {
-    size = λ j lj. length-hashVec l 15 _;
+    size = λ j lj. length-hashVec 15 _;
     hashes = λ i j li lj ne.
-        hash-bits (leaky l) (eOf j) _ small l 15 refl refl ∙ sym (hash-bits (leaky l) (eOf j) _ small l 15 refl refl);
+        hash-bits (leaky l) (eOf j) _ small 15 refl ∙ sym (hash-bits (leaky l) (eOf j) _ small 15 refl);
   }
 
   -- ---- round 17
@@ -287,7 +288,7 @@ module _ (n l : ℕ) (args : ℕ → Args) (strings order : List ℕ) (X : Boxes
   unfolding S.sent17 commMsg msgLen kindOf countDue
   comm-len j r = list-len n 32 0 (leaky l) (comm j) (λ t i. length-hash _)
 
-  comm-form : (j r : ℕ) → formOf (kindOf l 17) (countDue n l 17) (S.sent17 n l args strings order j r) ≡ 0
+  comm-form : (j r : ℕ) → Reads (kindOf l 17) (countDue n l 17) (S.sent17 n l args strings order j r)
   unfolding S.sent17 commMsg kindOf countDue
   comm-form j r = list-form (Items 32 0) (leaky l) (comm j) small (λ t i. coded-hash (comm j t) (length-hash _))
 
@@ -318,7 +319,8 @@ module _ (n l : ℕ) (args : ℕ → Args) (strings order : List ℕ) (X : Boxes
   recv-17 = record {
     heard = record {
       lens = λ j r lj lr ne. comm-len j r;
-      formed = λ i j li lj ne. comm-form j i;
+      formed = λ i j li lj ne. comm-form j i .form-is;
+      whole = λ i j li lj ne. comm-form j i .list-is;
       judged = λ i li w K m M. refl;
     };
     keeps = λ i li w K m M. keep-one n l args strings order (due 17) (before 19) i li K H-COMMS _ refl fit-comms
@@ -328,7 +330,7 @@ module _ (n l : ℕ) (args : ℕ → Args) (strings order : List ℕ) (X : Boxes
   pub list-17 : ListAt table run n l 17
   unfolding S.hashed S.sent S.sent17
   list-17 = record {
-    size = λ j lj. length-hashVec l 17 _;
+    size = λ j lj. length-hashVec 17 _;
     hashes = λ i j li lj ne. refl;
   }
 
@@ -337,7 +339,7 @@ module _ (n l : ℕ) (args : ℕ → Args) (strings order : List ℕ) (X : Boxes
   unfolding S.sent19 hashMsg msgLen kindOf countDue
   hash-len j r = list-len n 16 0 (leaky l) (λ t. bytesOf (own j t)) (λ t i. length-bytesOf _)
 
-  hash-form : (j r : ℕ) → formOf (kindOf l 19) (countDue n l 19) (S.sent19 n l args strings order j r) ≡ 0
+  hash-form : (j r : ℕ) → Reads (kindOf l 19) (countDue n l 19) (S.sent19 n l args strings order j r)
   unfolding S.sent19 hashMsg kindOf countDue
   hash-form j r = list-form (Items 16 0) (leaky l) (λ t. bytesOf (own j t)) small (λ t i. coded-block (own j t))
 
@@ -385,7 +387,8 @@ module _ (n l : ℕ) (args : ℕ → Args) (strings order : List ℕ) (X : Boxes
   recv-19 = record {
     heard = record {
       lens = λ j r lj lr ne. hash-len j r;
-      formed = λ i j li lj ne. hash-form j i;
+      formed = λ i j li lj ne. hash-form j i .form-is;
+      whole = λ i j li lj ne. hash-form j i .list-is;
       judged = λ i li w K m M.
           ap₂ (λ (o c : List ℕ). hFaults (frame n l i) o c m .code) (hs-at n l args strings order K refl) (h-comms-at n l args strings order K refl)
           ∙ ap (λ (x : Fault). x .code)
@@ -398,6 +401,6 @@ module _ (n l : ℕ) (args : ℕ → Args) (strings order : List ℕ) (X : Boxes
   pub list-19 : ListAt table run n l 19
   unfolding S.hashed S.sent S.sent19
   list-19 = record {
-    size = λ j lj. length-hashVec l 19 _;
+    size = λ j lj. length-hashVec 19 _;
     hashes = λ i j li lj ne. refl;
   }

@@ -25,7 +25,6 @@ use Rattle.share.specs.Share.{shareAt}
 use Rattle.share.specs.Parties.{sharedAt}
 use Rattle.share.specs.RecordLaws.{small-mac, small-key}
 use Rattle.message.specs.declared.Kind.the-variants.{Items}
-use Rattle.message.specs.Format.{formOf}
 use Rattle.encode.specs.Encode.{encode, twoBits}
 use Rattle.encode.specs.Coded.{length-twoBits, coded-twoBits}
 use Rattle.encode.specs.RoundTrip.{trip-whole, even-item}
@@ -43,7 +42,7 @@ use Rattle.rounds.specs.Table.{table, judge, kept, held, written}
 use Rattle.rounds.specs.Haand.{x, y, H, G, mask, h0, h1, haandMsg, phi, u, leakyEntry, leakyRow, leakyRows, phiAt, keyHash, uAt, v, z, zRow, zRows, zAt, macHash}
 use Rattle.honest.specs.Script as S
 use Rattle.honest.specs.Inputs.{Boxes, deltas}
-use Rattle.honest.specs.Base.{length-rows, chunk-rows, bytes-hash, list-form, list-len, Fit, delta-is, masks-at, bits-at, keep-one}
+use Rattle.honest.specs.Base.{length-rows, chunk-rows, bytes-hash, list-form, list-len, Fit, delta-is, masks-at, bits-at, keep-one, Reads}
 use Rattle.honest.specs.Values.{xOf, yOf, zOf}
 
 -- ---- what is read of rows of s bytes
@@ -196,7 +195,7 @@ module _ (n l : ℕ) (args : ℕ → Args) (strings order : List ℕ) (X : Boxes
   unfolding S.sent14 haandMsg msgLen kindOf countDue
   haand-len j r = list-len n 2 2 (leaky l) _ (λ t i. length-twoBits _ _)
 
-  haand-form : (j r : ℕ) → formOf (kindOf l 14) (countDue n l 14) (S.sent14 n l args strings order j r) ≡ 0
+  haand-form : (j r : ℕ) → Reads (kindOf l 14) (countDue n l 14) (S.sent14 n l args strings order j r)
   unfolding S.sent14 haandMsg kindOf countDue
   haand-form j r = list-form (Items 2 2) (leaky l) _ leaky-small (λ t i. coded-twoBits _ _)
 
@@ -224,7 +223,8 @@ module _ (n l : ℕ) (args : ℕ → Args) (strings order : List ℕ) (X : Boxes
   recv-14 = record {
     heard = record {
       lens = λ j r lj lr ne. haand-len j r;
-      formed = λ i j li lj ne. haand-form j i;
+      formed = λ i j li lj ne. haand-form j i .form-is;
+      whole = λ i j li lj ne. haand-form j i .list-is;
       judged = λ i li w K m M. refl;
     };
     keeps = λ i li w K m M. keep-one n l args strings order (due 14) (before 15) i li K ZS _ refl fit-zs

@@ -18,8 +18,7 @@ use Rattle.permutation.specs.Permutation.{isPerm}
 use Rattle.permutation.specs.PermutationLaws.{perm-of}
 use Rattle.plan.specs.Plan.{InRange, leaky, bitsCount, rLen, msgLen}
 use Rattle.engine.specs.declared.Frame.{Frame}
-use Rattle.engine.specs.declared.Verdict.the-variants.{Accepted, Refused}
-use Rattle.engine.specs.Step.{frame, Loan, Outcome, outcome}
+use Rattle.engine.specs.Step.{frame, Loan, Accepted, Refused, Outcome, outcome}
 use Rattle.engine.specs.World.{sessionOf}
 use Rattle.engine.specs.Area.{toOthers, mem, Every, every-mem}
 use Rattle.engine.specs.Sheet.{Known, known-lay}

@@ -164,7 +164,7 @@ module _ (n l : ℕ) (args : ℕ → Args) (strings order : List ℕ) where
 
   -- the hash of j's list, as its next party gets it
   unfoldable pub hashed : ℕ → ℕ → List ℕ
-  hashed k j = hashVec l k (sent k j (pick (eqb j 0) 1 0))
+  hashed k j = hashVec k (sent k j (pick (eqb j 0) 1 0))
 
   abbrev pub script : Script
   script = record {

@@ -11,8 +11,7 @@ use Rattle.algebra.specs.Sum.{neq}
 use Rattle.share.specs.Record.{recordLen, recordsFault}
 use Rattle.plan.specs.Plan.{leaky, bitsCount, msgLen}
 use Rattle.engine.specs.declared.Frame.{Frame}
-use Rattle.engine.specs.declared.Verdict.the-variants.{Accepted, Refused}
-use Rattle.engine.specs.Step.{Outcome, outcome}
+use Rattle.engine.specs.Step.{Accepted, Refused, Outcome, outcome}
 use Rattle.engine.specs.World.{Opening}
 use Rattle.engine.specs.Area.{toOthers}
 use Rattle.rounds.specs.Area.{DELTA, SEED, PAIRS, MASKS, BITS, ALPHA, BETA, SECTIONS, sizeOf, workLen}
