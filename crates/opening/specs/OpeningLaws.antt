@@ -14,9 +14,8 @@ use Rattle.algebra.specs.Sum.{neq-true, neq-self}
 use Rattle.share.specs.Record.{recordLen}
 use Rattle.plan.specs.Plan.{InRange, parties?, inRange, leaky, bitsCount, outLen, msgLen}
 use Rattle.plan.specs.PlanLaws.{in-range, parties-true, bits-len, shares-len, masks-len, pairs-len, out-len, order-first}
-use Rattle.engine.specs.Step.{frame, outcome}
+use Rattle.engine.specs.Step.{frame, Accepted, Refused, outcome}
 use Rattle.engine.specs.Area.{toOthers}
-use Rattle.engine.specs.declared.Verdict.the-variants.{Accepted, Refused}
 use Rattle.rounds.specs.Area.{workLen}
 use Rattle.rounds.specs.Opening.{Args, orFault, listsDue, buffersDue, masksFault, bytesFault, reason, area, spec}
 use Rattle.rounds.specs.Toss as Toss

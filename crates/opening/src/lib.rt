@@ -8,7 +8,7 @@ ghost use Rattle.lists.specs.All.{allOf};
 ghost use Rattle.lists.specs.Pick.{pick};
 ghost use Rattle.plan.specs.Plan as Plan;
 ghost use Rattle.plan.specs.Plan.{InRange};
-ghost use Rattle.engine.specs.Step.{frame, outcome};
+ghost use Rattle.engine.specs.Step.{frame, replyOf, outcome};
 ghost use Rattle.rounds.specs.Area.{workLen, keep};
 ghost use Rattle.rounds.specs.Opening as Opening;
 ghost use Rattle.rounds.specs.Opening.{orFault};
@@ -257,7 +257,7 @@ pub fn open(
     work: &mut [u8],
     out: &mut [u8],
 ) -> Answer
-    ensures { λ r. ⌜ outcome (r .session) (r .verdict) (now (work .exit)) (now (out .exit)) ≡ Opening.spec
+    ensures { λ r. ⌜ outcome (r .session) (replyOf (r .verdict)) (now (work .exit)) (now (out .exit)) ≡ Opening.spec
         (args n i l (now (delta .entry)) (now (seed .entry)) (now (pairs .entry)) (now (bits .entry)) (now (alpha .entry)) (now (beta .entry))
         (now (masks .entry)) (now (work .entry)) (now (out .entry))) ⌝ }
 {
