@@ -105,7 +105,7 @@ three true true c e = (refl, refl, e)
 three true false c e = absurd (true-false (sym e))
 three false b c e = absurd (true-false (sym e))
 
-pub two-of : (a b : Bool) → (a && b) ≡ true → (a ≡ true) × (b ≡ true)
+two-of : (a b : Bool) → (a && b) ≡ true → (a ≡ true) × (b ≡ true)
 two-of true b e = (refl, e)
 two-of false b e = absurd (true-false (sym e))
 
@@ -113,7 +113,7 @@ not-true : (b : Bool) → not b ≡ true → b ≡ false
 not-true true e = sym e
 not-true false e = refl
 
-pub and-false : (b : Bool) → (b && false) ≡ false
+and-false : (b : Bool) → (b && false) ≡ false
 and-false true = refl
 and-false false = refl
 
@@ -167,30 +167,6 @@ module _ (T : Table) (n l : ℕ) (W : Lawful T n l) where
       go true z b e q = absurd (true-false (sym q))
       go false z b e q = (next-on two k ne (ap (λ c. c && isEcho T (suc k)) z), q)
 
-  -- what comes after a plain round whose call writes no echo
-  pub next-plain : (k : ℕ) → k < T .last → toEcho T (eqb n 2) k ≡ false
-      → (nextOf T (eqb n 2) k ≡ plainAfter T k) × (isEcho T (plainAfter T k) ≡ false)
-  unfolding plainAfter toEcho
-  next-plain k lk q = go (isEcho T (suc k)) refl (eqb n 2) refl q
-    where
-      ne : k ≢ T .last
-      ne p = omega arith
-
-      go : (b : Bool) → isEcho T (suc k) ≡ b → (c : Bool) → eqb n 2 ≡ c → (not c && b) ≡ false
-          → (nextOf T (eqb n 2) k ≡ suc (pick b (suc k) k)) × (isEcho T (suc (pick b (suc k) k)) ≡ false)
-      go true e true c q = (next-skips (eqb n 2) k ne c e, no-two (suc k) lk e)
-      go true e false c q = absurd (true-false q)
-      go false e c z q = (next-on (eqb n 2) k ne (ap (λ b. eqb n 2 && b) e ∙ and-false (eqb n 2)), e)
-
-  -- the round before an echo is plain
-  pub before-echo : (k : ℕ) → suc k ≤ T .last → isEcho T (suc k) ≡ true → (0 < k) × (k < T .last) × (isEcho T k ≡ false)
-  before-echo zero lk e = absurd (true-false (sym e ∙ first-plain))
-  before-echo (suc k) lk e = (omega arith, lk, go (isEcho T (suc k)) refl)
-    where
-      go : (b : Bool) → isEcho T (suc k) ≡ b → b ≡ false
-      go true z = absurd (true-false (sym e ∙ no-two (suc k) (omega arith) z))
-      go false z = refl
-
   -- ---- which round is due
   abbrev counts : Bool
   counts = allOf (stepsOf T (eqb n 2)) (λ d. isRound T (eqb n 2) (numberOf T (eqb n 2) d))
@@ -199,10 +175,10 @@ module _ (T : Table) (n l : ℕ) (W : Lawful T n l) where
   unfolding courseTest
   course-is = two-of counts (eqb (numberOf T (eqb n 2) (stepsOf T (eqb n 2))) 0) (W .course (eqb n 2))
 
-  pub round-at : (d : ℕ) → d < stepsOf T (eqb n 2) → isRound T (eqb n 2) (numberOf T (eqb n 2) d) ≡ true
+  round-at : (d : ℕ) → d < stepsOf T (eqb n 2) → isRound T (eqb n 2) (numberOf T (eqb n 2) d) ≡ true
   round-at d h = of-all (stepsOf T (eqb n 2)) (λ d. isRound T (eqb n 2) (numberOf T (eqb n 2) d)) (course-is .0) d h
 
-  pub never-zero : isRound T (eqb n 2) 0 ≡ false
+  never-zero : isRound T (eqb n 2) 0 ≡ false
   unfolding isRound
   never-zero = refl
 
@@ -467,13 +443,27 @@ module _ (T : Table) (U : Script) (n l : ℕ) (W : Lawful T n l) where
             → Own (due (suc to)) i (area i w m)
         next v i li w K m M = H .keeps (sym lent-made ∙ v) i li (got i w m) (G i li w K m M)
 
+  -- what comes after a plain round whose call writes no echo
+  next-plain : (k : ℕ) → k < T .last → toEcho T two k ≡ false → (nextOf T two k ≡ plainAfter T k) × (isEcho T (plainAfter T k) ≡ false)
+  unfolding plainAfter toEcho
+  next-plain k lk q = go (isEcho T (suc k)) refl two refl q
+    where
+      ne : k ≢ T .last
+      ne p = omega arith
+
+      go : (b : Bool) → isEcho T (suc k) ≡ b → (c : Bool) → two ≡ c → (not c && b) ≡ false
+          → (nextOf T two k ≡ suc (pick b (suc k) k)) × (isEcho T (suc (pick b (suc k) k)) ≡ false)
+      go true e true c q = (next-skips T n l W two k ne c e, no-two T n l W (suc k) lk e)
+      go true e false c q = absurd (true-false q)
+      go false e c z q = (next-on T n l W two k ne (ap (λ b. two && b) e ∙ and-false two), e)
+
   -- ---- THE FOUR KINDS OF CALLS
   -- for a plain round, when no echo follows
   pub middle-plain : (k : ℕ) → k < T .last → isEcho T k ≡ false → toEcho T (eqb n 2) k ≡ false → RecvAt T U n l k
       → SendAt T U n l (plainAfter T k) → Middle (protocolOf T) n l (loansOf T U n l) (sheetOf T U n l) k
   unfolding plainAfter
   middle-plain k lk e q R H =
-      let x = next-plain T n l W k lk q in
+      let x = next-plain k lk q in
       middle-made k _ (λ p. omega arith) q (x .0) (x .1) (pass-plain k e (R .heard)) H
       (λ i li w K m M. rw e (R .keeps i li w (subst (λ t. Own t i w) (moment-plain k e) (to-own k i w K)) m (mail-plain k i m e M)))
 
@@ -588,9 +578,18 @@ module _ (T : Table) (U : Script) (n l : ℕ) (W : Lawful T n l) where
     abbrev Good : ℕ → Type 0
     Good k = HonestRound P n l L (Holds P n l L S) k
 
+    -- the round before an echo is plain
+    before-echo : (k : ℕ) → suc k ≤ T .last → isEcho T (suc k) ≡ true → Plain k
+    before-echo zero lk e = absurd (true-false (sym e ∙ first-plain T n l W))
+    before-echo (suc k) lk e = (omega arith, lk, go (isEcho T (suc k)) refl)
+      where
+        go : (b : Bool) → isEcho T (suc k) ≡ b → b ≡ false
+        go true z = absurd (true-false (sym e ∙ no-two T n l W (suc k) (omega arith) z))
+        go false z = refl
+
     good-echo : (k : ℕ) → suc k ≤ T .last → isEcho T (suc k) ≡ true → Good (suc k)
     good-echo k lk e =
-        let h : Plain k = before-echo T n l W k lk e in
+        let h : Plain k = before-echo k lk e in
         middle P n l L S (λ i. refl) k (middle-echo k lk e (list-of (suc k) e .size) (subst (SendAt T U n l) after (send-of k h)))
       where
         after : plainAfter T k ≡ suc (suc k)
