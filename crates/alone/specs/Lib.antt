@@ -1,1 +1,10 @@
 pub mod Formula
+pub mod Holds
+pub mod Base
+pub mod Cells
+pub mod HaandLaws
+pub mod Given
+pub mod FlaandLaws
+pub mod FashareLaws
+pub mod BucketsLaws
+pub mod BeaverLaws

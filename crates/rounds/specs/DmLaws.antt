@@ -103,7 +103,7 @@ pub record Checked (n i : ℕ) (incoming starts lens : List ℕ) : Type 0 where
   pub arrived : Arrived n i 0 incoming starts lens
   pub dues : (k : ℕ) → k < n → i ≢ k → Dues n (letter incoming starts lens k)
 
-dm-due : (f : Frame) (m : ℕ → List ℕ) (q k : ℕ) → dmFault f m q k ≡ 0 → wordAt (m k) (itemAt Dms (m k) q) ≡ dmLen (f .n)
+pub dm-due : (f : Frame) (m : ℕ → List ℕ) (q k : ℕ) → dmFault f m q k ≡ 0 → wordAt (m k) (itemAt Dms (m k) q) ≡ dmLen (f .n)
 unfolding dmFault
 dm-due f m q k z =
     eqb-true (wordAt (m k) (itemAt Dms (m k) q)) (dmLen (f .n))
