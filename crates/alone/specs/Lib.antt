@@ -8,3 +8,4 @@ pub mod FlaandLaws
 pub mod FashareLaws
 pub mod BucketsLaws
 pub mod BeaverLaws
+pub mod Rounds
