@@ -1,5 +1,5 @@
 -- Round 22, `faand`: what is computed of the rows of PERM and TRIPLES is the formula's d and e, and the result records are the formula's.
-use mathlib.Core.Path.{_≡_, refl, ap, ap₂, _∙_}
+use mathlib.Core.Path.{_≡_, ap, ap₂, _∙_}
 use mathlib.Core.Bool.{Bool}
 use mathlib.Core.Logic.{_≢_}
 use mathlib.Core.List.{List}

@@ -1,7 +1,6 @@
 -- Round 21, `dvalue`: the permutation, the opened d values and the combined triples, read back of PERM, DS and TRIPLES.
 use mathlib.Core.Path.{_≡_, refl, sym, ap, ap₂, _∙_, subst}
 use mathlib.Core.Bool.{Bool, true}
-use mathlib.Core.Logic.{_≢_}
 use mathlib.Core.List.{List, [], _∷_, _++_, append-nil}
 use Prim.Native.Nat.{ℕ, zero, suc, _+_, _-_, _*_, _/_, _%_, _^_, _<_, _≤_}
 use native.Mathlib.Nat.{add-zero, mod-eq-of-lt, le-refl}
@@ -9,7 +8,7 @@ use native.Mathlib.Omega.{arith}
 use lib.ListN.{length, getD, take, drop, length-append}
 use Rattle.lists.specs.Over.{tab, cat, length-tab, getD-tab, length-cat, in-chunks}
 use Rattle.lists.specs.Rows.{chunk, chunk-cat, cat-ext, tab-ext}
-use Rattle.algebra.specs.Group.{bits, addb, sel, odd, num, odd-num}
+use Rattle.algebra.specs.Group.{bits, addb, odd, num, odd-num}
 use Rattle.algebra.specs.Sum.{others}
 use Rattle.block.specs.declared.Block.{Block}
 use Rattle.block.specs.Block.{bytesOf}
@@ -18,19 +17,19 @@ use Rattle.share.specs.Share.{Share, shares, recordOf}
 use Rattle.share.specs.ShareLaws.{SmallShare, small-share-op, small-share-sel, Agree, agree-op, agree-sel, agree-refl, agree-record, length-recordOf, read-here}
 use Rattle.permutation.specs.Permutation.{isPerm}
 use Rattle.permutation.specs.PermutationLaws.{perm-below}
-use Rattle.encode.specs.Encode.{encode, dvalueItem}
+use Rattle.encode.specs.Encode.{dvalueItem}
 use Rattle.plan.specs.Plan.{leaky, bucketSize}
 use Rattle.plan.specs.PlanLaws.{leaky-most, bucket-low}
 use Rattle.engine.specs.declared.Frame.{Frame}
 use Rattle.rounds.specs.Opening.{Args}
-use Rattle.rounds.specs.Haand.{x, y, leakyRows, zRows}
+use Rattle.rounds.specs.Haand.{x, y, zRows}
 use Rattle.rounds.specs.Flaand.{eRows}
 use Rattle.rounds.specs.Buckets.{Triple, two, combine, le4, word4, permBytes, entry, later, d, dvalueMsg, dTold, dOpened, ds, zShare, leakyAnd, abc, tripleRow}
 use Rattle.rounds.specs.Buckets as B
 use Rattle.rounds.specs.Beaver as Beaver
 use Rattle.alone.specs.Formula as F
 use Rattle.alone.specs.Holds.{dRows, tripleRows}
-use Rattle.alone.specs.Given.{Given, small-x, small-y}
+use Rattle.alone.specs.Given.{Given, small-x}
 use Rattle.alone.specs.Cells.{row-byte, part-in}
 use Rattle.alone.specs.FlaandLaws.{encode-ext, z-share-read, small-z}
 

@@ -3,7 +3,7 @@ use mathlib.Core.Path.{_≡_, refl, sym, ap, _∙_}
 use mathlib.Core.Bool.{Bool, true, false, cond}
 use mathlib.Core.Logic.{_≢_}
 use mathlib.Core.List.{List}
-use Prim.Native.Nat.{ℕ, _+_, _*_, _<_, _≤_}
+use Prim.Native.Nat.{ℕ, _+_, _*_, _<_}
 use native.Mathlib.Omega.{arith}
 use lib.ListN.{length, getD, take, drop}
 use Rattle.lists.specs.Sect.{length-get}
@@ -24,7 +24,7 @@ use Rattle.alone.specs.Formula as F
 use Rattle.alone.specs.Cells.{head-part, length-cells, cell}
 use Rattle.alone.specs.FlaandLaws.{encode-ext}
 
-dm-some : (n : ℕ) → 0 < dmLen n
+pub dm-some : (n : ℕ) → 0 < dmLen n
 unfolding dmLen
 dm-some n = omega arith
 

@@ -1,5 +1,5 @@
 -- Rounds 15, 17 and 19, `flaand`: what is computed of the rows of LEAKY, ZS, ES and HS is the formula's e, u, z's share and h.
-use mathlib.Core.Path.{_≡_, refl, sym, ap, ap₂, _∙_}
+use mathlib.Core.Path.{_≡_, refl, sym, ap, _∙_}
 use mathlib.Core.Bool.{Bool}
 use mathlib.Core.Logic.{_≢_}
 use mathlib.Core.List.{List, [], _++_, append-nil}
@@ -22,12 +22,12 @@ use Rattle.plan.specs.Plan.{leaky}
 use Rattle.engine.specs.declared.Frame.{Frame}
 use Rattle.rounds.specs.Area.{rows}
 use Rattle.rounds.specs.Opening.{Args}
-use Rattle.rounds.specs.Haand.{x, r, G, phi, u, leakyRows, phiAt, keyHash, uAt, zRows, zAt, macHash}
+use Rattle.rounds.specs.Haand.{x, r, G, phi, u, leakyRows, zRows}
 use Rattle.rounds.specs.Flaand.{e, flaandMsg, eTold, uTold, eRows, zKey, h, hs, commMsg, hashMsg}
 use Rattle.rounds.specs.Buckets.{zShare}
 use Rattle.alone.specs.Formula as F
 use Rattle.alone.specs.Holds.{hRows}
-use Rattle.alone.specs.Given.{Given, small-delta, small-x, small-r}
+use Rattle.alone.specs.Given.{Given, small-delta, small-r}
 use Rattle.alone.specs.Base.{chunk-rows, length-rows}
 use Rattle.alone.specs.Cells.{row-block}
 use Rattle.alone.specs.HaandLaws.{small-G, small-phi, phi-read, key-hash-read, u-read, z-read, mac-hash-read}

@@ -9,7 +9,7 @@ use lib.Dec.{eqb}
 use Rattle.lists.specs.Pick.{pick}
 use Rattle.lists.specs.Over.{cat}
 use Rattle.lists.specs.Rows.{chunk}
-use Rattle.algebra.specs.Group.{XorGroup, bits, addb, sel, odd}
+use Rattle.algebra.specs.Group.{bits, addb, sel, odd}
 use Rattle.algebra.specs.Sum.{others}
 use Rattle.block.specs.declared.Block.{Block}
 use Rattle.block.specs.Block.{blockAt, bytesOf}

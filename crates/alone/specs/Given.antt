@@ -6,7 +6,6 @@ use lib.ListN.{length}
 use Rattle.lists.specs.Bytes.{Bytes}
 use Rattle.block.specs.Block.{Small}
 use Rattle.block.specs.Trip.{small-at}
-use Rattle.share.specs.Share.{shareAt}
 use Rattle.share.specs.ShareLaws.{SmallShare, small-share-at}
 use Rattle.plan.specs.Plan.{InRange}
 use Rattle.engine.specs.declared.Frame.{Frame}

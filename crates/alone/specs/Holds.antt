@@ -1,7 +1,7 @@
 -- What the sections of the work area hold once they are filled, and since when: rows of the formula's values. The last two sections are the echoes'
 -- and stand in engine.
 use mathlib.Core.List.{List}
-use Prim.Native.Nat.{ℕ, _+_}
+use Prim.Native.Nat.{ℕ}
 use lib.ListN.{replicate}
 use lib.Dec.{leb, eqb}
 use Rattle.lists.specs.Pick.{pick}

@@ -12,11 +12,10 @@ use lib.Dec.{leb, ltb, eqb}
 use borrow.Author.Tests.{le-leb, eqb-true}
 use Rattle.lists.specs.Pick.{pick, pick-then}
 use Rattle.lists.specs.All.{allOf}
-use Rattle.lists.specs.Over.{cat, length-cat, length-tab}
+use Rattle.lists.specs.Over.{length-tab}
 use Rattle.lists.specs.Rows.{chunk, length-chunk}
 use Rattle.lists.specs.Sect.{length-get}
-use Rattle.block.specs.declared.Block.{Block}
-use Rattle.block.specs.Block.{blockAt, bytesOf, xorInplace}
+use Rattle.block.specs.Block.{blockAt, xorInplace}
 use Rattle.block.specs.Trip.{length-bytesOf}
 use Rattle.permutation.specs.Permutation.{isPerm}
 use Rattle.message.specs.declared.Kind.the-variants.{Items, Dms}
@@ -26,9 +25,9 @@ use Rattle.plan.specs.Plan.{kindOf, countDue, leaky}
 use Rattle.engine.specs.declared.Frame.{Frame}
 use Rattle.engine.specs.Step.{Loan}
 use Rattle.engine.specs.Area.{mem}
-use Rattle.engine.specs.Sheet.{Store, Known, staysTest}
+use Rattle.engine.specs.Sheet.{Known, staysTest}
 use Rattle.engine.specs.Honest.{before, due}
-use Rattle.rounds.specs.Area.{DELTA, SEED, PAIRS, MASKS, BITS, ALPHA, BETA, COMMS, JOINT, PAIR-COMMS, PAIRWISE, KEY-SUMS, SHARE-COMMS, DMS, LEAKY, ZS, ES, HS, H-COMMS, PERM, DS, TRIPLES, ROUNDS-OWN, sizes, sizeOf, at, keep, rows}
+use Rattle.rounds.specs.Area.{DELTA, SEED, PAIRS, MASKS, BITS, ALPHA, BETA, COMMS, JOINT, PAIR-COMMS, PAIRWISE, KEY-SUMS, SHARE-COMMS, DMS, LEAKY, ZS, ES, HS, H-COMMS, PERM, DS, TRIPLES, ROUNDS-OWN, sizes, sizeOf, at, keep}
 use Rattle.rounds.specs.Opening.{Args}
 use Rattle.rounds.specs.Table.{table, delta, judge, kept, held, written, lent}
 use Rattle.rounds.specs.Toss as Toss

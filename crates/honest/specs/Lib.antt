@@ -6,7 +6,6 @@ pub mod Echo
 pub mod Opening
 pub mod Supply
 pub mod Firsts
-pub mod Cells
 pub mod Fabitn
 pub mod Values
 pub mod Haand

@@ -126,11 +126,11 @@ own-frame n l b a o = subst (λ (f : Frame). Own (f .n) (f .l) (f .i) a) (sym (o
 
 module _ (n l : ℕ) (args : ℕ → Args) (strings order : List ℕ) (X : Boxes n l args) where
   -- what is ready when round 1 is due is an input
-  early : allOf ROUNDS-OWN (λ s. pick (leb (S.since n l args strings order s) 3) (ltb s 7) true) ≡ true
+  early : allOf ROUNDS-OWN (λ s. pick (leb (S.since s) 3) (ltb s 7) true) ≡ true
   unfolding allOf S.since
   early = refl
 
-  val-first : (i : ℕ) → i < n → (s : ℕ) → s < ROUNDS-OWN → leb (S.since n l args strings order s) 3 ≡ true
+  val-first : (i : ℕ) → i < n → (s : ℕ) → s < ROUNDS-OWN → leb (S.since s) 3 ≡ true
       → section (args i) s ≡ S.holds n l args strings order i s
   unfolding section S.holds
   val-first i li s ls r =
