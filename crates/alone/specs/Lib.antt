@@ -9,3 +9,4 @@ pub mod FashareLaws
 pub mod BucketsLaws
 pub mod BeaverLaws
 pub mod Rounds
+pub mod Opening
