@@ -17,9 +17,10 @@ use Rattle.message.specs.Format.{formOf}
 use Rattle.plan.specs.Plan.{dmLen}
 use Rattle.engine.specs.declared.Frame.{Frame}
 use Rattle.engine.specs.Step.{byParty}
+use Rattle.engine.specs.StepLaws.{by-clean}
 use Rattle.rounds.specs.Opening.{Args}
 use Rattle.rounds.specs.Fashare.{d0, d1, dmAt, dmFault, dmFaults, dmRows, dmRow, others1, dibiMsg}
-use Rattle.rounds.specs.DmLaws.{Dues, dm-due, dues-place, dues-in, first-clean, party-clean}
+use Rattle.rounds.specs.DmLaws.{Dues, dm-due, dues-place, dues-in, first-clean}
 use Rattle.alone.specs.Formula as F
 use Rattle.alone.specs.Cells.{head-part, length-cells, cell}
 use Rattle.alone.specs.FlaandLaws.{encode-ext}
@@ -33,7 +34,7 @@ module _ (f : Frame) (m : ℕ → List ℕ) (formed : (k : ℕ) → k < f .n →
   unfolding dmFaults
   dues k lk ne = record {
     formed-is = formed k lk ne;
-    due = λ q lq. dm-due f m q k (party-clean f (dmFault f m q) (first-clean 40 (λ q. byParty f (dmFault f m q)) clean q lq) k lk ne);
+    due = λ q lq. dm-due f m q k (by-clean f (dmFault f m q) (first-clean 40 (λ q. byParty f (dmFault f m q)) clean q lq) k lk ne);
   }
 
   -- dm q of party k

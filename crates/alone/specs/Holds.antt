@@ -12,6 +12,7 @@ use Rattle.plan.specs.Plan.{leaky}
 use Rattle.engine.specs.declared.Frame.{Frame}
 use Rattle.engine.specs.Sheet.{Store}
 use Rattle.engine.specs.Honest.{before, due}
+use Rattle.engine.specs.Alone.{Tale}
 use Rattle.rounds.specs.Area.{DELTA, SEED, PAIRS, MASKS, BITS, ALPHA, BETA, COMMS, JOINT, PAIR-COMMS, PAIRWISE, KEY-SUMS, SHARE-COMMS, DMS, LEAKY, ZS, ES, HS, H-COMMS, PERM, DS, TRIPLES, ROUNDS-OWN, SECTIONS, sizeOf}
 use Rattle.rounds.specs.Opening.{Args}
 use Rattle.rounds.specs.Toss as Toss
@@ -64,5 +65,11 @@ module _ (f : Frame) (a : Args) (strings order : List ℕ) (m : ℕ → ℕ → 
       (pick (eqb s PERM) (Buckets.permBytes f order) (pick (eqb s DS) dRows (pick (eqb s TRIPLES) tripleRows
       (replicate (sizeOf f s) 0))))))))))))))))))))))
 
-  abbrev pub store : Store
-  store = storeOf (λ i s. holds s)
+  -- all of it
+  abbrev pub tale : Tale
+  tale = record {
+    ready = λ t s. leb (since s) t;
+    val = holds;
+    sent = F.sent f a strings order m;
+    result = F.result f a strings order m;
+  }

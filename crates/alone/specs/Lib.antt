@@ -8,5 +8,7 @@ pub mod FlaandLaws
 pub mod FashareLaws
 pub mod BucketsLaws
 pub mod BeaverLaws
-pub mod Rounds
+pub mod Echo
 pub mod Opening
+pub mod Rounds
+pub mod Theorem

@@ -22,7 +22,7 @@ use Rattle.engine.specs.Honest.{due}
 use Rattle.rounds.specs.Area.{DELTA, SEED, PAIRS, MASKS, BITS, ALPHA, BETA, ROUNDS-OWN, sizes, sizeOf, workLen}
 use Rattle.rounds.specs.Opening.{Args, listsDue, buffersDue, bytesFault, reason, section, area, spec}
 use Rattle.rounds.specs.Toss as Toss
-use Rattle.alone.specs.Holds.{since, storeOf, holds, store}
+use Rattle.alone.specs.Holds.{since, storeOf, holds}
 use Rattle.alone.specs.Given.{Given}
 
 -- ---- what is accepted
@@ -202,7 +202,7 @@ module _ (a : Args) (z : reason a ≡ 0) (strings order : List ℕ) (m : ℕ →
   }
 
   -- the inputs are in their sections
-  pub opened : Known (a .party .n) (a .party .l) (store (a .party) a strings order m) (due 1) (a .party .i) (area a)
+  pub opened : Known (a .party .n) (a .party .l) (storeOf (λ i s. holds (a .party) a strings order m s)) (due 1) (a .party .i) (area a)
   unfolding section holds
   opened =
       known-opened (a .party) (λ i s. holds (a .party) a strings order m s) a refl (taken a z .lens)

@@ -1,6 +1,5 @@
 -- What each plain round does to the work area of one box, whoever it talks to: receiving it and making its messages fill the sections that Holds.antt
--- names, and what is written is the formula's. `lent-k`, `formed-k`, `judged-k`: what is lent for round k, its messages' form and their content have no
--- fault.
+-- names, and what is written is the formula's.
 use mathlib.Core.Path.{_≡_, refl, ap, ap₂, _∙_}
 use mathlib.Core.Bool.{Bool, true, _&&_}
 use mathlib.Core.Logic.{_≢_}
@@ -25,8 +24,11 @@ use Rattle.plan.specs.Plan.{kindOf, countDue, leaky}
 use Rattle.engine.specs.declared.Frame.{Frame}
 use Rattle.engine.specs.Step.{Loan}
 use Rattle.engine.specs.Area.{mem}
-use Rattle.engine.specs.Sheet.{Known, staysTest}
-use Rattle.engine.specs.Honest.{before, due}
+use Rattle.engine.specs.Sheet.{staysTest}
+use Rattle.engine.specs.Plain.{isEcho}
+use Rattle.engine.specs.Honest.{before, due, plainAfter}
+use Rattle.engine.specs.Alone.{Tale}
+use Rattle.engine.specs.Alone as Alone
 use Rattle.rounds.specs.Area.{DELTA, SEED, PAIRS, MASKS, BITS, ALPHA, BETA, COMMS, JOINT, PAIR-COMMS, PAIRWISE, KEY-SUMS, SHARE-COMMS, DMS, LEAKY, ZS, ES, HS, H-COMMS, PERM, DS, TRIPLES, ROUNDS-OWN, sizes, sizeOf, at, keep}
 use Rattle.rounds.specs.Opening.{Args}
 use Rattle.rounds.specs.Table.{table, delta, judge, kept, held, written, lent}
@@ -38,7 +40,7 @@ use Rattle.rounds.specs.Flaand as Flaand
 use Rattle.rounds.specs.Buckets as Buckets
 use Rattle.rounds.specs.Beaver as Beaver
 use Rattle.alone.specs.Formula as F
-use Rattle.alone.specs.Holds.{since, hRows, dRows, tripleRows, holds, store}
+use Rattle.alone.specs.Holds.{since, storeOf, hRows, dRows, tripleRows, holds, tale}
 use Rattle.alone.specs.Given.{Given}
 use Rattle.alone.specs.Base.{length-rows, has-at, Fit, keep-none, keep-one, keep-two}
 use Rattle.alone.specs.Cells.{length-cells}
@@ -59,29 +61,36 @@ module _ (f : Frame) (a : Args) (q : ℕ → Loan) (m : ℕ → ℕ → List ℕ
   abbrev order : List ℕ
   order = q 21 .perm
 
-  -- the work area at a moment
-  abbrev pub At : ℕ → List ℕ → Type 0
-  At t w = Known (f .n) (f .l) (store f a strings order m) t (f .i) w
+  -- what the rounds owe (engine, Alone.antt)
+  abbrev U : Tale
+  U = tale f a strings order m
 
-  -- what is lent, and what was received, has no fault
-  abbrev pub Lent : ℕ → Type 0
-  Lent k = table .send k .lent (f .n) (f .l) (q k) ≡ 0
+  abbrev At : ℕ → List ℕ → Type 0
+  At t w = Alone.At table (f .n) (f .l) (f .i) U m q t w
 
-  abbrev pub Formed : ℕ → Type 0
-  Formed k = (j : ℕ) → j < f .n → f .i ≢ j → table .recv k .form f (m k j) ≡ 0
+  abbrev LentFor : ℕ → Type 0
+  LentFor k = Alone.LentFor table (f .n) (f .l) (f .i) U m q k
 
-  abbrev pub Judged : ℕ → List ℕ → Type 0
-  Judged k w = table .recv k .judge f w (m k) .code ≡ 0
+  abbrev Formed : ℕ → Type 0
+  Formed k = Alone.Formed table (f .n) (f .l) (f .i) U m q k
 
-  -- what is kept of what is received, and when messages are made; what is written to party j
-  abbrev recv : ℕ → List ℕ → List ℕ
-  recv k w = table .recv k .keep f w (m k)
+  abbrev Judged : ℕ → List ℕ → Type 0
+  Judged k w = Alone.Judged table (f .n) (f .l) (f .i) U m q k w
 
-  abbrev made : ℕ → List ℕ → List ℕ
-  made k w = table .send k .keep f (q k) w
+  abbrev Passed : ℕ → Type 0
+  Passed k = Alone.Passed table (f .n) (f .l) (f .i) U m q k
 
-  abbrev Writes : ℕ → List ℕ → Type 0
-  Writes k w = (j : ℕ) → j < f .n → f .i ≢ j → table .send k .write f (q k) w j ≡ F.sent f a strings order m k j
+  abbrev Past : ℕ → Type 0
+  Past k = Alone.Past table (f .n) (f .l) (f .i) U m q k
+
+  abbrev RecvAt : ℕ → Type 0
+  RecvAt k = Alone.RecvAt table (f .n) (f .l) (f .i) U m q k
+
+  abbrev SendAt : ℕ → Type 0
+  SendAt k = Alone.SendAt table (f .n) (f .l) (f .i) U m q k
+
+  abbrev LastAt : ℕ → Type 0
+  LastAt k = Alone.LastAt table (f .n) (f .l) (f .i) U m q k
 
   abbrev vals : ℕ → ℕ → List ℕ
   vals i s = holds f a strings order m s
@@ -157,10 +166,10 @@ module _ (f : Frame) (a : Args) (q : ℕ → Loan) (m : ℕ → ℕ → List ℕ
     triples-at r = has TRIPLES K refl r
 
   -- from moment t to moment u nothing is filled, or section s
-  stays : (t u : ℕ) {w : List ℕ} → At t w → staysTest (store f a strings order m) t u [] ≡ true → At u w
+  stays : (t u : ℕ) {w : List ℕ} → At t w → staysTest (storeOf vals) t u [] ≡ true → At u w
   stays t u K test = keep-none (f .n) (f .l) vals t u (f .i) (I .own) K test
 
-  fill : (t u s : ℕ) {x w : List ℕ} → At t w → staysTest (store f a strings order m) t u (s ∷ []) ≡ true → fits s → x ≡ holds f a strings order m s
+  fill : (t u s : ℕ) {x w : List ℕ} → At t w → staysTest (storeOf vals) t u (s ∷ []) ≡ true → fits s → x ≡ holds f a strings order m s
       → At u (keep f s x w)
   fill t u s {x} K test fit e = keep-one (f .n) (f .l) vals t u (f .i) (I .own) K s x test fit e
 
@@ -189,66 +198,58 @@ module _ (f : Frame) (a : Args) (q : ℕ → Loan) (m : ℕ → ℕ → List ℕ
         length-tab (length (chunk 32 k (a .pairs))) _ ∙ length-chunk 32 (f .n) k (a .pairs) lk (omega (arith, I .pairs-len))),
   )
 
-  pub writes-1 : (w : List ℕ) → At (due 1) w → Writes 1 w
-  unfolding written F.sent F.sent1
-  writes-1 w K j lj ne = ap (λ (s : List ℕ). Toss.commMsg s (f .i)) (seed-at K)
+  pub recv-1 : RecvAt 1
+  unfolding plainAfter isEcho staysTest allOf mem since holds kept
+  recv-1 past p = fill (due 1) (before 3) COMMS (p .known) refl (fit-comms (p .formed)) refl
 
-  pub recv-1 : Formed 1 → (w : List ℕ) → At (due 1) w → At (before 3) (recv 1 w)
-  unfolding staysTest allOf mem since holds kept
-  recv-1 formed w K = fill (due 1) (before 3) COMMS K refl (fit-comms formed) refl
+  pub send-3 : SendAt 3
+  unfolding staysTest allOf mem since held written F.sent F.sent3
+  send-3 = record {
+    keeps = λ past z w K. stays (before 3) (due 3) K refl;
+    writes = λ past z w K j lj ne. ap Toss.verMsg (seed-at K);
+  }
 
-  pub made-3 : (w : List ℕ) → At (before 3) w → At (due 3) (made 3 w)
-  unfolding staysTest allOf mem since held
-  made-3 w K = stays (before 3) (due 3) K refl
+  pub recv-3 : RecvAt 3
+  unfolding plainAfter isEcho staysTest allOf mem since holds kept F.jointSeed
+  recv-3 past p = fill (due 3) (before 4) JOINT (p .known) refl fit-joint (ap (λ (s : List ℕ). Toss.jointSeed f s (m 3)) (seed-at (p .known)))
 
-  pub writes-3 : (w : List ℕ) → At (due 3) w → Writes 3 w
-  unfolding written F.sent F.sent3
-  writes-3 w K j lj ne = ap Toss.verMsg (seed-at K)
+  pub send-4 : SendAt 4
+  unfolding staysTest allOf mem since held written F.sent F.sent4 F.pairSeed
+  send-4 = record {
+    keeps = λ past z w K. stays (before 4) (due 4) K refl;
+    writes = λ past z w K j lj ne. ap (λ (s : List ℕ). Toss.commMsg (chunk 32 j s) (f .i)) (pairs-at K);
+  }
 
-  pub recv-3 : (w : List ℕ) → At (due 3) w → At (before 4) (recv 3 w)
-  unfolding staysTest allOf mem since holds kept F.jointSeed
-  recv-3 w K = fill (due 3) (before 4) JOINT K refl fit-joint (ap (λ (s : List ℕ). Toss.jointSeed f s (m 3)) (seed-at K))
+  pub recv-4 : RecvAt 4
+  unfolding plainAfter isEcho staysTest allOf mem since holds kept
+  recv-4 past p = fill (due 4) (before 5) PAIR-COMMS (p .known) refl (fit-pair-comms (p .formed)) refl
 
-  pub made-4 : (w : List ℕ) → At (before 4) w → At (due 4) (made 4 w)
-  unfolding staysTest allOf mem since held
-  made-4 w K = stays (before 4) (due 4) K refl
+  pub send-5 : SendAt 5
+  unfolding staysTest allOf mem since held written F.sent F.sent5 F.pairSeed
+  send-5 = record {
+    keeps = λ past z w K. stays (before 5) (due 5) K refl;
+    writes = λ past z w K j lj ne. ap (λ (s : List ℕ). Toss.verMsg (chunk 32 j s)) (pairs-at K);
+  }
 
-  pub writes-4 : (w : List ℕ) → At (due 4) w → Writes 4 w
-  unfolding written F.sent F.sent4 F.pairSeed
-  writes-4 w K j lj ne = ap (λ (s : List ℕ). Toss.commMsg (chunk 32 j s) (f .i)) (pairs-at K)
-
-  pub recv-4 : Formed 4 → (w : List ℕ) → At (due 4) w → At (before 5) (recv 4 w)
-  unfolding staysTest allOf mem since holds kept
-  recv-4 formed w K = fill (due 4) (before 5) PAIR-COMMS K refl (fit-pair-comms formed) refl
-
-  pub made-5 : (w : List ℕ) → At (before 5) w → At (due 5) (made 5 w)
-  unfolding staysTest allOf mem since held
-  made-5 w K = stays (before 5) (due 5) K refl
-
-  pub writes-5 : (w : List ℕ) → At (due 5) w → Writes 5 w
-  unfolding written F.sent F.sent5 F.pairSeed
-  writes-5 w K j lj ne = ap (λ (s : List ℕ). Toss.verMsg (chunk 32 j s)) (pairs-at K)
-
-  pub recv-5 : (w : List ℕ) → At (due 5) w → At (before 6) (recv 5 w)
-  unfolding staysTest allOf mem since holds kept F.pairwiseSeeds
-  recv-5 w K = fill (due 5) (before 6) PAIRWISE K refl fit-pairwise (ap (λ (s : List ℕ). Toss.pairwiseSeeds f s (m 5)) (pairs-at K))
+  pub recv-5 : RecvAt 5
+  unfolding plainAfter isEcho staysTest allOf mem since holds kept F.pairwiseSeeds
+  recv-5 past p = fill (due 5) (before 6) PAIRWISE (p .known) refl fit-pairwise (ap (λ (s : List ℕ). Toss.pairwiseSeeds f s (m 5)) (pairs-at (p .known)))
 
   -- ---- `fabitn`: round 6
   fit-key-sums : fits KEY-SUMS
   unfolding holds sizeOf sizes Fabitn.keySums
   fit-key-sums = (omega arith, λ i li. length-cells f 120 16 _ (λ k j lk ne lj. length-bytesOf _))
 
-  pub made-6 : (w : List ℕ) → At (before 6) w → At (due 6) (made 6 w)
-  unfolding staysTest allOf mem since holds held
-  made-6 w K = fill (before 6) (due 6) KEY-SUMS K refl fit-key-sums (ap (Fabitn.keySums f strings) (bits-at K))
+  pub send-6 : SendAt 6
+  unfolding staysTest allOf mem since holds held written F.sent F.sent6
+  send-6 = record {
+    keeps = λ past z w K. fill (before 6) (due 6) KEY-SUMS K refl fit-key-sums (ap (Fabitn.keySums f strings) (bits-at K));
+    writes = λ past z w K j lj ne. ap (λ (s : List ℕ). Fabitn.abitMsg f strings s j) (bits-at K);
+  }
 
-  pub writes-6 : (w : List ℕ) → At (due 6) w → Writes 6 w
-  unfolding written F.sent F.sent6
-  writes-6 w K j lj ne = ap (λ (s : List ℕ). Fabitn.abitMsg f strings s j) (bits-at K)
-
-  pub recv-6 : (w : List ℕ) → At (due 6) w → At (before 8) (recv 6 w)
-  unfolding staysTest allOf mem since kept
-  recv-6 w K = stays (due 6) (before 8) K refl
+  pub recv-6 : RecvAt 6
+  unfolding plainAfter isEcho staysTest allOf mem since kept
+  recv-6 past p = stays (due 6) (before 8) (p .known) refl
 
   -- ---- `fashare`: rounds 8, 10, 12
   fit-share-comms : Formed 8 → fits SHARE-COMMS
@@ -267,46 +268,50 @@ module _ (f : Frame) (a : Args) (q : ℕ → Loan) (m : ℕ → ℕ → List ℕ
   unfolding judge
   clean-10 w judged = judged
 
+  -- round 10, once round 12's messages are made
+  tenth : Past 12 → Passed 10
+  unfolding isEcho mem
+  tenth past = past 10 (omega arith) (omega arith) refl
+
   fit-dms : Formed 10 → (w : List ℕ) → Judged 10 w → fits DMS
   unfolding holds sizeOf sizes
   fit-dms formed w judged = (omega arith, λ i li. length-dms f (m 10) (formed-10 formed) (clean-10 w judged))
 
-  pub made-8 : (w : List ℕ) → At (before 8) w → At (due 8) (made 8 w)
-  unfolding staysTest allOf mem since held
-  made-8 w K = stays (before 8) (due 8) K refl
+  pub send-8 : SendAt 8
+  unfolding staysTest allOf mem since held written F.sent F.sent8
+  send-8 = record {
+    keeps = λ past z w K. stays (before 8) (due 8) K refl;
+    writes = λ past z w K j lj ne. ap₂ (Fashare.commMsg f) (delta-is K) (bits-at K);
+  }
 
-  pub writes-8 : (w : List ℕ) → At (due 8) w → Writes 8 w
-  unfolding written F.sent F.sent8
-  writes-8 w K j lj ne = ap₂ (Fashare.commMsg f) (delta-is K) (bits-at K)
+  pub recv-8 : RecvAt 8
+  unfolding plainAfter isEcho staysTest allOf mem since holds kept
+  recv-8 past p = fill (due 8) (before 10) SHARE-COMMS (p .known) refl (fit-share-comms (p .formed)) refl
 
-  pub recv-8 : Formed 8 → (w : List ℕ) → At (due 8) w → At (before 10) (recv 8 w)
-  unfolding staysTest allOf mem since holds kept
-  recv-8 formed w K = fill (due 8) (before 10) SHARE-COMMS K refl (fit-share-comms formed) refl
+  pub send-10 : SendAt 10
+  unfolding staysTest allOf mem since held written F.sent F.sent10
+  send-10 = record {
+    keeps = λ past z w K. stays (before 10) (due 10) K refl;
+    writes = λ past z w K j lj ne. ap (Fashare.verMsg f) (bits-at K);
+  }
 
-  pub made-10 : (w : List ℕ) → At (before 10) w → At (due 10) (made 10 w)
-  unfolding staysTest allOf mem since held
-  made-10 w K = stays (before 10) (due 10) K refl
+  pub recv-10 : RecvAt 10
+  unfolding plainAfter isEcho staysTest allOf mem since holds kept
+  recv-10 past p = fill (due 10) (before 12) DMS (p .known) refl (fit-dms (p .formed) (p .work) (p .judged)) refl
 
-  pub writes-10 : (w : List ℕ) → At (due 10) w → Writes 10 w
-  unfolding written F.sent F.sent10
-  writes-10 w K j lj ne = ap (Fashare.verMsg f) (bits-at K)
+  pub send-12 : SendAt 12
+  unfolding staysTest allOf mem since held written F.sent
+  send-12 = record {
+    keeps = λ past z w K. stays (before 12) (due 12) K refl;
+    writes = λ past z w K j lj ne.
+        let p : Passed 10 = tenth past in
+        (λ e. Fashare.dibiMsg f (delta-is K e) (bits-at K e) (dms-at K refl e))
+        ∙ msg-12 f a strings order m (formed-10 (p .formed)) (clean-10 (p .work) (p .judged));
+  }
 
-  pub recv-10 : Formed 10 → (w : List ℕ) → Judged 10 w → At (due 10) w → At (before 12) (recv 10 w)
-  unfolding staysTest allOf mem since holds kept
-  recv-10 formed w judged K = fill (due 10) (before 12) DMS K refl (fit-dms formed w judged) refl
-
-  pub made-12 : (w : List ℕ) → At (before 12) w → At (due 12) (made 12 w)
-  unfolding staysTest allOf mem since held
-  made-12 w K = stays (before 12) (due 12) K refl
-
-  pub writes-12 : Formed 10 → (v : List ℕ) → Judged 10 v → (w : List ℕ) → At (due 12) w → Writes 12 w
-  unfolding written F.sent
-  writes-12 formed v judged w K j lj ne =
-      (λ e. Fashare.dibiMsg f (delta-is K e) (bits-at K e) (dms-at K refl e)) ∙ msg-12 f a strings order m (formed-10 formed) (clean-10 v judged)
-
-  pub recv-12 : (w : List ℕ) → At (due 12) w → At (before 14) (recv 12 w)
-  unfolding staysTest allOf mem since kept
-  recv-12 w K = stays (due 12) (before 14) K refl
+  pub recv-12 : RecvAt 12
+  unfolding plainAfter isEcho staysTest allOf mem since kept
+  recv-12 past p = stays (due 12) (before 14) (p .known) refl
 
   -- ---- `fhaand`: round 14
   fit-leaky : fits LEAKY
@@ -317,17 +322,16 @@ module _ (f : Frame) (a : Args) (q : ℕ → Loan) (m : ℕ → ℕ → List ℕ
   unfolding holds sizeOf sizes
   fit-zs = (omega arith, λ i li. length-zRows f (a .masks) (a .bits) (m 14))
 
-  pub made-14 : (w : List ℕ) → At (before 14) w → At (due 14) (made 14 w)
-  unfolding staysTest allOf mem since holds held
-  made-14 w K = fill (before 14) (due 14) LEAKY K refl fit-leaky (ap₂ (Haand.leakyRows f) (delta-is K) (bits-at K))
+  pub send-14 : SendAt 14
+  unfolding staysTest allOf mem since holds held written F.sent F.sent14
+  send-14 = record {
+    keeps = λ past z w K. fill (before 14) (due 14) LEAKY K refl fit-leaky (ap₂ (Haand.leakyRows f) (delta-is K) (bits-at K));
+    writes = λ past z w K j lj ne. (λ e. Haand.haandMsg f (delta-is K e) (masks-at K e) (bits-at K e) j);
+  }
 
-  pub writes-14 : (w : List ℕ) → At (due 14) w → Writes 14 w
-  unfolding written F.sent F.sent14
-  writes-14 w K j lj ne = (λ e. Haand.haandMsg f (delta-is K e) (masks-at K e) (bits-at K e) j)
-
-  pub recv-14 : (w : List ℕ) → At (due 14) w → At (before 15) (recv 14 w)
-  unfolding staysTest allOf mem since holds kept
-  recv-14 w K = fill (due 14) (before 15) ZS K refl fit-zs (ap₂ (λ (s t : List ℕ). Haand.zRows f s t (m 14)) (masks-at K) (bits-at K))
+  pub recv-14 : RecvAt 14
+  unfolding plainAfter isEcho staysTest allOf mem since holds kept
+  recv-14 past p = fill (due 14) (before 15) ZS (p .known) refl fit-zs (ap₂ (λ (s t : List ℕ). Haand.zRows f s t (m 14)) (masks-at (p .known)) (bits-at (p .known)))
 
   -- ---- `flaand`: rounds 15, 17, 19
   fit-es : fits ES
@@ -346,46 +350,44 @@ module _ (f : Frame) (a : Args) (q : ℕ → Loan) (m : ℕ → ℕ → List ℕ
         (λ k lk ne. row-long (leaky (f .l)) 32 (m 17 k) (fixed 32 0 (leaky (f .l)) (m 17 k) (formed k lk ne) .fits)),
   )
 
-  pub made-15 : (w : List ℕ) → At (before 15) w → At (due 15) (made 15 w)
-  unfolding staysTest allOf mem since held
-  made-15 w K = stays (before 15) (due 15) K refl
+  pub send-15 : SendAt 15
+  unfolding staysTest allOf mem since held written F.sent
+  send-15 = record {
+    keeps = λ past z w K. stays (before 15) (due 15) K refl;
+    writes = λ past z w K j lj ne. (λ e. Flaand.flaandMsg f (bits-at K e) (leaky-at K refl e) (zs-at K refl e) j) ∙ msg-15 f a strings order m I j lj ne;
+  }
 
-  pub writes-15 : (w : List ℕ) → At (due 15) w → Writes 15 w
-  unfolding written F.sent
-  writes-15 w K j lj ne = (λ e. Flaand.flaandMsg f (bits-at K e) (leaky-at K refl e) (zs-at K refl e) j) ∙ msg-15 f a strings order m I j lj ne
-
-  pub recv-15 : (w : List ℕ) → At (due 15) w → At (before 17) (recv 15 w)
-  unfolding staysTest allOf mem since holds kept
-  recv-15 w K =
+  pub recv-15 : RecvAt 15
+  unfolding plainAfter isEcho staysTest allOf mem since holds kept
+  recv-15 past p =
+      let K = p .known in
       keep-two (f .n) (f .l) vals (due 15) (before 17) (f .i) (I .own) K HS ES _ _ refl fit-hs fit-es
       ((λ e. Flaand.hs f (delta-is K e) (bits-at K e) (leaky-at K refl e) (zs-at K refl e) (m 15)) ∙ hs-read f a strings order m I) refl
 
-  pub made-17 : (w : List ℕ) → At (before 17) w → At (due 17) (made 17 w)
-  unfolding staysTest allOf mem since held
-  made-17 w K = stays (before 17) (due 17) K refl
+  pub send-17 : SendAt 17
+  unfolding staysTest allOf mem since held written F.sent
+  send-17 = record {
+    keeps = λ past z w K. stays (before 17) (due 17) K refl;
+    writes = λ past z w K j lj ne. ap (Flaand.commMsg f) (hs-at K refl) ∙ msg-17 f a strings order m I;
+  }
 
-  pub writes-17 : (w : List ℕ) → At (due 17) w → Writes 17 w
-  unfolding written F.sent
-  writes-17 w K j lj ne = ap (Flaand.commMsg f) (hs-at K refl) ∙ msg-17 f a strings order m I
+  pub recv-17 : RecvAt 17
+  unfolding plainAfter isEcho staysTest allOf mem since holds kept
+  recv-17 past p = fill (due 17) (before 19) H-COMMS (p .known) refl (fit-h-comms (p .formed)) refl
 
-  pub recv-17 : Formed 17 → (w : List ℕ) → At (due 17) w → At (before 19) (recv 17 w)
-  unfolding staysTest allOf mem since holds kept
-  recv-17 formed w K = fill (due 17) (before 19) H-COMMS K refl (fit-h-comms formed) refl
+  pub send-19 : SendAt 19
+  unfolding staysTest allOf mem since held written F.sent
+  send-19 = record {
+    keeps = λ past z w K. stays (before 19) (due 19) K refl;
+    writes = λ past z w K j lj ne. ap (Flaand.hashMsg f) (hs-at K refl) ∙ msg-19 f a strings order m I;
+  }
 
-  pub made-19 : (w : List ℕ) → At (before 19) w → At (due 19) (made 19 w)
-  unfolding staysTest allOf mem since held
-  made-19 w K = stays (before 19) (due 19) K refl
-
-  pub writes-19 : (w : List ℕ) → At (due 19) w → Writes 19 w
-  unfolding written F.sent
-  writes-19 w K j lj ne = ap (Flaand.hashMsg f) (hs-at K refl) ∙ msg-19 f a strings order m I
-
-  pub recv-19 : (w : List ℕ) → At (due 19) w → At (before 21) (recv 19 w)
-  unfolding staysTest allOf mem since kept
-  recv-19 w K = stays (due 19) (before 21) K refl
+  pub recv-19 : RecvAt 19
+  unfolding plainAfter isEcho staysTest allOf mem since kept
+  recv-19 past p = stays (due 19) (before 21) (p .known) refl
 
   -- ---- buckets: round 21
-  ordered : Lent 21 → Ordered (f .l) order
+  ordered : LentFor 21 → Ordered (f .l) order
   unfolding lent
   ordered z =
       let none : Bool = eqb (length (q 21 .r)) 0 in
@@ -401,7 +403,7 @@ module _ (f : Frame) (a : Args) (q : ℕ → Loan) (m : ℕ → ℕ → List ℕ
   unfolding holds sizeOf sizes
   fit-perm = (omega arith, λ i li. length-perm f order)
 
-  fit-ds : Lent 21 → fits DS
+  fit-ds : LentFor 21 → fits DS
   unfolding holds sizeOf sizes
   fit-ds z = (omega arith, λ i li. length-ds f a strings order m I (ordered z))
 
@@ -409,36 +411,40 @@ module _ (f : Frame) (a : Args) (q : ℕ → Loan) (m : ℕ → ℕ → List ℕ
   unfolding holds sizeOf sizes tripleRows
   fit-triples = (omega arith, λ i li. length-triples f (F.abc f a strings order m))
 
-  pub made-21 : (w : List ℕ) → At (before 21) w → At (due 21) (made 21 w)
-  unfolding staysTest allOf mem since holds held
-  made-21 w K = fill (before 21) (due 21) PERM K refl fit-perm refl
+  pub send-21 : SendAt 21
+  unfolding staysTest allOf mem since holds held written F.sent
+  send-21 = record {
+    keeps = λ past z w K. fill (before 21) (due 21) PERM K refl fit-perm refl;
+    writes = λ past z w K j lj ne.
+        ap₂ (λ (s t : List ℕ). Buckets.dvalueMsg f s t j) (bits-at K) (perm-at K refl) ∙ msg-21 f a strings order m I (ordered z) j;
+  }
 
-  pub writes-21 : Lent 21 → (w : List ℕ) → At (due 21) w → Writes 21 w
-  unfolding written F.sent
-  writes-21 z w K j lj ne =
-      ap₂ (λ (s t : List ℕ). Buckets.dvalueMsg f s t j) (bits-at K) (perm-at K refl) ∙ msg-21 f a strings order m I (ordered z) j
-
-  pub recv-21 : Lent 21 → (w : List ℕ) → At (due 21) w → At (before 22) (recv 21 w)
-  unfolding staysTest allOf mem since holds kept
-  recv-21 z w K =
+  pub recv-21 : RecvAt 21
+  unfolding plainAfter isEcho staysTest allOf mem since holds kept
+  recv-21 past p =
+      let K = p .known in
+      let z : LentFor 21 = p .lent (omega arith) in
       fill (due 21) (before 22) DS K refl (fit-ds z)
       (ap₂ (λ (s t : List ℕ). Buckets.ds f s t (m 21)) (bits-at K) (perm-at K refl) ∙ ds-is f a strings order m I (ordered z))
 
   -- ---- `beaver_aand`: round 22
-  pub made-22 : Lent 21 → (w : List ℕ) → At (before 22) w → At (due 22) (made 22 w)
-  unfolding staysTest allOf mem since holds held
-  made-22 z w K =
-      fill (before 22) (due 22) TRIPLES K refl fit-triples
-      ((λ e. Buckets.tripleRows f (delta-is K e) (bits-at K e) (zs-at K refl e) (es-at K refl e) (perm-at K refl e) (ds-at K refl e))
-      ∙ triples-are f a strings order m I (ordered z))
+  lent-21 : Past 22 → LentFor 21
+  unfolding isEcho mem
+  lent-21 past = past 21 (omega arith) (omega arith) refl .lent (omega arith)
 
-  pub writes-22 : Lent 21 → (w : List ℕ) → At (due 22) w → Writes 22 w
-  unfolding written F.sent
-  writes-22 z w K j lj ne =
-      (λ e. Beaver.faandMsg f (bits-at K e) (perm-at K refl e) (triples-at K refl e) (alpha-at K e) (beta-at K e) j)
-      ∙ msg-22 f a strings order m I (ordered z) j lj ne
+  pub send-22 : SendAt 22
+  unfolding staysTest allOf mem since holds held written F.sent
+  send-22 = record {
+    keeps = λ past z w K. fill (before 22) (due 22) TRIPLES K refl fit-triples
+        ((λ e. Buckets.tripleRows f (delta-is K e) (bits-at K e) (zs-at K refl e) (es-at K refl e) (perm-at K refl e) (ds-at K refl e))
+        ∙ triples-are f a strings order m I (ordered (lent-21 past)));
+    writes = λ past z w K j lj ne.
+        (λ e. Beaver.faandMsg f (bits-at K e) (perm-at K refl e) (triples-at K refl e) (alpha-at K e) (beta-at K e) j)
+        ∙ msg-22 f a strings order m I (ordered (lent-21 past)) j lj ne;
+  }
 
-  pub results-22 : Lent 21 → (w : List ℕ) → At (due 22) w → table .result f w (m 22) ≡ F.result f a strings order m
-  results-22 z w K =
+  pub last-22 : LastAt 22
+  last-22 past p =
+      let K = p .known in
       (λ e. Beaver.results f (bits-at K e) (perm-at K refl e) (triples-at K refl e) (alpha-at K e) (beta-at K e) (m 22))
-      ∙ results-are f a strings order m I (ordered z)
+      ∙ results-are f a strings order m I (ordered (lent-21 past))

@@ -16,13 +16,11 @@ use mathlib.Core.List.{List, [], _∷_}
 use Prim.Native.Nat.{ℕ, zero, suc, _^_, _<_}
 use native.Mathlib.Nat.{le-refl}
 use native.Mathlib.Omega.{arith}
-use lib.ListN.{length, length-take}
+use lib.ListN.{length}
 use lib.Dec.{leb}
 use borrow.Author.Tests.{le-leb}
 use Rattle.lists.specs.Pick.{pick}
 use Rattle.block.specs.Block.{blockAt}
-use Rattle.blake3.specs.Tree.{digest, hash}
-use Rattle.blake3.specs.ByteLaws.{length-bytes}
 use Rattle.message.specs.declared.Kind.{Kind}
 use Rattle.message.specs.declared.Kind.the-variants.{Items}
 use Rattle.message.specs.Format.{formOf}
@@ -36,7 +34,6 @@ use Rattle.engine.specs.StepLaws.{other-cases, or-none}
 use Rattle.engine.specs.Sheet.{Store, Known, staysTest}
 use Rattle.engine.specs.Honest.{before, due, storeOf}
 use Rattle.rounds.specs.Area.{DELTA, SEED, PAIRS, MASKS, BITS, ALPHA, BETA, COMMS, JOINT, PAIR-COMMS, PAIRWISE, KEY-SUMS, SHARE-COMMS, DMS, LEAKY, ZS, ES, HS, H-COMMS, PERM, DS, TRIPLES, at, keep, firstOf}
-use Rattle.rounds.specs.Echo.{hashVec}
 use Rattle.rounds.specs.Opening.{Args}
 use Rattle.rounds.specs.Table.{table, delta}
 use Rattle.alone.specs.Base.{has-at}
@@ -64,16 +61,6 @@ unfolding firstOf
 first-none zero g e = refl
 first-none (suc c) g e =
     ap (λ (x : Fault). x .code) (or-none (firstOf c g) (g c) (first-none c g (λ j l. e j (omega arith)))) ∙ e c (le-refl (suc c))
-
--- ---- hashes
-pub length-hash : (s : List ℕ) → length (hash s) ≡ 32
-unfolding hash
-length-hash s = length-bytes (digest s)
-
--- what an echo carries of a list
-pub length-hashVec : (l k : ℕ) (m : List ℕ) → length (hashVec l k m) ≡ 16
-unfolding hashVec
-length-hashVec l k m = length-take 16 (hash _) ∙ rw (length-hash _) refl
 
 -- ---- a message that is a list
 pub list-form : (K : Kind) (c : ℕ) (g : ℕ → List ℕ) → c < 2 ^ 64 → ((t : ℕ) → t < c → Coded K (g t)) → formOf K c (encode c g) ≡ 0

@@ -31,9 +31,10 @@ use Rattle.rounds.specs.Area.{KEY-SUMS, sizes, sizeOf}
 use Rattle.rounds.specs.Opening.{Args}
 use Rattle.rounds.specs.Table.{table, judge, kept, held, written}
 use Rattle.rounds.specs.Fabitn.{picks, bitSum, macSum, keySum, abitMsg, keySums, abitFault, abits}
+use Rattle.alone.specs.Echo.{length-hashVec}
 use Rattle.honest.specs.Script as S
 use Rattle.honest.specs.Inputs.{Boxes, deltas, bitsOf}
-use Rattle.honest.specs.Base.{first-none, length-hashVec, list-len, Fit, delta-is, bits-at, key-sums-at, keep-none, keep-one}
+use Rattle.honest.specs.Base.{first-none, list-len, Fit, delta-is, bits-at, key-sums-at, keep-none, keep-one}
 use Rattle.alone.specs.Cells.{length-cells, cell}
 use Rattle.honest.specs.Firsts.{pairs-trip, bit-read, block-read, hash-bits}
 

@@ -48,9 +48,11 @@ use Rattle.rounds.specs.Table.{table, judge, kept, held, written}
 use Rattle.rounds.specs.Fashare.{own, d0, d1, dm, dmMac, commMsg, commRows, verMsg, dmAt, dmFault, dmFaults, dmRows, dmRow, others1, dibiMsg, macsFor, dibiFault, dibiFaults}
 use Rattle.alone.specs.Base.{rows-ext}
 use Rattle.alone.specs.FashareLaws.{dm-some}
+use Rattle.rounds.specs.FashareLaws.{length-hash}
+use Rattle.alone.specs.Echo.{length-hashVec}
 use Rattle.honest.specs.Script as S
 use Rattle.honest.specs.Inputs.{Boxes, deltas, bitsOf}
-use Rattle.honest.specs.Base.{first-none, length-hash, length-hashVec, list-form, list-len, Fit, delta-is, bits-at, share-comms-at, dms-at, keep-none, keep-one}
+use Rattle.honest.specs.Base.{first-none, list-form, list-len, Fit, delta-is, bits-at, share-comms-at, dms-at, keep-none, keep-one}
 use Rattle.alone.specs.Cells.{head-part, items-row, length-cells, cell}
 
 -- ---- the commitments

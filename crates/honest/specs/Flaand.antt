@@ -42,9 +42,11 @@ use Rattle.rounds.specs.Flaand.{e, flaandMsg, eTold, uTold, eRows, zKey, h, hs,
 use Rattle.alone.specs.Base.{rows-ext}
 use Rattle.alone.specs.HaandLaws.{small-G, small-phi, small-u, phi-read, key-hash-read, u-read, mac-hash-read}
 use Rattle.alone.specs.FlaandLaws.{h-alg, block-row, length-es, e-read}
+use Rattle.rounds.specs.FashareLaws.{length-hash}
+use Rattle.alone.specs.Echo.{length-hashVec}
 use Rattle.honest.specs.Script as S
 use Rattle.honest.specs.Inputs.{Boxes, deltas, small-delta}
-use Rattle.honest.specs.Base.{length-hash, length-hashVec, list-form, list-len, Fit, delta-is, bits-at, leaky-at, zs-at, hs-at, h-comms-at, keep-none, keep-one, keep-two}
+use Rattle.honest.specs.Base.{list-form, list-len, Fit, delta-is, bits-at, leaky-at, zs-at, hs-at, h-comms-at, keep-none, keep-one, keep-two}
 use Rattle.alone.specs.Cells.{items-row, length-cells, cell}
 use Rattle.honest.specs.Firsts.{pairs-trip, bit-read, block-read, hash-bits}
 use Rattle.honest.specs.Haand.{leaky-small, and-z}

@@ -31,7 +31,7 @@ use Rattle.rounds.specs.Opening.{Args, opening}
 use Rattle.rounds.specs.Table.{table}
 use Rattle.honest.specs.Script as S
 use Rattle.honest.specs.Inputs.{Boxes, Inputs, deltas, alphasOf, betasOf}
-use Rattle.honest.specs.Echo.{lawful}
+use Rattle.alone.specs.Echo.{lawful}
 use Rattle.honest.specs.Opening.{Given, Agree, orderFor, inputs-for, honest-opening}
 use Rattle.honest.specs.Supply.{supply}
 use Rattle.honest.specs.Premises.{Premises, boxes-of, zeroInputs, zero-premises}

@@ -36,9 +36,11 @@ use Rattle.rounds.specs.Opening.{Args}
 use Rattle.rounds.specs.Table.{table, judge, kept, held, written}
 use Rattle.rounds.specs.Toss.{commitment, commMsg, verMsg, told, toldRows, opening, jointSeed, pairwiseSeeds}
 use Rattle.alone.specs.Base.{rows-ext, length-rows, chunk-rows}
+use Rattle.rounds.specs.FashareLaws.{length-hash}
+use Rattle.alone.specs.Echo.{length-hashVec}
 use Rattle.honest.specs.Script as S
 use Rattle.honest.specs.Inputs.{Boxes}
-use Rattle.honest.specs.Base.{length-hash, length-hashVec, list-form, list-len, Fit, seed-at, pairs-at, comms-at, pair-comms-at, keep-none, keep-one}
+use Rattle.honest.specs.Base.{list-form, list-len, Fit, seed-at, pairs-at, comms-at, pair-comms-at, keep-none, keep-one}
 
 -- ---- a message with a commitment, and one with a seed
 pub length-commitment : (seed : List ℕ) (j : ℕ) → length (commitment seed j) ≡ 32

@@ -1,4 +1,4 @@
--- The echoes of an honest run: an echo is as long as it should, is formed, and has no fault. And the table of the rounds is lawful.
+-- The echoes: one that a box writes is as long as it should, is formed, and has no fault if the hashes agree. And the table of the rounds is lawful.
 use mathlib.Core.Path.{_≡_, refl, sym, ap, ap₂, _∙_}
 use mathlib.Core.Bool.{Bool, true, false, _&&_}
 use mathlib.Core.Logic.{_≢_}
@@ -6,7 +6,7 @@ use mathlib.Core.List.{List, [], _∷_}
 use Prim.Native.Nat.{ℕ, suc, _+_, _-_, _*_, _^_, _<_}
 use native.Mathlib.Nat.{add-zero}
 use native.Mathlib.Omega.{arith}
-use lib.ListN.{length, getD, take, drop}
+use lib.ListN.{length, getD, take, drop, length-take}
 use lib.Seq.{getD-take, getD-drop, drop-drop, take-nil}
 use borrow.Author.Tests.{lt-ltb, le-leb}
 use Rattle.lists.specs.Pick.{pick}
@@ -14,6 +14,7 @@ use Rattle.lists.specs.All.{allOf}
 use Rattle.lists.specs.Rows.{chunk, length-chunk}
 use Rattle.lists.specs.Same.{same-eq}
 use Rattle.algebra.specs.Sum.{neq, neq-true, Same, apart, apart?}
+use Rattle.blake3.specs.Tree.{hash}
 use Rattle.message.specs.declared.Kind.the-variants.{Options}
 use Rattle.message.specs.Format.{itemAt}
 use Rattle.encode.specs.Encode.{encode, noneItem, someItem}
@@ -25,9 +26,15 @@ use Rattle.engine.specs.Area.{mem}
 use Rattle.engine.specs.Plain.{isEcho, nextOf, isRound, numberOf, stepsOf}
 use Rattle.engine.specs.Honest.{EchoLaws, orderTest, courseTest, Lawful}
 use Rattle.rounds.specs.Area.{sizes, sizeOf}
-use Rattle.rounds.specs.Echo.{echoMsg, entryFault, echoFault, echo}
+use Rattle.rounds.specs.Echo.{hashVec, echoMsg, entryFault, echoFault, echo}
 use Rattle.rounds.specs.EchoLaws.{entries-length, echo-len}
+use Rattle.rounds.specs.FashareLaws.{length-hash}
 use Rattle.rounds.specs.Table.{fine, table}
+
+-- what an echo carries of a list
+pub length-hashVec : (l k : ℕ) (m : List ℕ) → length (hashVec l k m) ≡ 16
+unfolding hashVec
+length-hashVec l k m = length-take 16 (hash _) ∙ rw (length-hash _) refl
 
 -- ---- a list that begins with a byte
 tail-take : {A : Type 0} (a : ℕ) (x : List A) → drop 1 (take (suc a) x) ≡ take a (drop 1 x)
