@@ -24,7 +24,8 @@ module _ (f : Frame) (c : ℕ) where
   pub rows-ext : (g h : ℕ → List ℕ) → ((k : ℕ) → k < f .n → f .i ≢ k → g k ≡ h k) → rows f c g ≡ rows f c h
   unfolding rows
   rows-ext g h e =
-      cat-ext (f .n) _ _ (λ k l. other-cases f k (λ b. pick b (g k) (replicate c 0) ≡ pick b (h k) (replicate c 0)) (λ l′ ne. e k l′ ne) refl)
+      cat-ext (f .n) _ _ (λ k l.
+      other-cases f k (λ b. pick b (g k) (replicate c 0) ≡ pick b (h k) (replicate c 0)) (λ l′ ne. e k l′ ne) refl)
 
   module _ (g : ℕ → List ℕ) (h : (k : ℕ) → k < f .n → f .i ≢ k → length (g k) ≡ c) where
     row-len : (k : ℕ) → k < f .n → length (pick (other f k) (g k) (replicate c 0)) ≡ c
@@ -54,8 +55,8 @@ module _ (n l : ℕ) (val : ℕ → ℕ → List ℕ) where
   abbrev pub Fit : ℕ → Type 0
   Fit s = (s < ROUNDS-OWN) × ((i : ℕ) → i < n → length (val i s) ≡ sizeOf (frame n l i) s)
 
-  -- What is kept: from moment t to moment u the named sections come to hold their values, and no other is due by u. The tests are closed by `refl`
-  -- under `unfolding staysTest allOf mem since`.
+  -- What is kept: from moment t to moment u the named sections come to hold their values, and no other is due by u. The tests are closed
+  -- by `refl` under `unfolding staysTest allOf mem since`.
   module _ (t u i : ℕ) (li : i < n) {w : List ℕ} (K : Known n l (storeOf val) t i w) where
     pub keep-none : staysTest (storeOf val) t u [] ≡ true → Known n l (storeOf val) u i w
     unfolding putAll
@@ -66,10 +67,11 @@ module _ (n l : ℕ) (val : ℕ → ℕ → List ℕ) where
     unfolding putAll keep
     keep-one s x test fit e =
         subst (λ (y : List ℕ). Known n l (storeOf val) u i (putSec (sizeOf (frame n l i)) s y w)) (sym e)
-        (filled n l (storeOf val) (omega arith) t u (s ∷ []) (fills-by n l (storeOf val) t u (s ∷ []) (λ i s. refl) (fit, tt) test) i li w K)
+        (filled n l (storeOf val) (omega arith) t u (s ∷ [])
+        (fills-by n l (storeOf val) t u (s ∷ []) (λ i s. refl) (fit, tt) test) i li w K)
 
-    pub keep-two : (s s′ : ℕ) (x x′ : List ℕ) → staysTest (storeOf val) t u (s ∷ s′ ∷ []) ≡ true → Fit s → Fit s′ → x ≡ val i s → x′ ≡ val i s′
-        → Known n l (storeOf val) u i (keep (frame n l i) s x (keep (frame n l i) s′ x′ w))
+    pub keep-two : (s s′ : ℕ) (x x′ : List ℕ) → staysTest (storeOf val) t u (s ∷ s′ ∷ []) ≡ true → Fit s → Fit s′
+        → x ≡ val i s → x′ ≡ val i s′ → Known n l (storeOf val) u i (keep (frame n l i) s x (keep (frame n l i) s′ x′ w))
     unfolding putAll keep
     keep-two s s′ x x′ test fit fit′ e e′ =
         let size = sizeOf (frame n l i) in

@@ -12,7 +12,7 @@ use Rattle.share.specs.ShareLaws.{Agree, agree-op, agree-sel, agree-refl, agree
 use Rattle.encode.specs.Encode.{twoBitsTwoBlocks}
 use Rattle.engine.specs.declared.Frame.{Frame}
 use Rattle.rounds.specs.Opening.{Args}
-use Rattle.rounds.specs.Buckets.{permBytes}
+use Rattle.rounds.specs.Buckets.{Triple, permBytes}
 use Rattle.rounds.specs.Beaver as B
 use Rattle.alone.specs.Formula as F
 use Rattle.alone.specs.Holds.{tripleRows}
@@ -73,7 +73,8 @@ module _ (f : Frame) (a : Args) (strings order : List ℕ) (m : ℕ → ℕ → 
       let c : Share = B.c f triples j in
       let b : Share = B.share f (a .beta) j in
       let s : Share = B.a f triples j in
+      let g : Triple = F.abc f a strings order m j in
       ap₂ (λ (p q : Bool). recordOf (f .n) (f .i) (B.finish c b s p q)) (d-opened j lj) (e-opened j lj)
       ∙ agree-record (f .n) (f .i) _ _
-      (agree-finish (f .n) (f .i) c b s (F.abc f a strings order m j .tz) b (F.abc f a strings order m j .tx) (F.beaverDOpened f a strings order m j)
-      (F.beaverEOpened f a strings order m j) (c-is j lj) (agree-refl (f .n) (f .i) b) (a-is j lj)))
+      (agree-finish (f .n) (f .i) c b s (g .tz) b (g .tx) (F.beaverDOpened f a strings order m j) (F.beaverEOpened f a strings order m j)
+      (c-is j lj) (agree-refl (f .n) (f .i) b) (a-is j lj)))

@@ -83,7 +83,8 @@ module _ (f : Frame) (order : List ℕ) (O : Ordered (f .l) order) (j e : ℕ) (
   pub entry-read : entry f (permBytes f order) j e ≡ getD order (j * bucketSize (f .l) + e) 0
   unfolding entry
   entry-read =
-      ap (λ v. v % leaky (f .l)) (word-read f order (j * bucketSize (f .l) + e) inside (omega (arith, place-below, leaky-most (f .l) (O .most))))
+      ap (λ v. v % leaky (f .l))
+      (word-read f order (j * bucketSize (f .l) + e) inside (omega (arith, place-below, leaky-most (f .l) (O .most))))
       ∙ mod-eq-of-lt place-below
 
 -- ---- combining
@@ -118,7 +119,8 @@ pub record SmallTriple (n : ℕ) (g : Triple) : Type 0 where
   pub tx : SmallShare n (g .tx)
   pub tz : SmallShare n (g .tz)
 
-pub small-combine : (n : ℕ) (g : ℕ → Triple) (d : ℕ → Bool) (c : ℕ) → ((e : ℕ) → e < suc c → SmallTriple n (g e)) → SmallTriple n (combine g d c)
+pub small-combine : (n : ℕ) (g : ℕ → Triple) (d : ℕ → Bool) (c : ℕ) → ((e : ℕ) → e < suc c → SmallTriple n (g e))
+    → SmallTriple n (combine g d c)
 unfolding combine two
 small-combine n g d zero p = p 0 (omega arith)
 small-combine n g d (suc c) p =
@@ -151,7 +153,8 @@ module _ (f : Frame) (g : ℕ → Triple) where
   length-triples = length-cat (f .l) (2 * recordLen (f .n)) _ (λ j lj. row-len j)
 
   module _ (j : ℕ) (lj : j < f .l) (small : SmallTriple (f .n) (g j)) where
-    row-is : take (2 * recordLen (f .n)) (drop (j * (2 * recordLen (f .n))) rows) ≡ recordOf (f .n) (f .i) (g j .tx) ++ recordOf (f .n) (f .i) (g j .tz)
+    row-is : take (2 * recordLen (f .n)) (drop (j * (2 * recordLen (f .n))) rows)
+        ≡ recordOf (f .n) (f .i) (g j .tx) ++ recordOf (f .n) (f .i) (g j .tz)
     unfolding tripleRow chunk
     row-is = chunk-cat (2 * recordLen (f .n)) (f .l) (λ j. tripleRow f (g j)) (λ j lj. row-len j) j lj
 
@@ -160,8 +163,8 @@ module _ (f : Frame) (g : ℕ → Triple) where
     a-read =
         read-here (f .n) (f .i) (g j .tx) rows (j * (2 * recordLen (f .n)))
         (ap (λ k. take (recordLen (f .n)) (drop k rows)) (sym (add-zero (j * (2 * recordLen (f .n)))))
-        ∙ part-in rows [] (recordOf (f .n) (f .i) (g j .tx)) (recordOf (f .n) (f .i) (g j .tz)) (j * (2 * recordLen (f .n))) (2 * recordLen (f .n)) 0
-        (recordLen (f .n)) row-is refl (length-recordOf (f .n) (f .i) (g j .tx)))
+        ∙ part-in rows [] (recordOf (f .n) (f .i) (g j .tx)) (recordOf (f .n) (f .i) (g j .tz)) (j * (2 * recordLen (f .n)))
+        (2 * recordLen (f .n)) 0 (recordLen (f .n)) row-is refl (length-recordOf (f .n) (f .i) (g j .tx)))
         (small .tx)
 
     pub c-read : Agree (f .n) (f .i) (Beaver.c f (cat (f .l) (λ j. tripleRow f (g j))) j) (g j .tz)
@@ -179,7 +182,8 @@ dvalue-ext : (c : ℕ) (b b′ : ℕ → Bool) (x x′ : ℕ → Block) → ((e 
     → dvalueItem c b x ≡ dvalueItem c b′ x′
 unfolding dvalueItem
 dvalue-ext c b b′ x x′ p q =
-    ap₂ (λ (s t : List ℕ). s ++ t) (encode-ext c _ _ (λ e le. ap (λ (v : Bool). num v ∷ []) (p e le))) (encode-ext c _ _ (λ e le. ap bytesOf (q e le)))
+    ap₂ (λ (s t : List ℕ). s ++ t) (encode-ext c _ _ (λ e le. ap (λ (v : Bool). num v ∷ []) (p e le)))
+    (encode-ext c _ _ (λ e le. ap bytesOf (q e le)))
 
 module _ (f : Frame) (a : Args) (strings order : List ℕ) (m : ℕ → ℕ → List ℕ) (I : Given f a m) (O : Ordered (f .l) order) where
   abbrev δ : Block
@@ -207,7 +211,8 @@ module _ (f : Frame) (a : Args) (strings order : List ℕ) (m : ℕ → ℕ → 
   d-is : (j e : ℕ) → j < f .l → e < later f → d f (a .bits) perm j e ≡ F.d f a strings order m j e
   unfolding d F.d F.y later
   d-is j e lj le =
-      ap₂ (λ s t. shares .op (y f (a .bits) s) (y f (a .bits) t)) (entry-is j 0 lj (first-in (f .l))) (entry-is j (suc e) lj (later-in (f .l) e le))
+      ap₂ (λ s t. shares .op (y f (a .bits) s) (y f (a .bits) t)) (entry-is j 0 lj (first-in (f .l)))
+      (entry-is j (suc e) lj (later-in (f .l) e le))
 
   pub msg-21 : (k : ℕ) → dvalueMsg f (a .bits) perm k ≡ F.sent21 f a strings order m k
   unfolding dvalueMsg F.sent21
@@ -226,7 +231,8 @@ module _ (f : Frame) (a : Args) (strings order : List ℕ) (m : ℕ → ℕ → 
       cat-ext (f .l) _ _ (λ j lj. tab-ext (later f) _ _ (λ e le.
       ap (λ (s : Share). num (addb (s .bit) (others bits (f .i) (f .n) (λ k. dTold f (m 21) k j e)))) (d-is j e lj le)))
 
-  d-read : (j e : ℕ) → j < f .l → e < later f → odd (getD (dRows f a strings order m) (j * later f + e) 0) ≡ F.dOpened f a strings order m j e
+  d-read : (j e : ℕ) → j < f .l → e < later f
+      → odd (getD (dRows f a strings order m) (j * later f + e) 0) ≡ F.dOpened f a strings order m j e
   unfolding dRows
   d-read j e lj le =
       let row : ℕ → List ℕ = λ j. tab (later f) (λ e. num (F.dOpened f a strings order m j e)) in

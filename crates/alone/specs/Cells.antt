@@ -1,5 +1,5 @@
--- Rows read where they lie: rows of s bytes one after another; a row for each other party, of c cells of s elements each, as KEY-SUMS, SHARE-COMMS,
--- DMS and H-COMMS have them, where cell j of party k stands behind k · c + j cells; and what stands inside a row.
+-- Rows read where they lie: rows of s bytes one after another; a row for each other party, of c cells of s elements each, as KEY-SUMS,
+-- SHARE-COMMS, DMS and H-COMMS have them, where cell j of party k stands behind k · c + j cells; and what stands inside a row.
 use mathlib.Core.Path.{_≡_, refl, sym, ap, _∙_}
 use mathlib.Core.Logic.{_≢_}
 use mathlib.Core.List.{List, [], _∷_, _++_, append-assoc, append-nil}
@@ -32,10 +32,12 @@ behind-byte b x s = ap (λ (y : List ℕ). blockAt (b ∷ y) 1) (sym (append-nil
 -- the first element of a part, where the part stands
 pub head-part : (k a : ℕ) (x y : List ℕ) → 0 < k → take k (drop a x) ≡ y → getD x a 0 ≡ getD y 0 0
 head-part k a x y h e =
-    ap (λ b. getD x b 0) (sym (add-zero a)) ∙ sym (getD-drop a x 0 0) ∙ sym (getD-take k (drop a x) 0 0 h) ∙ ap (λ (z : List ℕ). getD z 0 0) e
+    ap (λ b. getD x b 0) (sym (add-zero a)) ∙ sym (getD-drop a x 0 0) ∙ sym (getD-take k (drop a x) 0 0 h)
+    ∙ ap (λ (z : List ℕ). getD z 0 0) e
 
 -- what stands in a row behind p
-pub part-in : (s p q r : List ℕ) (a m o k : ℕ) → take m (drop a s) ≡ p ++ (q ++ r) → length p ≡ o → length q ≡ k → take k (drop (a + o) s) ≡ q
+pub part-in : (s p q r : List ℕ) (a m o k : ℕ) → take m (drop a s) ≡ p ++ (q ++ r) → length p ≡ o → length q ≡ k
+    → take k (drop (a + o) s) ≡ q
 part-in s p q r a m o k h lp lq =
     let rest : List ℕ = drop m (drop a s) in
     ap (take k)

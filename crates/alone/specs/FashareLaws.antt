@@ -29,7 +29,8 @@ pub dm-some : (n : ℕ) → 0 < dmLen n
 unfolding dmLen
 dm-some n = omega arith
 
-module _ (f : Frame) (m : ℕ → List ℕ) (formed : (k : ℕ) → k < f .n → f .i ≢ k → formOf Dms 40 (m k) ≡ 0) (clean : dmFaults f m .code ≡ 0) where
+module _ (f : Frame) (m : ℕ → List ℕ) (formed : (k : ℕ) → k < f .n → f .i ≢ k → formOf Dms 40 (m k) ≡ 0)
+    (clean : dmFaults f m .code ≡ 0) where
   dues : (k : ℕ) → k < f .n → f .i ≢ k → Dues (f .n) (m k)
   unfolding dmFaults
   dues k lk ne = record {
@@ -72,5 +73,6 @@ module _ (f : Frame) (a : Args) (strings order : List ℕ) (m : ℕ → ℕ → 
   msg-12 =
       encode-ext 40 _ _ (λ q lq. ap bytesOf
       (ap (λ (b : Bool). blocks .op (d0 f (a .bits) q) (sel blocks b (F.delta f a strings order m)))
-      (others-ext bits (f .i) (f .n) _ (λ k. F.dmBit f a strings order m k q) (λ k lk ne. ap odd (dm-bit-read f (m 10) formed clean k q lk ne lq)))
+      (others-ext bits (f .i) (f .n) _ (λ k. F.dmBit f a strings order m k q)
+      (λ k lk ne. ap odd (dm-bit-read f (m 10) formed clean k q lk ne lq)))
       ∙ zero-or-one f (F.delta f a strings order m) (a .bits) q (others bits (f .i) (f .n) (λ k. F.dmBit f a strings order m k q))))

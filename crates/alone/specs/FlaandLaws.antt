@@ -74,7 +74,8 @@ module _ (f : Frame) (m : ℕ → List ℕ) where
   e-read j t lj ne lt =
       ap odd
       (sym (getD-chunk (leaky (f .l)) j (rows f (leaky (f .l)) (λ j. tab (leaky (f .l)) (λ t. num (eTold m j t)))) t 0 lt)
-      ∙ ap (λ (s : List ℕ). getD s t 0) (chunk-rows f (leaky (f .l)) (λ j. tab (leaky (f .l)) (λ t. num (eTold m j t))) (λ k lk ne′. e-row k) j lj ne)
+      ∙ ap (λ (s : List ℕ). getD s t 0)
+      (chunk-rows f (leaky (f .l)) (λ j. tab (leaky (f .l)) (λ t. num (eTold m j t))) (λ k lk ne′. e-row k) j lj ne)
       ∙ getD-tab (leaky (f .l)) t (λ t. num (eTold m j t)) 0 lt)
       ∙ odd-num (eTold m j t)
 
@@ -126,7 +127,8 @@ module _ (f : Frame) (a : Args) (strings order : List ℕ) (m : ℕ → ℕ → 
       let macs = mac-hash-read f (a .masks) (a .bits) (m 14) t lt in
       let own = phi-read f δ (a .bits) small-d (I .bits-bytes) t lt in
       let bit = z-read f (a .masks) (a .bits) (m 14) t lt in
-      let term : ℕ → Block = λ j. blocks .op (r f (a .bits) t .mac j) (blocks .op (r f (a .bits) t .key j) (sel blocks (eTold (m 15) j t) δ)) in
+      let key : ℕ → Block = λ j. blocks .op (r f (a .bits) t .key j) (sel blocks (eTold (m 15) j t) δ) in
+      let term : ℕ → Block = λ j. blocks .op (r f (a .bits) t .mac j) (key j) in
       let told : ℕ → Block = λ j. sel blocks s (uTold (m 15) j t) in
       (λ q. blocks .op
       (blocks .op (others blocks (f .i) (f .n) (λ j. blocks .op (term j) (told j))) (blocks .op (keys q) (macs q)))

@@ -1,6 +1,6 @@
--- What one box sends and what it ends with, whoever it talks to (document 01, "What each round means"): of what it was opened with, a, of the r
--- Blocks and the permutation that it was lent, strings and order, and of the messages that it received: `m k j` is party j's for round k. Nothing
--- here knows a work area.
+-- What one box sends and what it ends with, whoever it talks to (document 01, "What each round means"): of what it was opened with, a, of
+-- the r Blocks and the permutation that it was lent, strings and order, and of the messages that it received: `m k j` is party j's for
+-- round k. Nothing here knows a work area.
 use mathlib.Core.Bool.{Bool, cond}
 use mathlib.Core.List.{List, []}
 use Prim.Native.Nat.{ℕ, suc, _+_, _*_}

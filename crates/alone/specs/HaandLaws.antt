@@ -57,7 +57,8 @@ module _ (f : Frame) (delta : Block) (recs : List ℕ) where
   length-leakyRows = length-cat (leaky (f .l)) (leakyLen (f .n)) (leakyRow f delta recs) (λ t l. length-leakyRow f delta recs t)
 
   module _ (sd : Small delta) (hb : Bytes recs) (t : ℕ) (lt : t < leaky (f .l)) where
-    row-at : (o : ℕ) → o + 16 ≤ leakyLen (f .n) → blockAt (leakyRows f delta recs) (t * leakyLen (f .n) + o) ≡ blockAt (leakyRow f delta recs t) o
+    row-at : (o : ℕ) → o + 16 ≤ leakyLen (f .n)
+        → blockAt (leakyRows f delta recs) (t * leakyLen (f .n) + o) ≡ blockAt (leakyRow f delta recs t) o
     unfolding leakyRows
     row-at o w = row-block (leakyLen (f .n)) (leaky (f .l)) (leakyRow f delta recs) (λ t l. length-leakyRow f delta recs t) t o lt w
 
@@ -86,7 +87,8 @@ module _ (f : Frame) (delta : Block) (recs : List ℕ) where
         ∙ sym (block-drop (k ++ r) 16 (j * 18))
         ∙ ap (λ (s : List ℕ). blockAt s (j * 18)) (drop-at k r 16 (length-bytesOf _))
         ∙ ap (blockAt r) (sym (add-zero (j * 18))) ∙ sym (block-chunk 18 j r 0 (omega arith))
-        ∙ ap (λ (s : List ℕ). blockAt s 0) (chunk-rows f 18 (leakyEntry f delta recs t) (λ k l ne. length-leakyEntry f delta recs t k) j lj ne)
+        ∙ ap (λ (s : List ℕ). blockAt s 0)
+        (chunk-rows f 18 (leakyEntry f delta recs t) (λ k l ne. length-leakyEntry f delta recs t k) j lj ne)
         ∙ block-bytesOf (u f delta recs j t) _ (small-u f delta recs sd hb t j)
 
 -- ---- the rows of ZS

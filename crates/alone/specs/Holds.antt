@@ -1,5 +1,5 @@
--- What the sections of the work area hold once they are filled, and since when: rows of the formula's values. The last two sections are the echoes'
--- and stand in engine.
+-- What the sections of the work area hold once they are filled, and since when: rows of the formula's values. The last two sections are the
+-- echoes' and stand in engine.
 use mathlib.Core.List.{List}
 use Prim.Native.Nat.{ℕ}
 use lib.ListN.{replicate}
@@ -23,8 +23,8 @@ use Rattle.rounds.specs.Flaand as Flaand
 use Rattle.rounds.specs.Buckets as Buckets
 use Rattle.alone.specs.Formula as F
 
--- The moment since which a section holds its value: `before k` for what is kept of the messages of the plain round before k, `due k` for what is kept
--- when the messages of round k are made. What opening keeps is there from the start.
+-- The moment since which a section holds its value: `before k` for what is kept of the messages of the plain round before k, `due k` for
+-- what is kept when the messages of round k are made. What opening keeps is there from the start.
 unfoldable pub since : ℕ → ℕ
 since s =
     pick (eqb s COMMS) (before 3) (pick (eqb s JOINT) (before 4) (pick (eqb s PAIR-COMMS) (before 5) (pick (eqb s PAIRWISE) (before 6)
@@ -60,7 +60,8 @@ module _ (f : Frame) (a : Args) (strings order : List ℕ) (m : ℕ → ℕ → 
       (pick (eqb s PAIR-COMMS) (Toss.toldRows f (m 4)) (pick (eqb s PAIRWISE) (F.pairwiseSeeds f a strings order m)
       (pick (eqb s KEY-SUMS) (Fabitn.keySums f strings (a .bits))
       (pick (eqb s SHARE-COMMS) (Fashare.commRows f (m 8)) (pick (eqb s DMS) (Fashare.dmRows f (m 10))
-      (pick (eqb s LEAKY) (Haand.leakyRows f (F.delta f a strings order m) (a .bits)) (pick (eqb s ZS) (Haand.zRows f (a .masks) (a .bits) (m 14))
+      (pick (eqb s LEAKY) (Haand.leakyRows f (F.delta f a strings order m) (a .bits))
+      (pick (eqb s ZS) (Haand.zRows f (a .masks) (a .bits) (m 14))
       (pick (eqb s ES) (Flaand.eRows f (m 15)) (pick (eqb s HS) hRows (pick (eqb s H-COMMS) (Flaand.commRows f (m 17))
       (pick (eqb s PERM) (Buckets.permBytes f order) (pick (eqb s DS) dRows (pick (eqb s TRIPLES) tripleRows
       (replicate (sizeOf f s) 0))))))))))))))))))))))

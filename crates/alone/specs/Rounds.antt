@@ -1,5 +1,5 @@
--- What each plain round does to the work area of one box, whoever it talks to: receiving it and making its messages fill the sections that Holds.antt
--- names, and what is written is the formula's.
+-- What each plain round does to the work area of one box, whoever it talks to: receiving it and making its messages fill the sections that
+-- Holds.antt names, and what is written is the formula's.
 use mathlib.Core.Path.{_≡_, refl, ap, ap₂, _∙_}
 use mathlib.Core.Bool.{Bool, true, _&&_}
 use mathlib.Core.Logic.{_≢_}
@@ -211,7 +211,8 @@ module _ (f : Frame) (a : Args) (q : ℕ → Loan) (m : ℕ → ℕ → List ℕ
 
   pub recv-3 : RecvAt 3
   unfolding plainAfter isEcho staysTest allOf mem since holds kept F.jointSeed
-  recv-3 past p = fill (due 3) (before 4) JOINT (p .known) refl fit-joint (ap (λ (s : List ℕ). Toss.jointSeed f s (m 3)) (seed-at (p .known)))
+  recv-3 past p =
+      fill (due 3) (before 4) JOINT (p .known) refl fit-joint (ap (λ (s : List ℕ). Toss.jointSeed f s (m 3)) (seed-at (p .known)))
 
   pub send-4 : SendAt 4
   unfolding staysTest allOf mem since held written F.sent F.sent4 F.pairSeed
@@ -233,7 +234,9 @@ module _ (f : Frame) (a : Args) (q : ℕ → Loan) (m : ℕ → ℕ → List ℕ
 
   pub recv-5 : RecvAt 5
   unfolding plainAfter isEcho staysTest allOf mem since holds kept F.pairwiseSeeds
-  recv-5 past p = fill (due 5) (before 6) PAIRWISE (p .known) refl fit-pairwise (ap (λ (s : List ℕ). Toss.pairwiseSeeds f s (m 5)) (pairs-at (p .known)))
+  recv-5 past p =
+      fill (due 5) (before 6) PAIRWISE (p .known) refl fit-pairwise
+      (ap (λ (s : List ℕ). Toss.pairwiseSeeds f s (m 5)) (pairs-at (p .known)))
 
   -- ---- `fabitn`: round 6
   fit-key-sums : fits KEY-SUMS
@@ -331,7 +334,9 @@ module _ (f : Frame) (a : Args) (q : ℕ → Loan) (m : ℕ → ℕ → List ℕ
 
   pub recv-14 : RecvAt 14
   unfolding plainAfter isEcho staysTest allOf mem since holds kept
-  recv-14 past p = fill (due 14) (before 15) ZS (p .known) refl fit-zs (ap₂ (λ (s t : List ℕ). Haand.zRows f s t (m 14)) (masks-at (p .known)) (bits-at (p .known)))
+  recv-14 past p =
+      fill (due 14) (before 15) ZS (p .known) refl fit-zs
+      (ap₂ (λ (s t : List ℕ). Haand.zRows f s t (m 14)) (masks-at (p .known)) (bits-at (p .known)))
 
   -- ---- `flaand`: rounds 15, 17, 19
   fit-es : fits ES
@@ -354,7 +359,8 @@ module _ (f : Frame) (a : Args) (q : ℕ → Loan) (m : ℕ → ℕ → List ℕ
   unfolding staysTest allOf mem since held written F.sent
   send-15 = record {
     keeps = λ past z w K. stays (before 15) (due 15) K refl;
-    writes = λ past z w K j lj ne. (λ e. Flaand.flaandMsg f (bits-at K e) (leaky-at K refl e) (zs-at K refl e) j) ∙ msg-15 f a strings order m I j lj ne;
+    writes = λ past z w K j lj ne.
+        (λ e. Flaand.flaandMsg f (bits-at K e) (leaky-at K refl e) (zs-at K refl e) j) ∙ msg-15 f a strings order m I j lj ne;
   }
 
   pub recv-15 : RecvAt 15

@@ -1,22 +1,32 @@
--- WHAT A BOX SENDS, WHOEVER IT TALKS TO: after an accepted opening and any list of round calls, what the last accepted call wrote is the formula's, and so
--- is what each section that was filled holds, whatever the others sent.
-use mathlib.Core.Path.{_≡_, refl}
+-- WHAT A BOX SENDS, WHOEVER IT TALKS TO: after an accepted opening and any list of round calls, what the last accepted call wrote is the
+-- formula's, and so is what each section that was filled holds, whatever the others sent.
+use mathlib.Core.Path.{_≡_, refl, sym, ap, _∙_}
+use mathlib.Core.Bool.{Bool, true, false, _&&_}
+use mathlib.Core.Logic.{_≢_}
 use mathlib.Core.List.{List, [], _∷_}
-use Prim.Native.Nat.{ℕ}
+use Prim.Native.Nat.{ℕ, _<_, _≤_}
 use native.Mathlib.Omega.{arith}
-use Rattle.lists.specs.All.{allOf}
-use Rattle.lists.specs.Bytes.{Bytes}
+use lib.ListN.{length, getD, take, drop, replicate}
+use lib.Dec.{eqb}
+use borrow.Author.Tests.{le-leb, eq-eqb, ne-eqb}
+use Rattle.lists.specs.Pick.{pick}
+use Rattle.lists.specs.All.{allOf, true-false}
+use Rattle.lists.specs.Bytes.{Bytes, bytes-nil, bytes-take, bytes-drop}
 use Rattle.engine.specs.declared.Frame.{Frame}
-use Rattle.engine.specs.Step.{Loan, Outcome}
-use Rattle.engine.specs.World.{Box}
-use Rattle.engine.specs.Area.{mem}
-use Rattle.engine.specs.Plain.{isEcho, protocolOf}
-use Rattle.engine.specs.Honest.{plainAfter}
-use Rattle.engine.specs.Alone.{Turn, turns, Tale, AllRead, Told, Duties, Follows, first, all-told}
+use Rattle.engine.specs.declared.Session.{Session}
+use Rattle.engine.specs.Step.{frame, Loan, Outcome, other, mask, part}
+use Rattle.engine.specs.World.{Box, sessionOf}
+use Rattle.engine.specs.Area.{toOthers, mem}
+use Rattle.engine.specs.Plain.{isEcho, numberOf, digests, protocolOf}
+use Rattle.engine.specs.Honest.{due, prior, plainAfter}
+use Rattle.engine.specs.Alone.{Turn, turnBox, turns, Tale, AllRead, wroteFor, Lives, State, lives, over, Told, Duties, Follows, first, all-told}
+use Rattle.engine.specs.Heard.{taken, answer, heard, lentWith, all-heard}
+use Rattle.rounds.specs.Area.{ROUNDS-OWN, at}
+use Rattle.rounds.specs.Echo.{echoMsg, echo}
 use Rattle.rounds.specs.Opening.{Args, reason, spec}
 use Rattle.rounds.specs.Table.{table}
 use Rattle.alone.specs.Formula as F
-use Rattle.alone.specs.Holds.{tale}
+use Rattle.alone.specs.Holds.{since, holds, tale}
 use Rattle.alone.specs.Given.{Given}
 use Rattle.alone.specs.Echo.{lawful, length-hashVec}
 use Rattle.alone.specs.Opening.{ByteArgs, given, opened, spec-takes}
@@ -28,7 +38,8 @@ openedBox a =
     let r : Outcome = spec a in
     record { session = r .session; work = r .work; rounds = 0; wrote = r .out }
 
--- a: what the box was opened with; q k: what was lent with the call that makes round k's messages; m k j: what was read of party j for round k
+-- a: what the box was opened with; q k: what was lent with the call that makes round k's messages; m k j: what was read of party j for
+-- round k
 module _ (a : Args) (q : ℕ → Loan) (m : ℕ → ℕ → List ℕ) where
   abbrev f : Frame
   f = a .party
@@ -135,6 +146,112 @@ module _ (a : Args) (q : ℕ → Loan) (m : ℕ → ℕ → List ℕ) where
         (first table (f .n) (f .l) (f .i) U m q (duties I) _ (omega arith) refl refl (opened a z (q 6 .r) (q 21 .perm) m) refl)
 
     -- for every list of calls of which the accepted ones read m and are lent q
-    pub told-alone : (cs : List Turn) → AllRead table (f .n) (f .l) (f .i) U m q (openedBox a) cs
+    pub told-alone : (cs : List Turn) → AllRead table (f .n) (f .l) (f .i) m q (openedBox a) cs
         → Told table (f .n) (f .l) (f .i) U m q (turns (protocolOf table) (openedBox a) cs)
     told-alone cs r = all-told table (f .n) (f .l) (f .i) U m q (duties I) cs (openedBox a) start r
+
+-- ---- THE CLAIM
+-- all that the calls were lent to read is bytes
+abbrev pub ByteCalls : List Turn → Type 0
+ByteCalls [] = Unit {0}
+ByteCalls (c ∷ cs) = Bytes (c .lent .incoming) × ByteCalls cs
+
+-- so is what is heard
+heard-bytes : (n l i : ℕ) (x : Box) (cs : List Turn) → ByteCalls cs → (k j : ℕ) → Bytes (heard table n l i x cs k j)
+unfolding mask part
+heard-bytes n l i x [] h k j = bytes-nil
+heard-bytes n l i x (c ∷ cs) h k j =
+    go (taken (answer table n l i x c) && eqb k (c .number)) (heard-bytes n l i (turnBox (protocolOf table) x c) cs (h .1) k j)
+  where
+    from : ℕ
+    from = getD (c .lent .starts) j 0
+
+    len : ℕ
+    len = getD (c .lent .lens) j 0
+
+    masked : (b : Bool) → Bytes (pick b (take len (drop from (c .lent .incoming))) [])
+    masked true = bytes-take len (drop from (c .lent .incoming)) (bytes-drop from (c .lent .incoming) (h .0))
+    masked false = bytes-nil
+
+    go : (b : Bool) → Bytes (heard table n l i (turnBox (protocolOf table) x c) cs k j)
+        → Bytes (pick b (mask (frame n l i) (part (c .lent)) j) (heard table n l i (turnBox (protocolOf table) x c) cs k j))
+    go true r = masked (other (frame n l i) j)
+    go false r = r
+
+module _ (a : Args) (cs : List Turn) where
+  abbrev n : ℕ
+  n = a .party .n
+
+  abbrev l : ℕ
+  l = a .party .l
+
+  abbrev i : ℕ
+  i = a .party .i
+
+  -- the box after the calls, and the round that is due then, 0 after the last
+  abbrev pub box : Box
+  box = turns (protocolOf table) (openedBox a) cs
+
+  abbrev pub number : ℕ
+  number = numberOf table (eqb n 2) (box .rounds)
+
+  -- what its accepted calls read, and what they were lent: r Blocks and permutation
+  abbrev pub mail : ℕ → ℕ → List ℕ
+  mail = heard table n l i (openedBox a) cs
+
+  abbrev pub loans : ℕ → Loan
+  loans = lentWith table n l i (openedBox a) cs
+
+  abbrev pub strings : List ℕ
+  strings = loans 6 .r
+
+  abbrev pub order : List ℕ
+  order = loans 21 .perm
+
+  -- What the last accepted call wrote: the messages of the round that is due, if it is no echo; the echo of what was read for the round
+  -- before; the results. A session that lives has that round due, and what each section that was filled by then holds is the formula's; one
+  -- that is over has a work area of zeros.
+  pub record Claim : Type 0 where
+    pub messages : number ≢ 0 → isEcho table number ≡ false → box .wrote ≡ toOthers n i (F.sent (a .party) a strings order mail number)
+    pub echoes : isEcho table number ≡ true
+        → box .wrote ≡ toOthers n i (echoMsg n i (digests table (prior number) (a .party) (mail (prior number))))
+    pub results : number ≡ 0 → box .wrote ≡ F.result (a .party) a strings order mail
+    pub session-is : box .session .due ≢ 0 → box .session ≡ sessionOf n l i number
+    pub sections : box .session .due ≢ 0 → isEcho table number ≡ false
+        → (s : ℕ) → s < ROUNDS-OWN → since s ≤ due number → at (a .party) s (box .work) ≡ holds (a .party) a strings order mail s
+    pub zeros : box .session .due ≡ 0 → box .work ≡ replicate (length (box .work)) 0
+
+  never-echo-zero : isEcho table 0 ≡ false
+  unfolding isEcho mem
+  never-echo-zero = refl
+
+  claim : Told table n l i (tale (a .party) a strings order mail) mail loans box → Claim
+  unfolding wroteFor at echo
+  claim t = record {
+    messages = λ h e. t .wrote-is ∙ rw (ne-eqb number 0 h, e) refl;
+    echoes = λ e. t .wrote-is ∙ rw (ne-eqb number 0 (some e), e) refl;
+    results = λ z. t .wrote-is ∙ rw (eq-eqb number 0 z) refl;
+    session-is = λ h. live h (t .state) .session-is;
+    sections = λ h e s ls le. live h (t .state) .known e .has s ls (le-leb _ _ le);
+    zeros = λ z. dead z (t .state);
+  }
+    where
+      some : isEcho table number ≡ true → number ≢ 0
+      some e z = true-false (sym e ∙ ap (isEcho table) z ∙ never-echo-zero)
+
+      live : box .session .due ≢ 0 → State table n l i (tale (a .party) a strings order mail) mail loans box
+          → Lives table n l i (tale (a .party) a strings order mail) mail loans box
+      live h (lives x) = x
+      live h (over x) = absurd (h (ap (λ (s : Session). s .due) (x .session-is)))
+
+      dead : box .session .due ≡ 0 → State table n l i (tale (a .party) a strings order mail) mail loans box
+          → box .work ≡ replicate (length (box .work)) 0
+      dead z (lives x) = absurd (x .some (sym (ap (λ (s : Session). s .due) (x .session-is)) ∙ z))
+      dead z (over x) = x .blank
+
+-- ---- THE THEOREM: for every opening that is accepted and every list of round calls after it
+pub alone : (a : Args) → reason a ≡ 0 → ByteArgs a → (cs : List Turn) → ByteCalls cs → Claim a cs
+alone a z b cs h =
+    claim a cs
+    (told-alone a (loans a cs) (mail a cs) z b (heard-bytes (n a cs) (l a cs) (i a cs) (openedBox a) cs h) cs
+    (all-heard table (n a cs) (l a cs) (i a cs) cs (openedBox a) 1 (ap (λ (r : Outcome). r .session) (spec-takes a (a .party) refl z))))

@@ -1,5 +1,5 @@
--- One box and any list of round calls, whatever the others sent: what its work area holds and what it wrote, of what it was opened with, what it was
--- lent and the messages that it received. What a table of rounds owes for that, and that it then holds after every list.
+-- One box and any list of round calls, whatever the others sent: what its work area holds and what it wrote, of what it was opened with,
+-- what it was lent and the messages that it received. What a table of rounds owes for that, and that it then holds after every list.
 use mathlib.Core.Path.{_≡_, refl, sym, ap, ap₂, _∙_, subst, fun-ext}
 use mathlib.Core.Bool.{Bool, true, false, not, _&&_}
 use mathlib.Core.Logic.{_≢_}
@@ -34,15 +34,26 @@ abbrev pub turns : Protocol → Box → List Turn → Box
 turns P x [] = x
 turns P x (c ∷ cs) = turns P (turnBox P x c) cs
 
--- What the box holds and sends. ready t s: section s holds its value at moment t; val s: that value; sent k r: the message of round k, which is no echo,
--- to r; result: what the last call writes
+-- ---- which calls are meant
+-- Box i of n with l. m k j: what was read of party j for round k; q k: what was lent with the call that makes the messages of round k
+module _ (T : Table) (n l i : ℕ) (m : ℕ → ℕ → List ℕ) (q : ℕ → Loan) where
+  -- an accepted call reads m and is lent q
+  abbrev pub Reads : Box → Turn → Type 0
+  Reads x c = roundSpec (protocolOf T) (x .session) (c .number) (c .lent) (x .work) .verdict ≡ Accepted
+      → ((j : ℕ) → mask (frame n l i) (part (c .lent)) j ≡ m (c .number) j) × (c .lent .loan ≡ q (nextOf T (eqb n 2) (c .number)))
+
+  abbrev pub AllRead : Box → List Turn → Type 0
+  AllRead x [] = Unit {0}
+  AllRead x (c ∷ cs) = Reads x c × AllRead (turnBox (protocolOf T) x c) cs
+
+-- What the box holds and sends. ready t s: section s holds its value at moment t; val s: that value; sent k r: the message of round k,
+-- which is no echo, to r; result: what the last call writes
 pub record Tale : Type 0 where
   pub ready : ℕ → ℕ → Bool
   pub val : ℕ → List ℕ
   pub sent : ℕ → ℕ → List ℕ
   pub result : List ℕ
 
--- Box i of n with l. m k j: what was read of party j for round k; q k: what was lent with the call that makes the messages of round k
 module _ (T : Table) (n l i : ℕ) (U : Tale) (m : ℕ → ℕ → List ℕ) (q : ℕ → Loan) where
   abbrev f : Frame
   f = frame n l i
@@ -52,16 +63,6 @@ module _ (T : Table) (n l i : ℕ) (U : Tale) (m : ℕ → ℕ → List ℕ) (q 
 
   abbrev P : Protocol
   P = protocolOf T
-
-  -- ---- which calls are meant
-  -- an accepted call reads m and is lent q
-  abbrev pub Reads : Box → Turn → Type 0
-  Reads x c = roundSpec P (x .session) (c .number) (c .lent) (x .work) .verdict ≡ Accepted
-      → ((j : ℕ) → mask f (part (c .lent)) j ≡ m (c .number) j) × (c .lent .loan ≡ q (nextOf T two (c .number)))
-
-  abbrev pub AllRead : Box → List Turn → Type 0
-  AllRead x [] = Unit {0}
-  AllRead x (c ∷ cs) = Reads x c × AllRead (turnBox P x c) cs
 
   -- ---- what is claimed
   abbrev pub store : Store
@@ -83,6 +84,7 @@ module _ (T : Table) (n l i : ℕ) (U : Tale) (m : ℕ → ℕ → List ℕ) (q 
 
   -- the session lives: that round is due, and where it is no echo the work area is as told
   pub record Lives (x : Box) : Type 0 where
+    pub some : dueAt x ≢ 0
     pub session-is : x .session ≡ sessionOf n l i (dueAt x)
     pub known : isEcho T (dueAt x) ≡ false → At (due (dueAt x)) (x .work)
 
@@ -253,7 +255,8 @@ module _ (T : Table) (n l i : ℕ) (U : Tale) (m : ℕ → ℕ → List ℕ) (q 
           go false e =
               absurd (eqb-false code 0 e
               (ap (λ (x : Fault). x .code)
-              (sym (held-waits T k f (E .work) (m k) (E .before .known .long) (W .size-pending i) (W .size-hashes i) (D .digest-len k) (eqb-false code 0 e)))
+              (sym (held-waits T k f (E .work) (m k) (E .before .known .long) (W .size-pending i) (W .size-hashes i) (D .digest-len k)
+              (eqb-false code 0 e)))
               ∙ ap (λ (x : List ℕ). pending T f x .code) (sym (E .held-is)) ∙ z))
 
       passed-before : Judged k (E .work) → Passed k
@@ -385,8 +388,8 @@ module _ (T : Table) (n l i : ℕ) (U : Tale) (m : ℕ → ℕ → List ℕ) (q 
           by-last false e = by-echo (omega (arith, A .low, eqb-false k (T .last) e)) (toEcho T two k) refl
 
     -- ---- for an echo
-    module _ (d k : ℕ) (v : List ℕ) (nk : numberOf T two d ≡ suc k) (E : Echoing k v) (lent : lentOf T (suc k) n l (q (nextOf T two (suc k))) ≡ 0)
-        (clean : checkOf T (suc k) f v (m (suc k)) .code ≡ 0) where
+    module _ (d k : ℕ) (v : List ℕ) (nk : numberOf T two d ≡ suc k) (E : Echoing k v)
+        (lent : lentOf T (suc k) n l (q (nextOf T two (suc k))) ≡ 0) (clean : checkOf T (suc k) f v (m (suc k)) .code ≡ 0) where
       pub step-echo : Steps d (suc k) v
       unfolding checkOf echoCheck toEcho plainAfter
       step-echo =
@@ -531,7 +534,7 @@ module _ (T : Table) (n l i : ℕ) (U : Tale) (m : ℕ → ℕ → List ℕ) (q 
           round-cases P s a lt (x .work) Q
           (λ ne read. record { number = k; session-is = refl; stands = S; wrote-is = wrote }) faults accepts
 
-    pub follows : (x : Box) (c : Turn) → Follows x → Reads x c → Follows (turnBox P x c)
+    pub follows : (x : Box) (c : Turn) → Follows x → Reads T n l i m q x c → Follows (turnBox P x c)
     follows x c F =
         subst (λ s. (roundSpec P s (c .number) (c .lent) (x .work) .verdict ≡ Accepted
         → ((j : ℕ) → mask f (part (c .lent)) j ≡ m (c .number) j) × (c .lent .loan ≡ q (nextOf T two (c .number))))
@@ -544,22 +547,24 @@ module _ (T : Table) (n l i : ℕ) (U : Tale) (m : ℕ → ℕ → List ℕ) (q 
       where
         go : (k : ℕ) → x .session ≡ sessionOf n l i k → Stands (x .rounds) k (x .work) → State x
         go k p (plainly e A) = lives (record {
+          some = λ z. omega (arith, e, z, A .some);
           session-is = p ∙ ap (sessionOf n l i) (sym e);
           known = λ z. subst (λ t. At (due t) (x .work)) (sym e) (A .known);
         })
         go (suc k) p (echoing e E) = lives (record {
+          some = λ z. omega (arith, e, z);
           session-is = p ∙ ap (sessionOf n l i) (sym e);
           known = λ z. absurd (true-false (sym (E .echo) ∙ ap (isEcho T) (sym e) ∙ z));
         })
         go zero p (ends b) = over (record { session-is = p; blank = b })
 
-    pub all-told : (cs : List Turn) (x : Box) → Follows x → AllRead x cs → Told (turns P x cs)
+    pub all-told : (cs : List Turn) (x : Box) → Follows x → AllRead T n l i m q x cs → Told (turns P x cs)
     all-told [] x F r = told x F
     all-told (c ∷ cs) x F r = all-told cs (turnBox P x c) (follows x c F (r .0)) (r .1)
 
     -- ---- after opening
-    pub first : (x : Box) → 1 ≤ T .last → x .session ≡ sessionOf n l i 1 → x .rounds ≡ 0 → At (due 1) (x .work) → x .wrote ≡ toOthers n i (U .sent 1)
-        → Follows x
+    pub first : (x : Box) → 1 ≤ T .last → x .session ≡ sessionOf n l i 1 → x .rounds ≡ 0 → At (due 1) (x .work)
+        → x .wrote ≡ toOthers n i (U .sent 1) → Follows x
     unfolding numberOf wroteFor
     first x low s d K o = record {
       number = 1;
