@@ -8,7 +8,7 @@ use Prim.Native.Nat.{ℕ, _<_, _≤_}
 use native.Mathlib.Omega.{arith}
 use lib.ListN.{length, getD, take, drop, replicate}
 use lib.Dec.{eqb}
-use borrow.Author.Tests.{le-leb, eq-eqb, ne-eqb}
+use borrow.Author.Tests.{leb-true, le-leb, eq-eqb, ne-eqb}
 use Rattle.lists.specs.Pick.{pick}
 use Rattle.lists.specs.All.{allOf, true-false}
 use Rattle.lists.specs.Bytes.{Bytes, bytes-nil, bytes-take, bytes-drop}
@@ -16,10 +16,10 @@ use Rattle.engine.specs.declared.Frame.{Frame}
 use Rattle.engine.specs.declared.Session.{Session}
 use Rattle.engine.specs.Step.{frame, Loan, Outcome, other, mask, part}
 use Rattle.engine.specs.World.{Box, sessionOf}
-use Rattle.engine.specs.Area.{toOthers, mem}
+use Rattle.engine.specs.Area.{toOthers, mem, also}
 use Rattle.engine.specs.Plain.{isEcho, numberOf, digests, protocolOf}
 use Rattle.engine.specs.Honest.{due, prior, plainAfter}
-use Rattle.engine.specs.Alone.{Turn, turnBox, turns, Tale, AllRead, wroteFor, Lives, State, lives, over, Told, Duties, Follows, first, all-told}
+use Rattle.engine.specs.Alone.{Turn, turnBox, turns, Tale, AllRead, wroteFor, sureAt, Lives, State, lives, over, Told, Duties, Follows, first, all-told}
 use Rattle.engine.specs.Heard.{taken, answer, heard, lentWith, all-heard}
 use Rattle.rounds.specs.Area.{ROUNDS-OWN, at}
 use Rattle.rounds.specs.Echo.{echoMsg, echo}
@@ -55,83 +55,38 @@ module _ (a : Args) (q : ℕ → Loan) (m : ℕ → ℕ → List ℕ) where
       lawful = lawful (f .n) (f .l) (I .range);
       own = I .own;
       tail = refl;
+      grows = λ s t u le r. le-leb (since s) u (omega (arith, leb-true (since s) t r));
       digest-len = λ k x. length-hashVec (f .l) k x;
       plain = 1 ∷ 3 ∷ 4 ∷ 5 ∷ 6 ∷ 8 ∷ 10 ∷ 12 ∷ 14 ∷ 15 ∷ 17 ∷ 19 ∷ 21 ∷ [];
       whole = refl;
-      recv = (
-        R.recv-1 f a q m I,
-        (
-          R.recv-3 f a q m I,
-          (
-            R.recv-4 f a q m I,
-            (
-              R.recv-5 f a q m I,
-              (
-                R.recv-6 f a q m I,
-                (
-                  R.recv-8 f a q m I,
-                  (
-                    R.recv-10 f a q m I,
-                    (
-                      R.recv-12 f a q m I,
-                      (
-                        R.recv-14 f a q m I,
-                        (
-                          R.recv-15 f a q m I,
-                          (
-                            R.recv-17 f a q m I,
-                            (
-                              R.recv-19 f a q m I,
-                              (R.recv-21 f a q m I, tt),
-                            ),
-                          ),
-                        ),
-                      ),
-                    ),
-                  ),
-                ),
-              ),
-            ),
-          ),
-        ),
-      );
-      send = (
-        R.send-3 f a q m I,
-        (
-          R.send-4 f a q m I,
-          (
-            R.send-5 f a q m I,
-            (
-              R.send-6 f a q m I,
-              (
-                R.send-8 f a q m I,
-                (
-                  R.send-10 f a q m I,
-                  (
-                    R.send-12 f a q m I,
-                    (
-                      R.send-14 f a q m I,
-                      (
-                        R.send-15 f a q m I,
-                        (
-                          R.send-17 f a q m I,
-                          (
-                            R.send-19 f a q m I,
-                            (
-                              R.send-21 f a q m I,
-                              (R.send-22 f a q m I, tt),
-                            ),
-                          ),
-                        ),
-                      ),
-                    ),
-                  ),
-                ),
-              ),
-            ),
-          ),
-        ),
-      );
+      recv =
+          (also (R.recv-1 f a q m I)
+          (also (R.recv-3 f a q m I)
+          (also (R.recv-4 f a q m I)
+          (also (R.recv-5 f a q m I)
+          (also (R.recv-6 f a q m I)
+          (also (R.recv-8 f a q m I)
+          (also (R.recv-10 f a q m I)
+          (also (R.recv-12 f a q m I)
+          (also (R.recv-14 f a q m I)
+          (also (R.recv-15 f a q m I)
+          (also (R.recv-17 f a q m I)
+          (also (R.recv-19 f a q m I)
+          (also (R.recv-21 f a q m I) tt)))))))))))));
+      send =
+          (also (R.send-3 f a q m I)
+          (also (R.send-4 f a q m I)
+          (also (R.send-5 f a q m I)
+          (also (R.send-6 f a q m I)
+          (also (R.send-8 f a q m I)
+          (also (R.send-10 f a q m I)
+          (also (R.send-12 f a q m I)
+          (also (R.send-14 f a q m I)
+          (also (R.send-15 f a q m I)
+          (also (R.send-17 f a q m I)
+          (also (R.send-19 f a q m I)
+          (also (R.send-21 f a q m I)
+          (also (R.send-22 f a q m I) tt)))))))))))));
       last = R.last-22 f a q m I;
     }
 
@@ -208,6 +163,11 @@ module _ (a : Args) (cs : List Turn) where
   abbrev pub order : List ℕ
   order = loans 21 .perm
 
+  -- The moment up to which the sections are filled for sure: while an echo is due, a fault in the messages that it is about may still drop
+  -- what was kept of them
+  abbrev pub sure : ℕ
+  sure = pick (isEcho table number) (due (prior number)) (due number)
+
   -- What the last accepted call wrote: the messages of the round that is due, if it is no echo; the echo of what was read for the round
   -- before; the results. A session that lives has that round due, and what each section that was filled by then holds is the formula's; one
   -- that is over has a work area of zeros.
@@ -217,8 +177,8 @@ module _ (a : Args) (cs : List Turn) where
         → box .wrote ≡ toOthers n i (echoMsg n i (digests table (prior number) (a .party) (mail (prior number))))
     pub results : number ≡ 0 → box .wrote ≡ F.result (a .party) a strings order mail
     pub session-is : box .session .due ≢ 0 → box .session ≡ sessionOf n l i number
-    pub sections : box .session .due ≢ 0 → isEcho table number ≡ false
-        → (s : ℕ) → s < ROUNDS-OWN → since s ≤ due number → at (a .party) s (box .work) ≡ holds (a .party) a strings order mail s
+    pub sections : box .session .due ≢ 0 → (s : ℕ) → s < ROUNDS-OWN → since s ≤ sure
+        → at (a .party) s (box .work) ≡ holds (a .party) a strings order mail s
     pub zeros : box .session .due ≡ 0 → box .work ≡ replicate (length (box .work)) 0
 
   never-echo-zero : isEcho table 0 ≡ false
@@ -226,13 +186,13 @@ module _ (a : Args) (cs : List Turn) where
   never-echo-zero = refl
 
   claim : Told table n l i (tale (a .party) a strings order mail) mail loans box → Claim
-  unfolding wroteFor at echo
+  unfolding wroteFor sureAt at echo
   claim t = record {
     messages = λ h e. t .wrote-is ∙ rw (ne-eqb number 0 h, e) refl;
     echoes = λ e. t .wrote-is ∙ rw (ne-eqb number 0 (some e), e) refl;
     results = λ z. t .wrote-is ∙ rw (eq-eqb number 0 z) refl;
     session-is = λ h. live h (t .state) .session-is;
-    sections = λ h e s ls le. live h (t .state) .known e .has s ls (le-leb _ _ le);
+    sections = λ h s ls le. live h (t .state) .known .has s ls (le-leb _ _ le);
     zeros = λ z. dead z (t .state);
   }
     where

@@ -82,11 +82,15 @@ module _ (T : Table) (n l i : ℕ) (U : Tale) (m : ℕ → ℕ → List ℕ) (q 
   abbrev pub dueAt : Box → ℕ
   dueAt x = numberOf T two (x .rounds)
 
-  -- the session lives: that round is due, and where it is no echo the work area is as told
+  -- the moment whose sections are all there when round k is due: of the round before an echo, what was received may still be dropped
+  unfoldable pub sureAt : ℕ → ℕ
+  sureAt k = pick (isEcho T k) (due (prior k)) (due k)
+
+  -- the session lives: that round is due, and the work area is as told
   pub record Lives (x : Box) : Type 0 where
     pub some : dueAt x ≢ 0
     pub session-is : x .session ≡ sessionOf n l i (dueAt x)
-    pub known : isEcho T (dueAt x) ≡ false → At (due (dueAt x)) (x .work)
+    pub known : At (sureAt (dueAt x)) (x .work)
 
   -- it is done, or a received fault ended it
   pub record Over (x : Box) : Type 0 where
@@ -142,6 +146,7 @@ module _ (T : Table) (n l i : ℕ) (U : Tale) (m : ℕ → ℕ → List ℕ) (q 
     pub lawful : Lawful T n l
     pub own : i < n
     pub tail : isEcho T (suc (T .last)) ≡ false
+    pub grows : (s t u : ℕ) → t ≤ u → U .ready t s ≡ true → U .ready u s ≡ true
     pub digest-len : (k : ℕ) (x : List ℕ) → length (T .recv k .digest f x) ≡ 16
     pub plain : List ℕ
     pub whole : allOf (T .last) (λ k. pick (eqb k 0) true (pick (isEcho T k) true (mem k plain))) ≡ true
@@ -270,6 +275,26 @@ module _ (T : Table) (n l i : ℕ) (U : Tale) (m : ℕ → ℕ → List ℕ) (q 
           subst (At (before (plainAfter T k))) (sym (E .held-is))
           (rw (eq-eqb (T .recv k .judge f (E .work) (m k) .code) 0 z)
           (at-held (before (plainAfter T k)) _ (0 ∷ 0 ∷ []) _ K refl (length-rows f _ (λ j lj ne. D .digest-len k (m k j)))))
+
+      -- what was there stays, also where round k had a fault
+      later : (t u : ℕ) (w : List ℕ) → t ≤ u → At u w → At t w
+      later t u w le K = record { long = K .long; has = λ s ls r. K .has s ls (D .grows s t u le r) }
+
+      after-le : due k ≤ before (plainAfter T k)
+      unfolding plainAfter
+      after-le = go (isEcho T (suc k))
+        where
+          go : (b : Bool) → due k ≤ before (suc (pick b (suc k) k))
+          go true = omega arith
+          go false = omega arith
+
+      known-held : At (due k) v
+      known-held = go (eqb (T .recv k .judge f (E .work) (m k) .code) 0) refl
+        where
+          go : (b : Bool) → eqb (T .recv k .judge f (E .work) (m k) .code) 0 ≡ b → At (due k) v
+          go true e = later (due k) (before (plainAfter T k)) v after-le (known-after (eqb-true _ 0 e))
+          go false e = unfold held waits kept digests in subst (At (due k)) (sym (E .held-is))
+              (rw e (at-held (due k) (E .work) _ _ (E .before .known) refl (length-rows f _ (λ j lj ne. D .digest-len k (m k j)))))
 
     -- ---- what an accepted call for round k leaves, after d others
     pub record Steps (d k : ℕ) (w : List ℕ) : Type 0 where
@@ -543,18 +568,19 @@ module _ (T : Table) (n l i : ℕ) (U : Tale) (m : ℕ → ℕ → List ℕ) (q 
 
     -- ---- AFTER ANY LIST OF CALLS
     told : (x : Box) → Follows x → Told x
+    unfolding sureAt
     told x F = record { wrote-is = F .wrote-is; state = go (F .number) (F .session-is) (F .stands) }
       where
         go : (k : ℕ) → x .session ≡ sessionOf n l i k → Stands (x .rounds) k (x .work) → State x
         go k p (plainly e A) = lives (record {
           some = λ z. omega (arith, e, z, A .some);
           session-is = p ∙ ap (sessionOf n l i) (sym e);
-          known = λ z. subst (λ t. At (due t) (x .work)) (sym e) (A .known);
+          known = subst (λ t. At (sureAt t) (x .work)) (sym e) (rw (A .plain) (A .known));
         })
         go (suc k) p (echoing e E) = lives (record {
           some = λ z. omega (arith, e, z);
           session-is = p ∙ ap (sessionOf n l i) (sym e);
-          known = λ z. absurd (true-false (sym (E .echo) ∙ ap (isEcho T) (sym e) ∙ z));
+          known = subst (λ t. At (sureAt t) (x .work)) (sym e) (rw (E .echo) (known-held k (x .work) E));
         })
         go zero p (ends b) = over (record { session-is = p; blank = b })
 
