@@ -167,6 +167,21 @@ module _ (T : Table) (n l : ℕ) (W : Lawful T n l) where
       go true z b e q = absurd (true-false (sym q))
       go false z b e q = (next-on two k ne (ap (λ c. c && isEcho T (suc k)) z), q)
 
+  -- what comes after a plain round whose call writes no echo
+  pub next-plain : (k : ℕ) → k < T .last → toEcho T (eqb n 2) k ≡ false
+      → (nextOf T (eqb n 2) k ≡ plainAfter T k) × (isEcho T (plainAfter T k) ≡ false)
+  unfolding plainAfter toEcho
+  next-plain k lk q = go (isEcho T (suc k)) refl (eqb n 2) refl q
+    where
+      ne : k ≢ T .last
+      ne p = omega arith
+
+      go : (b : Bool) → isEcho T (suc k) ≡ b → (c : Bool) → eqb n 2 ≡ c → (not c && b) ≡ false
+          → (nextOf T (eqb n 2) k ≡ suc (pick b (suc k) k)) × (isEcho T (suc (pick b (suc k) k)) ≡ false)
+      go true e true c q = (next-skips (eqb n 2) k ne c e, no-two (suc k) lk e)
+      go true e false c q = absurd (true-false q)
+      go false e c z q = (next-on (eqb n 2) k ne (ap (λ b. eqb n 2 && b) e ∙ and-false (eqb n 2)), e)
+
   -- ---- which round is due
   abbrev counts : Bool
   counts = allOf (stepsOf T (eqb n 2)) (λ d. isRound T (eqb n 2) (numberOf T (eqb n 2) d))
@@ -443,27 +458,13 @@ module _ (T : Table) (U : Script) (n l : ℕ) (W : Lawful T n l) where
             → Own (due (suc to)) i (area i w m)
         next v i li w K m M = H .keeps (sym lent-made ∙ v) i li (got i w m) (G i li w K m M)
 
-  -- what comes after a plain round whose call writes no echo
-  next-plain : (k : ℕ) → k < T .last → toEcho T two k ≡ false → (nextOf T two k ≡ plainAfter T k) × (isEcho T (plainAfter T k) ≡ false)
-  unfolding plainAfter toEcho
-  next-plain k lk q = go (isEcho T (suc k)) refl two refl q
-    where
-      ne : k ≢ T .last
-      ne p = omega arith
-
-      go : (b : Bool) → isEcho T (suc k) ≡ b → (c : Bool) → two ≡ c → (not c && b) ≡ false
-          → (nextOf T two k ≡ suc (pick b (suc k) k)) × (isEcho T (suc (pick b (suc k) k)) ≡ false)
-      go true e true c q = (next-skips T n l W two k ne c e, no-two T n l W (suc k) lk e)
-      go true e false c q = absurd (true-false q)
-      go false e c z q = (next-on T n l W two k ne (ap (λ b. two && b) e ∙ and-false two), e)
-
   -- ---- THE FOUR KINDS OF CALLS
   -- for a plain round, when no echo follows
   pub middle-plain : (k : ℕ) → k < T .last → isEcho T k ≡ false → toEcho T (eqb n 2) k ≡ false → RecvAt T U n l k
       → SendAt T U n l (plainAfter T k) → Middle (protocolOf T) n l (loansOf T U n l) (sheetOf T U n l) k
   unfolding plainAfter
   middle-plain k lk e q R H =
-      let x = next-plain k lk q in
+      let x = next-plain T n l W k lk q in
       middle-made k _ (λ p. omega arith) q (x .0) (x .1) (pass-plain k e (R .heard)) H
       (λ i li w K m M. rw e (R .keeps i li w (subst (λ t. Own t i w) (moment-plain k e) (to-own k i w K)) m (mail-plain k i m e M)))
 

@@ -35,7 +35,7 @@ use Rattle.rounds.specs.EchoLaws.{length-hashVec}
 use Rattle.honest.specs.Script as S
 use Rattle.honest.specs.Inputs.{Boxes, deltas, bitsOf}
 use Rattle.honest.specs.Base.{first-none, list-len, Fit, delta-is, bits-at, key-sums-at, keep-none, keep-one, Reads, reads}
-use Rattle.honest.specs.Cells.{length-cells, cell}
+use Rattle.alone.specs.Cells.{length-cells, cell}
 use Rattle.honest.specs.Firsts.{pairs-trip, bit-read, block-read, hash-bits}
 
 module _ (n l : ℕ) (args : ℕ → Args) (strings order : List ℕ) (X : Boxes n l args) where

@@ -46,11 +46,14 @@ use Rattle.rounds.specs.Area.{SHARE-COMMS, DMS, sizes, sizeOf, rows}
 use Rattle.rounds.specs.Opening.{Args}
 use Rattle.rounds.specs.Table.{table, judge, kept, held, written}
 use Rattle.rounds.specs.Fashare.{own, d0, d1, dm, dmMac, commMsg, commRows, verMsg, dmAt, dmFault, dmFaults, dmRows, dmRow, others1, dibiMsg, macsFor, dibiFault, dibiFaults}
+use Rattle.alone.specs.Base.{rows-ext}
+use Rattle.alone.specs.FashareLaws.{dm-some}
+use Rattle.rounds.specs.FashareLaws.{length-hash}
 use Rattle.rounds.specs.EchoLaws.{length-hashVec}
 use Rattle.honest.specs.Script as S
 use Rattle.honest.specs.Inputs.{Boxes, deltas, bitsOf}
-use Rattle.honest.specs.Base.{rows-ext, first-none, length-hash, list-form, list-len, Fit, delta-is, bits-at, share-comms-at, dms-at, keep-none, keep-one, Reads, reads}
-use Rattle.honest.specs.Cells.{head-part, items-row, length-cells, cell}
+use Rattle.honest.specs.Base.{first-none, list-form, list-len, Fit, delta-is, bits-at, share-comms-at, dms-at, keep-none, keep-one, Reads, reads}
+use Rattle.alone.specs.Cells.{head-part, items-row, length-cells, cell}
 
 -- ---- the commitments
 module _ (f : Frame) (delta : Block) (recs : List ℕ) where
@@ -76,10 +79,6 @@ module _ (f : Frame) (delta : Block) (recs : List ℕ) where
   comm-row = items-row 40 96 hashes (λ q i. length-hashes q)
 
 -- ---- the dms
-dm-some : (n : ℕ) → 0 < dmLen n
-unfolding dmLen
-dm-some n = omega arith
-
 length-own-dm : (f : Frame) (recs : List ℕ) (q : ℕ) → length (dm f recs q) ≡ dmLen (f .n)
 unfolding dm dmLen
 length-own-dm f recs q =

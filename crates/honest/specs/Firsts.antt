@@ -26,7 +26,7 @@ use Rattle.encode.specs.RoundTrip.{Trip, trip-whole, even-item}
 use Rattle.plan.specs.Plan.{kindOf}
 use Rattle.rounds.specs.Echo.{hashVec}
 use Rattle.honest.specs.Toss.{cat-tab}
-use Rattle.honest.specs.Cells.{head-part}
+use Rattle.alone.specs.Cells.{head-part}
 
 module _ (c : ℕ) (b : ℕ → Bool) (x : ℕ → Block) (small : c < 2 ^ 64) where
   abbrev msg : List ℕ

@@ -2,24 +2,23 @@
 use mathlib.Core.Path.{_≡_, refl, sym, ap, ap₂, _∙_}
 use mathlib.Core.Bool.{Bool, true}
 use mathlib.Core.Logic.{_≢_}
-use mathlib.Core.List.{List, [], append-nil}
+use mathlib.Core.List.{List}
 use Prim.Native.Nat.{ℕ, _+_, _*_, _^_, _<_}
-use native.Mathlib.Nat.{add-zero}
 use native.Mathlib.Omega.{arith}
 use lib.ListN.{length, getD, take, drop}
 use Rattle.lists.specs.Pick.{pick}
 use Rattle.lists.specs.All.{allOf, all-of}
-use Rattle.lists.specs.Over.{tab, cat, length-cat, length-tab, getD-tab}
-use Rattle.lists.specs.Rows.{getD-chunk, cat-ext}
+use Rattle.lists.specs.Over.{tab, cat, length-cat}
+use Rattle.lists.specs.Rows.{cat-ext}
 use Rattle.lists.specs.Same.{same-eq}
-use Rattle.algebra.specs.Group.{XorGroup, bits, sel, odd, num, odd-num, ac}
-use Rattle.algebra.specs.Sum.{sum, others, others-ext, others-op, others-all}
+use Rattle.algebra.specs.Group.{bits, sel, odd, num}
+use Rattle.algebra.specs.Sum.{sum, others, others-ext, others-all}
 use Rattle.algebra.specs.Share.{Shared, Good}
 use Rattle.algebra.specs.Leaky as Leaky
 use Rattle.block.specs.declared.Block.{Block}
 use Rattle.block.specs.Block.{blockAt, bytesOf, Small}
 use Rattle.block.specs.Group.{blocks, eq-block}
-use Rattle.block.specs.Trip.{small-xor, small-sel, small-others, length-bytesOf, block-bytesOf, block-here}
+use Rattle.block.specs.Trip.{small-xor, small-sel, small-others, length-bytesOf, block-here}
 use Rattle.blake3.specs.Tree.{hash}
 use Rattle.share.specs.Share.{shareAt}
 use Rattle.share.specs.Parties.{sharedAt, shareOf}
@@ -39,30 +38,18 @@ use Rattle.rounds.specs.Opening.{Args}
 use Rattle.rounds.specs.Table.{table, judge, kept, held, written}
 use Rattle.rounds.specs.Haand.{x, y, r, G, phi, u, phiAt, keyHash, uAt, zAt, macHash}
 use Rattle.rounds.specs.Flaand.{e, flaandMsg, eTold, uTold, eRows, zKey, h, hs, commMsg, commRows, hashMsg, hTold, opening, zeroSum, hFaults}
+use Rattle.alone.specs.Base.{rows-ext}
+use Rattle.alone.specs.HaandLaws.{small-G, small-phi, small-u, phi-read, key-hash-read, u-read, mac-hash-read}
+use Rattle.alone.specs.FlaandLaws.{h-alg, block-row, length-es, e-read}
+use Rattle.rounds.specs.FashareLaws.{length-hash}
 use Rattle.rounds.specs.EchoLaws.{length-hashVec}
 use Rattle.honest.specs.Script as S
 use Rattle.honest.specs.Inputs.{Boxes, deltas, small-delta}
-use Rattle.honest.specs.Base.{rows-ext, length-rows, chunk-rows, length-hash, list-form, list-len, Fit, delta-is, bits-at, leaky-at, zs-at, hs-at, h-comms-at, keep-none, keep-one, keep-two, Reads, reads}
-use Rattle.honest.specs.Cells.{items-row, length-cells, cell}
+use Rattle.honest.specs.Base.{list-form, list-len, Fit, delta-is, bits-at, leaky-at, zs-at, hs-at, h-comms-at, keep-none, keep-one, keep-two, Reads, reads}
+use Rattle.alone.specs.Cells.{items-row, length-cells, cell}
 use Rattle.honest.specs.Firsts.{pairs-trip, bit-read, block-read, hash-bits}
-use Rattle.honest.specs.Haand.{leaky-small, row-block, small-G, small-phi, small-u, phi-read, key-hash-read, u-read, mac-hash-read, and-z}
+use Rattle.honest.specs.Haand.{leaky-small, and-z}
 use Rattle.honest.specs.Values.{xOf, yOf, rOf, zOf, small-z, LeakyTriples}
-
--- ---- h, as it is computed and as the algebra has it
-h-sort : {A : Type 0} (G : XorGroup A) (a b c d p q : A)
-    → G .op (G .op (G .op a d) (G .op b c)) (G .op p q) ≡ G .op (G .op (G .op (G .op (G .op a b) c) d) p) q
-h-sort G a b c d p q = simp ac
-
-h-alg : {A : Type 0} (G : XorGroup A) (i n : ℕ) (a b c d : ℕ → A) (p q : A)
-    → G .op (G .op (others G i n (λ j. G .op (a j) (d j))) (G .op (others G i n b) (others G i n c))) (G .op p q)
-    ≡ G .op (G .op (others G i n (λ j. G .op (G .op (G .op (a j) (b j)) (c j)) (d j))) p) q
-h-alg {A} G i n a b c d p q =
-    ap (λ (s : A). G .op (G .op s (G .op (others G i n b) (others G i n c))) (G .op p q)) (others-op G i n a d)
-    ∙ h-sort G (others G i n a) (others G i n b) (others G i n c) (others G i n d) p q
-    ∙ sym (ap (λ (s : A). G .op (G .op s p) q)
-    (others-op G i n (λ j. G .op (G .op (a j) (b j)) (c j)) d
-    ∙ ap (λ (s : A). G .op s (others G i n d))
-    (others-op G i n (λ j. G .op (a j) (b j)) c ∙ ap (λ (s : A). G .op s (others G i n c)) (others-op G i n a b))))
 
 -- ---- what is kept depends on the others' messages alone
 module _ (f : Frame) where
@@ -120,19 +107,9 @@ module _ (n l : ℕ) (args : ℕ → Args) (strings order : List ℕ) (X : Boxes
       ∙ u-at i j t li lj (λ p. ne (sym p)) lt
 
   -- the e that box i keeps
-  e-row : (m : ℕ → List ℕ) (j : ℕ) → length (tab (leaky l) (λ t. num (eTold m j t))) ≡ leaky l
-  e-row m j = length-tab (leaky l) _
-
   e-at : (i j t : ℕ) → j < n → i ≢ j → t < leaky l → odd (getD (S.es n l args strings order i) (j * leaky l + t) 0) ≡ eOf j t
-  unfolding S.es eRows
-  e-at i j t lj ne lt =
-      let m : ℕ → List ℕ = λ j. S.sent15 n l args strings order j i in
-      ap odd
-      (sym (getD-chunk (leaky l) j (rows (frame n l i) (leaky l) (λ j. tab (leaky l) (λ t. num (eTold m j t)))) t 0 lt)
-      ∙ ap (λ (s : List ℕ). getD s t 0)
-      (chunk-rows (frame n l i) (leaky l) (λ j. tab (leaky l) (λ t. num (eTold m j t))) (λ k lk ne′. e-row m k) j lj ne)
-      ∙ getD-tab (leaky l) t (λ t. num (eTold m j t)) 0 lt)
-      ∙ odd-num (eTold m j t) ∙ e-told i j t lt
+  unfolding S.es
+  e-at i j t lj ne lt = e-read (frame n l i) (λ j. S.sent15 n l args strings order j i) j t lj ne lt ∙ e-told i j t lt
 
   -- ---- z keeps the MAC rule
   z-key : (i j t : ℕ) → j < n → i ≢ j → t < leaky l
@@ -216,23 +193,17 @@ module _ (n l : ℕ) (args : ℕ → Args) (strings order : List ℕ) (X : Boxes
       (small-sel (z .bit i) (deltas args i) (sd i li))
 
   -- ---- what HS holds
-  h-row : (m : ℕ → Block) → (t : ℕ) → t < leaky l → Small (m t) → blockAt (cat (leaky l) (λ t. bytesOf (m t))) (t * 16) ≡ m t
-  h-row m t lt s =
-      ap (blockAt (cat (leaky l) (λ t. bytesOf (m t)))) (sym (add-zero (t * 16)))
-      ∙ row-block 16 (leaky l) (λ t. bytesOf (m t)) (λ t l. length-bytesOf (m t)) t 0 lt (omega arith)
-      ∙ ap (λ (s : List ℕ). blockAt s 0) (sym (append-nil (bytesOf (m t)))) ∙ block-bytesOf (m t) [] s
-
   h-at : (i t : ℕ) → i < n → t < leaky l → blockAt (S.hs n l args strings order i) (t * 16) ≡ hOf t i
   unfolding S.hs hs
-  h-at i t li lt = h-row _ t lt (rw (h-is i t li lt) (small-h i t li)) ∙ h-is i t li lt
+  h-at i t li lt = block-row (leaky l) _ t lt (rw (h-is i t li lt) (small-h i t li)) ∙ h-is i t li lt
 
   fit-hs : Fit n l args strings order HS
   unfolding S.holds S.hs hs sizeOf sizes
   fit-hs = (omega arith, λ i li. length-cat (leaky l) 16 _ (λ t lt. length-bytesOf _))
 
   fit-es : Fit n l args strings order ES
-  unfolding S.holds S.es eRows sizeOf sizes
-  fit-es = (omega arith, λ i li. length-rows (frame n l i) (leaky l) _ (λ k lk ne. e-row (λ j. S.sent15 n l args strings order j i) k))
+  unfolding S.holds S.es sizeOf sizes
+  fit-es = (omega arith, λ i li. length-es (frame n l i) (λ j. S.sent15 n l args strings order j i))
 
   -- ---- round 15
   flaand-len : (j r : ℕ) → length (S.sent15 n l args strings order j r) ≡ msgLen n l 15

@@ -34,10 +34,12 @@ use Rattle.rounds.specs.Area.{COMMS, JOINT, PAIR-COMMS, PAIRWISE, sizes, sizeOf
 use Rattle.rounds.specs.Opening.{Args}
 use Rattle.rounds.specs.Table.{table, judge, kept, held, written}
 use Rattle.rounds.specs.Toss.{commitment, commMsg, verMsg, told, toldRows, opening, jointSeed, pairwiseSeeds}
+use Rattle.alone.specs.Base.{rows-ext, length-rows, chunk-rows}
+use Rattle.rounds.specs.FashareLaws.{length-hash}
 use Rattle.rounds.specs.EchoLaws.{length-hashVec}
 use Rattle.honest.specs.Script as S
 use Rattle.honest.specs.Inputs.{Boxes}
-use Rattle.honest.specs.Base.{rows-ext, length-rows, chunk-rows, length-hash, list-form, list-len, Fit, seed-at, pairs-at, comms-at, pair-comms-at, keep-none, keep-one, Reads}
+use Rattle.honest.specs.Base.{list-form, list-len, Fit, seed-at, pairs-at, comms-at, pair-comms-at, keep-none, keep-one, Reads}
 
 -- ---- a message with a commitment, and one with a seed
 pub length-commitment : (seed : List ℕ) (j : ℕ) → length (commitment seed j) ≡ 32

@@ -1,4 +1,5 @@
--- The echoes of an honest run: an echo is as long as it should, is formed, and has no fault. And the table of the rounds is lawful.
+-- The echoes: one that a box writes is as long as it should, is formed, and has no fault if the hashes agree. And the table of the rounds
+-- is lawful.
 use mathlib.Core.Path.{_≡_, refl, sym, ap, ap₂, _∙_}
 use mathlib.Core.Bool.{Bool, true, false, _&&_}
 use mathlib.Core.Logic.{_≢_}
