@@ -42,7 +42,8 @@ use Rattle.engine.specs.Honest.{before, due, storeOf}
 use Rattle.rounds.specs.Area.{DELTA, SEED, PAIRS, MASKS, BITS, ALPHA, BETA, COMMS, JOINT, PAIR-COMMS, PAIRWISE, KEY-SUMS, SHARE-COMMS, DMS, LEAKY, ZS, ES, HS, H-COMMS, PERM, DS, TRIPLES, ROUNDS-OWN, sizeOf, at, keep, rows, firstOf}
 use Rattle.rounds.specs.Echo.{hashVec}
 use Rattle.rounds.specs.Opening.{Args}
-use Rattle.rounds.specs.Table.{table, delta}
+use Rattle.rounds.specs.Table.{delta}
+use Rattle.honest.specs.Subject.{subject}
 use Rattle.honest.specs.Script as S
 
 -- ---- rows by party, and checks by party
@@ -115,7 +116,7 @@ list-len n size bools c g h = length-encode size c g h
 -- ---- the work area of a box in an honest run
 module _ (n l : ℕ) (args : ℕ → Args) (strings order : List ℕ) where
   abbrev pub Run : Store
-  Run = storeOf table (S.script n l args strings order) n l
+  Run = storeOf subject (S.script n l args strings order) n l
 
   -- section s holds what the script says
   pub has-at : (s : ℕ) {t i : ℕ} {w : List ℕ} → Known n l Run t i w → ltb s ROUNDS-OWN ≡ true → leb (S.since n l args strings order s) t ≡ true

@@ -27,7 +27,8 @@ use Rattle.engine.specs.Honest.{EchoLaws, orderTest, courseTest, Lawful}
 use Rattle.rounds.specs.Area.{sizes, sizeOf}
 use Rattle.rounds.specs.Echo.{echoMsg, entryFault, echoFault, echo}
 use Rattle.rounds.specs.EchoLaws.{entries-length, echo-len}
-use Rattle.rounds.specs.Table.{fine, table}
+use Rattle.rounds.specs.Table.{fine}
+use Rattle.honest.specs.Subject.{subject}
 
 -- ---- a list that begins with a byte
 tail-take : {A : Type 0} (a : ℕ) (x : List A) → drop 1 (take (suc a) x) ≡ take a (drop 1 x)
@@ -90,12 +91,12 @@ echo-laws n small = record {
     go i j own sent hs e k lk true (apart ni) true (apart nj) = entry-passes n j i sent hs small own k lk nj ni (e k lk ni nj)
 
 -- ---- the table
-course-ok : (two : Bool) → courseTest table two ≡ true
+course-ok : (two : Bool) → courseTest subject two ≡ true
 unfolding courseTest stepsOf isRound numberOf nextOf isEcho mem allOf
 course-ok true = refl
 course-ok false = refl
 
-pub lawful : (n l : ℕ) → InRange n l → Lawful table n l
+pub lawful : (n l : ℕ) → InRange n l → Lawful subject n l
 unfolding orderTest isEcho mem allOf sizeOf sizes fine
 lawful n l I = record {
   fine = λ i li. simp (le-leb 2 n (I .two), le-leb n 8 (I .eight), lt-ltb i n li, le-leb 1 l (I .one), le-leb l 300000 (I .most));

@@ -1,3 +1,4 @@
+pub mod Subject
 pub mod Script
 pub mod Inputs
 pub mod Base
