@@ -35,9 +35,10 @@ use Rattle.engine.specs.Sheet.{Store, Known, staysTest}
 use Rattle.engine.specs.Honest.{before, due, storeOf}
 use Rattle.rounds.specs.Area.{DELTA, SEED, PAIRS, MASKS, BITS, ALPHA, BETA, COMMS, JOINT, PAIR-COMMS, PAIRWISE, KEY-SUMS, SHARE-COMMS, DMS, LEAKY, ZS, ES, HS, H-COMMS, PERM, DS, TRIPLES, at, keep, firstOf}
 use Rattle.rounds.specs.Opening.{Args}
-use Rattle.rounds.specs.Table.{table, delta}
+use Rattle.rounds.specs.Table.{delta}
 use Rattle.alone.specs.Base.{has-at}
 use Rattle.alone.specs.Base as A
+use Rattle.honest.specs.Subject.{subject}
 use Rattle.honest.specs.Script as S
 
 -- ---- checks by party
@@ -82,7 +83,7 @@ list-len n size bools c g h = length-encode size c g h
 -- ---- the work area of a box in an honest run
 module _ (n l : ℕ) (args : ℕ → Args) (strings order : List ℕ) where
   abbrev pub Run : Store
-  Run = storeOf table (S.script n l args strings order) n l
+  Run = storeOf subject (S.script n l args strings order) n l
 
   module _ {t i : ℕ} {w : List ℕ} (K : Known n l Run t i w) where
     -- what opening keeps

@@ -33,7 +33,8 @@ use Rattle.engine.specs.Sheet.{staysTest, Mail}
 use Rattle.engine.specs.Honest.{Script, before, due, SendAt, LastAt}
 use Rattle.rounds.specs.Area.{TRIPLES, sizes, sizeOf}
 use Rattle.rounds.specs.Opening.{Args}
-use Rattle.rounds.specs.Table.{table, judge, held, written}
+use Rattle.rounds.specs.Table.{judge, held, written}
+use Rattle.honest.specs.Subject.{subject}
 use Rattle.rounds.specs.Haand.{y}
 use Rattle.rounds.specs.Buckets.{tripleRows}
 use Rattle.rounds.specs.Beaver as B
@@ -283,7 +284,7 @@ module _ (n l : ℕ) (args : ℕ → Args) (strings order : List ℕ) (I : Input
   unfolding S.holds sizeOf sizes
   fit-triples = (omega arith, λ i li. length-triples n l args strings order I i)
 
-  pub send-22 : SendAt table run n l 22
+  pub send-22 : SendAt subject run n l 22
   unfolding staysTest allOf mem S.since S.holds S.tripleRows S.sent S.sent22 held written
   send-22 = record {
     keeps = λ v i li w K. keep-one n l args strings order (before 22) (due 22) i li K TRIPLES _ refl fit-triples
@@ -294,7 +295,7 @@ module _ (n l : ℕ) (args : ℕ → Args) (strings order : List ℕ) (I : Input
         (triples-at n l args strings order K refl q) (alpha-at n l args strings order K q) (beta-at n l args strings order K q) r);
   }
 
-  pub last-22 : LeakyTriples n l args strings order → LastAt table run n l 22
+  pub last-22 : LeakyTriples n l args strings order → LastAt subject run n l 22
   unfolding S.since S.sent judge
   last-22 L = record {
     heard = record {

@@ -39,7 +39,8 @@ use Rattle.engine.specs.Plain.{isEcho}
 use Rattle.engine.specs.Honest.{Script, before, due, plainAfter, RecvAt, SendAt}
 use Rattle.rounds.specs.Area.{PERM, DS, sizes, sizeOf}
 use Rattle.rounds.specs.Opening.{Args}
-use Rattle.rounds.specs.Table.{table, judge, kept, held, written}
+use Rattle.rounds.specs.Table.{judge, kept, held, written}
+use Rattle.honest.specs.Subject.{subject}
 use Rattle.rounds.specs.Haand.{x, y}
 use Rattle.rounds.specs.Buckets.{entry, later, d, dvalueMsg, bucketAt, dTold, dMacTold, dFaults, dOpened, leakyAnd, abc, tripleRow, tripleRows}
 use Rattle.rounds.specs.Buckets as B
@@ -297,7 +298,7 @@ module _ (n l : ℕ) (args : ℕ → Args) (strings order : List ℕ) (I : Input
     λ i li. ap length (ds-value i li) ∙ length-cat l (more l) _ (λ j lj. length-tab (more l) _),
   )
 
-  pub send-21 : SendAt table run n l 21
+  pub send-21 : SendAt subject run n l 21
   unfolding staysTest allOf mem S.since S.holds S.perms S.sent S.sent21 held written
   send-21 = record {
     keeps = λ v i li w K. keep-one n l args strings order (before 21) (due 21) i li K PERM _ refl fit-perm refl;
@@ -305,7 +306,7 @@ module _ (n l : ℕ) (args : ℕ → Args) (strings order : List ℕ) (I : Input
         ap₂ (λ (a b : List ℕ). dvalueMsg (frame n l i) a b r) (bits-at n l args strings order K) (perm-at n l args strings order K refl);
   }
 
-  pub recv-21 : RecvAt table run n l 21
+  pub recv-21 : RecvAt subject run n l 21
   unfolding plainAfter isEcho mem staysTest allOf S.since S.holds S.sent judge kept
   recv-21 = record {
     heard = record {

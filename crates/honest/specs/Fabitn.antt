@@ -29,7 +29,8 @@ use Rattle.engine.specs.Plain.{isEcho}
 use Rattle.engine.specs.Honest.{Script, before, due, plainAfter, RecvAt, SendAt, ListAt}
 use Rattle.rounds.specs.Area.{KEY-SUMS, sizes, sizeOf}
 use Rattle.rounds.specs.Opening.{Args}
-use Rattle.rounds.specs.Table.{table, judge, kept, held, written}
+use Rattle.rounds.specs.Table.{judge, kept, held, written}
+use Rattle.honest.specs.Subject.{subject}
 use Rattle.rounds.specs.Fabitn.{picks, bitSum, macSum, keySum, abitMsg, keySums, abitFault, abits}
 use Rattle.rounds.specs.EchoLaws.{length-hashVec}
 use Rattle.honest.specs.Script as S
@@ -106,7 +107,7 @@ module _ (n l : ℕ) (args : ℕ → Args) (strings order : List ℕ) (X : Boxes
       (sym (ap (λ (x : List ℕ). odd (getD x (8 + j * 17) 0)) e ∙ bit-read 120 (bitOf k) (macOf k i) (omega arith) j lj)))
 
   -- ---- the round
-  pub send-6 : SendAt table run n l 6
+  pub send-6 : SendAt subject run n l 6
   unfolding staysTest allOf mem S.since S.holds S.keySums S.sent S.sent6 held written
   send-6 = record {
     keeps = λ v i li w K. keep-one n l args strings order (before 6) (due 6) i li K KEY-SUMS _ refl fit-key-sums
@@ -114,7 +115,7 @@ module _ (n l : ℕ) (args : ℕ → Args) (strings order : List ℕ) (X : Boxes
     writes = λ v i r li lr ne w K. ap (λ (x : List ℕ). abitMsg (frame n l i) strings x r) (bits-at n l args strings order K);
   }
 
-  pub recv-6 : RecvAt table run n l 6
+  pub recv-6 : RecvAt subject run n l 6
   unfolding plainAfter isEcho mem staysTest allOf S.since S.sent S.sent6 S.keySums judge kept abits
   recv-6 = record {
     heard = record {
@@ -129,7 +130,7 @@ module _ (n l : ℕ) (args : ℕ → Args) (strings order : List ℕ) (X : Boxes
   }
 
   -- every receiver hashes the list of the bits
-  pub list-6 : ListAt table run n l 6
+  pub list-6 : ListAt subject run n l 6
   unfolding S.hashed S.sent S.sent6 abitMsg kindOf
   list-6 = record {
     size = λ j lj. length-hashVec 6 _;

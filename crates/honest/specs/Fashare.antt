@@ -44,7 +44,8 @@ use Rattle.engine.specs.Plain.{isEcho}
 use Rattle.engine.specs.Honest.{Script, before, due, plainAfter, RecvAt, SendAt, ListAt}
 use Rattle.rounds.specs.Area.{SHARE-COMMS, DMS, sizes, sizeOf, rows}
 use Rattle.rounds.specs.Opening.{Args}
-use Rattle.rounds.specs.Table.{table, judge, kept, held, written}
+use Rattle.rounds.specs.Table.{judge, kept, held, written}
+use Rattle.honest.specs.Subject.{subject}
 use Rattle.rounds.specs.Fashare.{own, d0, d1, dm, dmMac, commMsg, commRows, verMsg, dmAt, dmFault, dmFaults, dmRows, dmRow, others1, dibiMsg, macsFor, dibiFault, dibiFaults}
 use Rattle.alone.specs.Base.{rows-ext}
 use Rattle.alone.specs.FashareLaws.{dm-some}
@@ -228,7 +229,7 @@ module _ (n l : ℕ) (args : ℕ → Args) (strings order : List ℕ) (X : Boxes
         ∙ length-cells (frame n l i) 40 96 commits (λ k q lk ne lq. length-hashes (frame n l k) (deltas args k) (args k .bits) q),
   )
 
-  pub send-8 : SendAt table run n l 8
+  pub send-8 : SendAt subject run n l 8
   unfolding staysTest allOf mem S.since S.sent S.sent8 held written
   send-8 = record {
     keeps = λ v i li w K. keep-none n l args strings order (before 8) (due 8) i li K refl;
@@ -236,7 +237,7 @@ module _ (n l : ℕ) (args : ℕ → Args) (strings order : List ℕ) (X : Boxes
         ap₂ (commMsg (frame n l i)) (delta-is n l args strings order K) (bits-at n l args strings order K);
   }
 
-  pub recv-8 : RecvAt table run n l 8
+  pub recv-8 : RecvAt subject run n l 8
   unfolding plainAfter isEcho mem staysTest allOf S.since S.holds S.sent S.sent8 judge kept
   recv-8 = record {
     heard = record {
@@ -249,7 +250,7 @@ module _ (n l : ℕ) (args : ℕ → Args) (strings order : List ℕ) (X : Boxes
         (comms-are i m M ∙ sym (share-comms-are i));
   }
 
-  pub list-8 : ListAt table run n l 8
+  pub list-8 : ListAt subject run n l 8
   unfolding S.hashed S.sent S.sent8
   list-8 = record {
     size = λ j lj. length-hashVec 8 _;
@@ -290,14 +291,14 @@ module _ (n l : ℕ) (args : ℕ → Args) (strings order : List ℕ) (X : Boxes
         le-leb _ _ (num-le (own (frame n l k) (args k .bits) q .bit)),
       ) refl
 
-  pub send-10 : SendAt table run n l 10
+  pub send-10 : SendAt subject run n l 10
   unfolding staysTest allOf mem S.since S.sent S.sent10 held written
   send-10 = record {
     keeps = λ v i li w K. keep-none n l args strings order (before 10) (due 10) i li K refl;
     writes = λ v i r li lr ne w K. ap (verMsg (frame n l i)) (bits-at n l args strings order K);
   }
 
-  pub recv-10 : RecvAt table run n l 10
+  pub recv-10 : RecvAt subject run n l 10
   unfolding plainAfter isEcho mem staysTest allOf S.since S.holds S.sent S.sent10 judge kept dmFaults
   recv-10 = record {
     heard = record {
@@ -310,7 +311,7 @@ module _ (n l : ℕ) (args : ℕ → Args) (strings order : List ℕ) (X : Boxes
         (dms-are i m M ∙ sym (kept-dms i));
   }
 
-  pub list-10 : ListAt table run n l 10
+  pub list-10 : ListAt subject run n l 10
   unfolding S.hashed S.sent S.sent10
   list-10 = record {
     size = λ j lj. length-hashVec 10 _;
@@ -440,7 +441,7 @@ module _ (n l : ℕ) (args : ℕ → Args) (strings order : List ℕ) (X : Boxes
       (first-comm i k q lk ne lq) (second-comm i k q lk ne lq))
       (eq-block _ _ (macs-are i k q li lk ne lq ∙ sym (opens-is k q lk lq) ∙ sym d))
 
-  pub send-12 : SendAt table run n l 12
+  pub send-12 : SendAt subject run n l 12
   unfolding staysTest allOf mem S.since S.sent S.sent12 held written
   send-12 = record {
     keeps = λ v i li w K. keep-none n l args strings order (before 12) (due 12) i li K refl;
@@ -448,7 +449,7 @@ module _ (n l : ℕ) (args : ℕ → Args) (strings order : List ℕ) (X : Boxes
         λ t. dibiMsg (frame n l i) (delta-is n l args strings order K t) (bits-at n l args strings order K t) (dms-at n l args strings order K refl t);
   }
 
-  pub recv-12 : RecvAt table run n l 12
+  pub recv-12 : RecvAt subject run n l 12
   unfolding plainAfter isEcho mem staysTest allOf S.since S.sent S.sent12 judge kept dibiFaults
   recv-12 = record {
     heard = record {
@@ -463,7 +464,7 @@ module _ (n l : ℕ) (args : ℕ → Args) (strings order : List ℕ) (X : Boxes
     keeps = λ i li w K m M. keep-none n l args strings order (due 12) (before 14) i li K refl;
   }
 
-  pub list-12 : ListAt table run n l 12
+  pub list-12 : ListAt subject run n l 12
   unfolding S.hashed S.sent S.sent12
   list-12 = record {
     size = λ j lj. length-hashVec 12 _;

@@ -35,7 +35,8 @@ use Rattle.engine.specs.Plain.{isEcho}
 use Rattle.engine.specs.Honest.{Script, before, due, plainAfter, RecvAt, SendAt, ListAt}
 use Rattle.rounds.specs.Area.{ES, HS, H-COMMS, sizes, sizeOf, rows}
 use Rattle.rounds.specs.Opening.{Args}
-use Rattle.rounds.specs.Table.{table, judge, kept, held, written}
+use Rattle.rounds.specs.Table.{judge, kept, held, written}
+use Rattle.honest.specs.Subject.{subject}
 use Rattle.rounds.specs.Haand.{x, y, r, G, phi, u, phiAt, keyHash, uAt, zAt, macHash}
 use Rattle.rounds.specs.Flaand.{e, flaandMsg, eTold, uTold, eRows, zKey, h, hs, commMsg, commRows, hashMsg, hTold, opening, zeroSum, hFaults}
 use Rattle.alone.specs.Base.{rows-ext}
@@ -214,7 +215,7 @@ module _ (n l : ℕ) (args : ℕ → Args) (strings order : List ℕ) (X : Boxes
   unfolding S.sent15 flaandMsg kindOf countDue
   flaand-form j r = reads (Items 17 1) (leaky l) _ (pairs-trip (leaky l) (eOf j) _ small)
 
-  pub send-15 : SendAt table run n l 15
+  pub send-15 : SendAt subject run n l 15
   unfolding staysTest allOf mem S.since S.sent S.sent15 held written
   send-15 = record {
     keeps = λ v i li w K. keep-none n l args strings order (before 15) (due 15) i li K refl;
@@ -223,7 +224,7 @@ module _ (n l : ℕ) (args : ℕ → Args) (strings order : List ℕ) (X : Boxes
         (zs-at n l args strings order K refl q) r);
   }
 
-  pub recv-15 : RecvAt table run n l 15
+  pub recv-15 : RecvAt subject run n l 15
   unfolding plainAfter isEcho mem staysTest allOf S.since S.holds S.sent S.es S.hs judge kept
   recv-15 = record {
     heard = record {
@@ -239,7 +240,7 @@ module _ (n l : ℕ) (args : ℕ → Args) (strings order : List ℕ) (X : Boxes
   }
 
   -- every receiver hashes the list of the e
-  pub list-15 : ListAt table run n l 15
+  pub list-15 : ListAt subject run n l 15
   unfolding S.hashed S.sent S.sent15 flaandMsg kindOf
   list-15 = record {
     size = λ j lj. length-hashVec 15 _;
@@ -278,14 +279,14 @@ module _ (n l : ℕ) (args : ℕ → Args) (strings order : List ℕ) (X : Boxes
   unfolding S.holds sizeOf sizes
   fit-comms = (omega arith, λ i li. ap length (comms-are i) ∙ length-cells (frame n l i) (leaky l) 32 comm (λ k j lk ne lj. length-hash _))
 
-  pub send-17 : SendAt table run n l 17
+  pub send-17 : SendAt subject run n l 17
   unfolding staysTest allOf mem S.since S.sent S.sent17 held written
   send-17 = record {
     keeps = λ v i li w K. keep-none n l args strings order (before 17) (due 17) i li K refl;
     writes = λ v i r li lr ne w K. ap (commMsg (frame n l i)) (hs-at n l args strings order K refl);
   }
 
-  pub recv-17 : RecvAt table run n l 17
+  pub recv-17 : RecvAt subject run n l 17
   unfolding plainAfter isEcho mem staysTest allOf S.since S.holds S.sent S.hComms judge kept commRows
   recv-17 = record {
     heard = record {
@@ -298,7 +299,7 @@ module _ (n l : ℕ) (args : ℕ → Args) (strings order : List ℕ) (X : Boxes
         (rows-ext (frame n l i) (leaky l * 32) _ _ (λ k lk ne. ap (λ (s : List ℕ). take (leaky l * 32) (drop 8 s)) (M k lk ne)));
   }
 
-  pub list-17 : ListAt table run n l 17
+  pub list-17 : ListAt subject run n l 17
   unfolding S.hashed S.sent S.sent17
   list-17 = record {
     size = λ j lj. length-hashVec 17 _;
@@ -346,14 +347,14 @@ module _ (n l : ℕ) (args : ℕ → Args) (strings order : List ℕ) (X : Boxes
       (others-ext blocks i n _ (hOf t) (λ k lk ne. h-told i k t m (M k lk ne) lk lt ∙ h-at k t lk lt))
       ∙ blocks .comm (hOf t i) (others blocks i n (hOf t)) ∙ others-all blocks i n (hOf t) li ∙ h-sum t lt)))
 
-  pub send-19 : SendAt table run n l 19
+  pub send-19 : SendAt subject run n l 19
   unfolding staysTest allOf mem S.since S.sent S.sent19 held written
   send-19 = record {
     keeps = λ v i li w K. keep-none n l args strings order (before 19) (due 19) i li K refl;
     writes = λ v i r li lr ne w K. ap (hashMsg (frame n l i)) (hs-at n l args strings order K refl);
   }
 
-  pub recv-19 : RecvAt table run n l 19
+  pub recv-19 : RecvAt subject run n l 19
   unfolding plainAfter isEcho mem staysTest allOf S.since S.sent judge kept hFaults
   recv-19 = record {
     heard = record {
@@ -369,7 +370,7 @@ module _ (n l : ℕ) (args : ℕ → Args) (strings order : List ℕ) (X : Boxes
     keeps = λ i li w K m M. keep-none n l args strings order (due 19) (before 21) i li K refl;
   }
 
-  pub list-19 : ListAt table run n l 19
+  pub list-19 : ListAt subject run n l 19
   unfolding S.hashed S.sent S.sent19
   list-19 = record {
     size = λ j lj. length-hashVec 19 _;

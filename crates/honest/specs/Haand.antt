@@ -32,9 +32,10 @@ use Rattle.engine.specs.Plain.{isEcho}
 use Rattle.engine.specs.Honest.{Script, before, due, plainAfter, RecvAt, SendAt}
 use Rattle.rounds.specs.Area.{LEAKY, ZS, sizes, sizeOf}
 use Rattle.rounds.specs.Opening.{Args}
-use Rattle.rounds.specs.Table.{table, judge, kept, held, written}
+use Rattle.rounds.specs.Table.{judge, kept, held, written}
 use Rattle.rounds.specs.Haand.{x, y, H, G, mask, h0, h1, haandMsg, leakyRows, v, z, zRow, zRows, zAt}
 use Rattle.alone.specs.HaandLaws.{length-leakyRows, length-zRows, z-read}
+use Rattle.honest.specs.Subject.{subject}
 use Rattle.honest.specs.Script as S
 use Rattle.honest.specs.Inputs.{Boxes, deltas}
 use Rattle.honest.specs.Base.{list-form, list-len, Fit, delta-is, masks-at, bits-at, keep-one, Reads}
@@ -98,7 +99,7 @@ module _ (n l : ℕ) (args : ℕ → Args) (strings order : List ℕ) (X : Boxes
   unfolding S.holds S.zRows sizeOf sizes
   fit-zs = (omega arith, λ i li. length-zRows (frame n l i) (args i .masks) (args i .bits) (λ j. S.sent14 n l args strings order j i))
 
-  pub send-14 : SendAt table run n l 14
+  pub send-14 : SendAt subject run n l 14
   unfolding staysTest allOf mem S.since S.holds S.leakyRows S.sent S.sent14 held written
   send-14 = record {
     keeps = λ v i li w K. keep-one n l args strings order (before 14) (due 14) i li K LEAKY _ refl fit-leaky
@@ -108,7 +109,7 @@ module _ (n l : ℕ) (args : ℕ → Args) (strings order : List ℕ) (X : Boxes
         (bits-at n l args strings order K e) r);
   }
 
-  pub recv-14 : RecvAt table run n l 14
+  pub recv-14 : RecvAt subject run n l 14
   unfolding plainAfter isEcho mem staysTest allOf S.since S.holds S.sent S.zRows judge kept
   recv-14 = record {
     heard = record {

@@ -1,3 +1,5 @@
+pub mod Subject
+pub mod Course
 pub mod Script
 pub mod Inputs
 pub mod Base

@@ -27,10 +27,11 @@ use Rattle.engine.specs.Honest.{Lawful, due}
 use Rattle.engine.specs.PlainSession.{none-lent, HonestOpening}
 use Rattle.rounds.specs.Area.{workLen}
 use Rattle.rounds.specs.Opening.{Args, listsDue, buffersDue, masksFault, orFault, bytesFault, reason, section, area, spec, opening}
-use Rattle.rounds.specs.Table.{table, lent}
+use Rattle.rounds.specs.Table.{lent}
 use Rattle.rounds.specs.Toss as Toss
 use Rattle.alone.specs.Opening.{Lens, first-seven, spec-takes}
 use Rattle.alone.specs.Opening as A
+use Rattle.honest.specs.Subject.{opener, subject}
 use Rattle.honest.specs.Script as S
 use Rattle.honest.specs.Inputs.{Own, Boxes, Inputs}
 use Rattle.honest.specs.Base.{Run}
@@ -245,8 +246,8 @@ module _ (n l : ℕ) (args : ℕ → Args) (strings order : List ℕ) (X : Boxes
       let z : reason (lend (args b) (a .work) (a .out)) ≡ 0 = no-reason-lend b lb (a .work) (a .out) (g .work-len) (g .out-len) in
       rw (g .inputs-are) (z, spec-takes (lend (args b) (a .work) (a .out)) (frame n l b) (X .own b lb .party) z)
 
-  pub honest-opening : (W : Lawful table n l)
-      → HonestOpening table (S.script n l args strings (orderFor l order)) n l opening (Agree strings order) (Given n l args) W
+  pub honest-opening : (W : Lawful subject n l)
+      → HonestOpening subject (S.script n l args strings (orderFor l order)) n l opener (Agree strings order) (Given n l args) W
   unfolding S.sent S.sent1
   honest-opening W = record {
     first = record { work = λ b. area (args b); out = firstOut };

@@ -22,7 +22,7 @@ use Rattle.engine.specs.Step.{frame}
 use Rattle.rounds.specs.Area.{workLen}
 use Rattle.rounds.specs.Opening.{Args, listsDue, buffersDue, masksFault, orFault, bytesFault, reason}
 use Rattle.honest.specs.Inputs.{Own, Boxes, deltas, bitsOf, alphasOf, betasOf}
-use Rattle.alone.specs.Echo.{lawful}
+use Rattle.honest.specs.Course.{lawful}
 use Rattle.honest.specs.Opening.{lend, Given, honest-opening}
 use Rattle.honest.specs.Supply.{zeroArgs, zero-boxes}
 

@@ -26,8 +26,9 @@ use Rattle.engine.specs.Plain.{noLoan, isEcho}
 use Rattle.engine.specs.Honest.{Lawful, Honest}
 use Rattle.engine.specs.PlainSession.{Supply}
 use Rattle.rounds.specs.Area.{workLen}
-use Rattle.rounds.specs.Opening.{Args, opening}
-use Rattle.rounds.specs.Table.{table, lent}
+use Rattle.rounds.specs.Opening.{Args}
+use Rattle.rounds.specs.Table.{lent}
+use Rattle.honest.specs.Subject.{opener, subject}
 use Rattle.honest.specs.Script as S
 use Rattle.honest.specs.Inputs.{Boxes}
 use Rattle.honest.specs.Opening.{lend, Given, Agree, orderFor, honest-opening}
@@ -115,11 +116,11 @@ module _ (n l : ℕ) (args : ℕ → Args) (strings order : List ℕ) (X : Boxes
       go false ea false eb = refl
 
   -- an echo is neither round 6 nor round 21
-  not-due : (j k : ℕ) → isEcho table j ≡ true → isEcho table k ≡ false → j ≡ k → ⊥
-  not-due j k h z e = true-false (sym h ∙ ap (isEcho table) e ∙ z)
+  not-due : (j k : ℕ) → isEcho subject j ≡ true → isEcho subject k ≡ false → j ≡ k → ⊥
+  not-due j k h z e = true-false (sym h ∙ ap (isEcho subject) e ∙ z)
 
-  pub supply : (W : Lawful table n l) (H : Honest table (S.script n l args strings (orderFor l order)) n l)
-      → Supply table (S.script n l args strings (orderFor l order)) n l opening (Agree strings order) (Given n l args) W H
+  pub supply : (W : Lawful subject n l) (H : Honest subject (S.script n l args strings (orderFor l order)) n l)
+      → Supply subject (S.script n l args strings (orderFor l order)) n l opener (Agree strings order) (Given n l args) W H
       (honest-opening n l args strings order X W)
   unfolding isEcho mem
   supply W H = record {

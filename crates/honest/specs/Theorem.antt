@@ -27,11 +27,11 @@ use Rattle.engine.specs.Plain.{isEcho, stepsOf, protocolOf}
 use Rattle.engine.specs.Honest.{Lawful, plainAfter, Honest}
 use Rattle.engine.specs.PlainSession.{HonestOpening, sceneOf, dutyOf, every-written, castOf}
 use Rattle.rounds.specs.Area.{workLen}
-use Rattle.rounds.specs.Opening.{Args, opening}
-use Rattle.rounds.specs.Table.{table}
+use Rattle.rounds.specs.Opening.{Args}
+use Rattle.honest.specs.Subject.{opener, subject}
 use Rattle.honest.specs.Script as S
 use Rattle.honest.specs.Inputs.{Boxes, Inputs, deltas, alphasOf, betasOf}
-use Rattle.alone.specs.Echo.{lawful}
+use Rattle.honest.specs.Course.{lawful}
 use Rattle.honest.specs.Opening.{Given, Agree, orderFor, inputs-for, honest-opening}
 use Rattle.honest.specs.Supply.{supply}
 use Rattle.honest.specs.Premises.{Premises, boxes-of, zeroInputs, zero-premises}
@@ -44,15 +44,15 @@ use Rattle.honest.specs.Buckets.{send-21, recv-21}
 use Rattle.honest.specs.Beaver.{send-22, last-22}
 use Rattle.honest.specs.Results.{length-result, good-result, total-result}
 
--- the session of document 01: opening is `opening`, the rounds are the table's
+-- the session of document 01, after its opening
 abbrev pub session : Protocol
-session = protocolOf table
+session = protocolOf subject
 
 -- ---- WHAT IS CLAIMED, of n boxes with one l, box b opened with the inputs args b, all lent the r strings `strings` and the permutation `order`.
 -- Nothing is asked of these two: a list that is no permutation is refused by every box, with 18.
 module _ (n l : ℕ) (args : ℕ → Args) (strings order : List ℕ) (P : Premises n l args) where
   abbrev pub scene : Scene Args
-  scene = sceneOf table n l opening (Agree strings order) (Given n l args) (lawful n l (boxes-of n l args P .range))
+  scene = sceneOf subject n l opener (Agree strings order) (Given n l args) (lawful n l (boxes-of n l args P .range))
 
   -- "every list of openings and round calls in which a box takes a round only once its messages are there, whatever the order among boxes and
   -- whichever calls stand between that 01 refuses without ending a session"
@@ -92,7 +92,7 @@ module _ (n l : ℕ) (args : ℕ → Args) (strings order : List ℕ) (I : Input
   abbrev B : Boxes n l args
   B = I .boxes
 
-  pub honest : Honest table (S.script n l args strings order) n l
+  pub honest : Honest subject (S.script n l args strings order) n l
   unfolding plainAfter isEcho mem allOf
   honest = record {
     plain = 1 ∷ 3 ∷ 4 ∷ 5 ∷ 6 ∷ 8 ∷ 10 ∷ 12 ∷ 14 ∷ 15 ∷ 17 ∷ 19 ∷ 21 ∷ [];
@@ -140,7 +140,7 @@ module _ (n l : ℕ) (args : ℕ → Args) (strings order : List ℕ) (I : Input
     last = last-22 n l args strings order I (leaky-triple n l args strings order B);
   }
 
-steps-are : (two : Bool) → stepsOf table two ≡ pick two 14 22
+steps-are : (two : Bool) → stepsOf subject two ≡ pick two 14 22
 unfolding stepsOf
 steps-are true = refl
 steps-are false = refl
@@ -160,17 +160,17 @@ module _ (n l : ℕ) (args : ℕ → Args) (strings order : List ℕ) (P : Premi
   abbrev I′ : Inputs n l args (orderFor l order)
   I′ = inputs-for n l args order X
 
-  abbrev W : Lawful table n l
+  abbrev W : Lawful subject n l
   W = lawful n l (X .range)
 
-  abbrev H : Honest table (S.script n l args strings order′) n l
+  abbrev H : Honest subject (S.script n l args strings order′) n l
   H = honest n l args strings order′ I′
 
-  abbrev opens : HonestOpening table (S.script n l args strings order′) n l opening (Agree strings order) (Given n l args) W
+  abbrev opens : HonestOpening subject (S.script n l args strings order′) n l opener (Agree strings order) (Given n l args) W
   opens = honest-opening n l args strings order X W
 
   abbrev duty : Duty (scene n l args strings order P)
-  duty = dutyOf table (S.script n l args strings order′) n l opening (Agree strings order) (Given n l args) W H opens
+  duty = dutyOf subject (S.script n l args strings order′) n l opener (Agree strings order) (Given n l args) W H opens
 
   abbrev result : ℕ → List ℕ
   result b = S.resultOf n l args strings order′ b
@@ -178,7 +178,7 @@ module _ (n l : ℕ) (args : ℕ → Args) (strings order : List ℕ) (P : Premi
   -- what a done box wrote last
   wrote-is : (cs : List (Call Args)) → Fine n l args strings order P cs → (b : ℕ) (x : Box) → Stands n l args strings order P cs b x
       → Done session (x .session) → (b < n) × (x .wrote ≡ result b)
-  wrote-is = every-written table (S.script n l args strings order′) n l opening (Agree strings order) (Given n l args) W H opens
+  wrote-is = every-written subject (S.script n l args strings order′) n l opener (Agree strings order) (Given n l args) W H opens
 
   mac-rule : (j k : ℕ) → j < n → k < n → j ≢ k → (t : ℕ) → t < l
       → macAt (result j) (t * recordLen n) k
@@ -218,13 +218,13 @@ module _ (n l : ℕ) (args : ℕ → Args) (strings order : List ℕ) (P : Premi
   -- ---- its premises can be met, and all boxes come to be done, where r strings and permutation are of due length and the permutation is one
   module _ (hs : length strings ≡ rLen l) (ho : length order ≡ leaky l) (hp : isPerm order ≡ true) where
     abbrev cast : Cast (scene n l args strings order P) duty
-    cast = castOf table (S.script n l args strings order′) n l opening (Agree strings order) (Given n l args) W H opens
+    cast = castOf subject (S.script n l args strings order′) n l opener (Agree strings order) (Given n l args) W H opens
         (supply n l args strings order X hs ho hp W H)
 
     pub some-list : (cs : List (Call Args)) × Fine n l args strings order P cs
         × ((b : ℕ) → b < n → (x : Box) × Stands n l args strings order P cs b x × Done session (x .session))
     some-list = (
-      robin (scene n l args strings order P) duty cast (stepsOf table (eqb n 2)),
+      robin (scene n l args strings order P) duty cast (stepsOf subject (eqb n 2)),
       fair-robin (scene n l args strings order P) duty cast,
       robin-done (scene n l args strings order P) duty cast,
     )

@@ -32,7 +32,8 @@ use Rattle.engine.specs.Plain.{isEcho}
 use Rattle.engine.specs.Honest.{Script, before, due, plainAfter, RecvAt, SendAt, ListAt}
 use Rattle.rounds.specs.Area.{COMMS, JOINT, PAIR-COMMS, PAIRWISE, sizes, sizeOf}
 use Rattle.rounds.specs.Opening.{Args}
-use Rattle.rounds.specs.Table.{table, judge, kept, held, written}
+use Rattle.rounds.specs.Table.{judge, kept, held, written}
+use Rattle.honest.specs.Subject.{subject}
 use Rattle.rounds.specs.Toss.{commitment, commMsg, verMsg, told, toldRows, opening, jointSeed, pairwiseSeeds}
 use Rattle.alone.specs.Base.{rows-ext, length-rows, chunk-rows}
 use Rattle.rounds.specs.FashareLaws.{length-hash}
@@ -145,7 +146,7 @@ module _ (n l : ℕ) (args : ℕ → Args) (strings order : List ℕ) (X : Boxes
   unfolding S.holds S.comms S.sent1 sizeOf sizes
   fit-comms = (omega arith, λ i li. length-told (frame n l i) (λ j. S.sent1 n l args strings order j i) (λ k. args k .seed) (λ k lk ne. refl))
 
-  pub recv-1 : RecvAt table run n l 1
+  pub recv-1 : RecvAt subject run n l 1
   unfolding plainAfter isEcho mem staysTest allOf S.since S.holds S.sent S.sent1 S.comms judge kept
   recv-1 = record {
     heard = record {
@@ -157,7 +158,7 @@ module _ (n l : ℕ) (args : ℕ → Args) (strings order : List ℕ) (X : Boxes
     keeps = λ i li w K m M. keep-one n l args strings order (due 1) (before 3) i li K COMMS _ refl fit-comms (told-ext (frame n l i) _ _ M);
   }
 
-  pub list-1 : ListAt table run n l 1
+  pub list-1 : ListAt subject run n l 1
   unfolding S.hashed S.sent S.sent1
   list-1 = record {
     size = λ j lj. length-hashVec 1 _;
@@ -165,7 +166,7 @@ module _ (n l : ℕ) (args : ℕ → Args) (strings order : List ℕ) (X : Boxes
   }
 
   -- ---- round 3
-  pub send-3 : SendAt table run n l 3
+  pub send-3 : SendAt subject run n l 3
   unfolding staysTest allOf mem S.since S.sent S.sent3 held written
   send-3 = record {
     keeps = λ v i li w K. keep-none n l args strings order (before 3) (due 3) i li K refl;
@@ -179,7 +180,7 @@ module _ (n l : ℕ) (args : ℕ → Args) (strings order : List ℕ) (X : Boxes
   told-seed : (j : ℕ) → j < n → (m : List ℕ) → m ≡ verMsg (args j .seed) → told m ≡ args j .seed
   told-seed j lj m e = ap told e ∙ told-ver (args j .seed) (X .own j lj .seed-len)
 
-  pub recv-3 : RecvAt table run n l 3
+  pub recv-3 : RecvAt subject run n l 3
   unfolding plainAfter isEcho mem staysTest allOf S.since S.holds S.sent S.sent1 S.sent3 S.comms S.joint judge kept
   recv-3 = record {
     heard = record {
@@ -195,7 +196,7 @@ module _ (n l : ℕ) (args : ℕ → Args) (strings order : List ℕ) (X : Boxes
   }
 
   -- ---- round 4
-  pub send-4 : SendAt table run n l 4
+  pub send-4 : SendAt subject run n l 4
   unfolding staysTest allOf mem S.since S.sent S.sent4 held written
   send-4 = record {
     keeps = λ v i li w K. keep-none n l args strings order (before 4) (due 4) i li K refl;
@@ -213,7 +214,7 @@ module _ (n l : ℕ) (args : ℕ → Args) (strings order : List ℕ) (X : Boxes
     λ i li. length-told (frame n l i) (λ j. S.sent4 n l args strings order j i) (λ k. pair k i) (λ k lk ne. refl),
   )
 
-  pub recv-4 : RecvAt table run n l 4
+  pub recv-4 : RecvAt subject run n l 4
   unfolding plainAfter isEcho mem staysTest allOf S.since S.holds S.sent S.sent4 S.pairComms judge kept msgLen countDue kindOf
   recv-4 = record {
     heard = record {
@@ -227,7 +228,7 @@ module _ (n l : ℕ) (args : ℕ → Args) (strings order : List ℕ) (X : Boxes
   }
 
   -- ---- round 5
-  pub send-5 : SendAt table run n l 5
+  pub send-5 : SendAt subject run n l 5
   unfolding staysTest allOf mem S.since S.sent S.sent5 held written
   send-5 = record {
     keeps = λ v i li w K. keep-none n l args strings order (before 5) (due 5) i li K refl;
@@ -242,7 +243,7 @@ module _ (n l : ℕ) (args : ℕ → Args) (strings order : List ℕ) (X : Boxes
   told-pair i j li lj m e =
       ap told e ∙ told-ver (pair j i) (length-chunk 32 n i (args j .pairs) li (omega (arith, X .own j lj .pairs-len)))
 
-  pub recv-5 : RecvAt table run n l 5
+  pub recv-5 : RecvAt subject run n l 5
   unfolding plainAfter isEcho mem staysTest allOf S.since S.holds S.sent S.sent4 S.sent5 S.pairComms S.pairwise judge kept msgLen countDue kindOf
   recv-5 = record {
     heard = record {

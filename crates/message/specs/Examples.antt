@@ -1,5 +1,5 @@
--- Document 01's words on counts, bools and options, as rows: a kind, the count due, a message, and what it is refused with. One theorem checks
--- all; a count whose items can't fit (2^64 - 1, say) is `decodes-bad` of FormatLaws.
+-- Document 01's words on counts, bools and options, as rows: a kind, the count due, a message, and what it is refused with. One theorem
+-- checks all. A count above the bytes behind it (2^64 − 1, say) is 13 by the law `form-over` of FormatLaws, for every kind.
 use mathlib.Core.Path.{_≡_, refl}
 use mathlib.Core.Bool.{Bool, true, _&&_}
 use mathlib.Core.List.{List, [], _∷_, _++_}

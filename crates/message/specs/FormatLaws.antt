@@ -279,6 +279,14 @@ module _ (K : Kind) (m : List ℕ) where
       (all-false (countOf m) (λ t. ltb 0 (itemLen K (drop (itemAt K m t) m))) t l
       (le-ltb 0 (itemLen K (drop (itemAt K m t) m)) (omega (arith, e))))
 
+  -- a count above the bytes behind it: the items don't fit, as each takes at least one
+  pub decodes-over : length m < 8 + countOf m → decodes K m ≡ false
+  decodes-over h = go (decodes K m) refl
+    where
+      go : (b : Bool) → decodes K m ≡ b → b ≡ false
+      go true e = absurd (omega (arith, at-ge (countOf m) (decoded e .item), at-le (decoded e .head) (countOf m)))
+      go false e = refl
+
   pub list-some : decodes K m ≡ true → listLen K m ≡ itemAt K m (countOf m)
   unfolding listLen
   list-some e = ap (λ (b : Bool). pick b (itemAt K m (countOf m)) 0) e
@@ -321,6 +329,10 @@ module _ (K : Kind) (count : ℕ) (m : List ℕ) where
   pub form-bad : decodes K m ≡ false → formOf K count m ≡ 13
   unfolding formOf
   form-bad e = ap (λ (b : Bool). pick b (pick (eqb (countOf m) count && innersDue K count m) 0 6) 13) e
+
+  -- 13, whatever count is due
+  pub form-over : length m < 8 + countOf m → formOf K count m ≡ 13
+  form-over h = form-bad (decodes-over K m h)
 
   pub form-count : decodes K m ≡ true → (countOf m ≡ count → ⊥) → formOf K count m ≡ 6
   unfolding formOf

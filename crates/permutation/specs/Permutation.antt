@@ -1,4 +1,4 @@
--- "a permutation of 0 to l·b − 1" (document 01, refusal 18): every entry is below the length, and none stands twice.
+-- A "permutation of 0 to l·b − 1" (document 01, refusal 18): every entry is below the length, and none stands twice.
 use Prim.Native.Nat.{ℕ}
 use mathlib.Core.Bool.{Bool, not, _&&_}
 use mathlib.Core.List.{List}

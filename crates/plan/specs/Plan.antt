@@ -41,7 +41,7 @@ other i q = pick (ltb q i) q (q + 1)
 
 -- ---- counts
 
--- "b = bucket_size(l): 3 from 280,000, 4 from 3,100, else 5"
+-- "b = `bucket_size`(l): 3 from 280,000, 4 from 3,100, else 5"
 unfoldable pub bucketSize : ℕ → ℕ
 bucketSize l = pick (leb 280000 l) 3 (pick (leb 3100 l) 4 5)
 
@@ -147,7 +147,7 @@ outLen n l k =
     (pick (eqb (writes n k) 0) 0
     (within n l ((n - 1) * msgLen n l (writes n k))))
 
--- "The r Blocks are lent with the call that writes fabitn, the permutation (32-bit numbers) with the one that writes dvalue; both are
+-- "The r Blocks are lent with the call that writes `fabitn`, the permutation (32-bit numbers) with the one that writes `dvalue`; both are
 -- empty otherwise": the bytes of r, and the numbers of the permutation
 unfoldable pub rDue : ℕ → ℕ → ℕ → ℕ
 rDue n l k = pick (eqb (writes n k) 6) (within n l (rLen l)) 0

@@ -82,7 +82,7 @@ beq-true true false h = absurd (true-false (sym h))
 beq-true false true h = absurd (true-false (sym h))
 beq-true false false h = refl
 
--- "the call that writes fabitn" is the one for round 5, "the one that writes dvalue" that for round 20, or 19 for two parties
+-- "the call that writes `fabitn`" is the one for round 5, "the one that writes `dvalue`" that for round 20, or 19 for two parties
 pub writes-fabitn : (n k : ℕ) → eqb (writes n k) 6 ≡ eqb k 5
 unfolding writes isRound nextRound lent? writesIf roundIf nextIf
 writes-fabitn n k = go (ltb k 23) refl

@@ -1,5 +1,5 @@
 -- `fabitn` (document 01, "What each round means"; WRK17b, Pi_aBit): 120 random strings check the MACs of all bits. Round 6.
--- `bits` is the list of records, r the strings, `m k` the message of party k.
+-- `recs` is the list of records, r the strings, `m k` the message of party k.
 use mathlib.Core.Bool.{Bool}
 use mathlib.Core.List.{List}
 use Prim.Native.Nat.{ℕ, _+_, _*_}

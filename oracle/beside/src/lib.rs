@@ -33,6 +33,8 @@ pub struct Ran {
     pub probes: usize,
     /// CPU time of each party, its calls alone.
     pub nanoseconds: Vec<u64>,
+    /// CPU time of each round call, by round and party.
+    pub calls: BTreeMap<(u8, usize), u64>,
 }
 
 /// How much is looked at beside messages, results and answers.
@@ -315,6 +317,7 @@ pub fn run(
     let mut broken = vec![];
     let mut probes = 0;
     let mut nanoseconds = vec![0; n];
+    let mut calls = BTreeMap::new();
     let mut sent: BTreeMap<(u8, usize), Vec<u8>> = BTreeMap::new();
     let mut ends: Vec<Option<End>> = vec![None; n];
     let all: Vec<u8> = rounds(n).collect();
@@ -477,7 +480,9 @@ pub fn run(
             let before = (care != Care::Time).then(|| h.out.clone());
             let start = cpu_time();
             let (number, party) = h.round(round.into(), &t);
-            nanoseconds[i] += cpu_time() - start;
+            let took = cpu_time() - start;
+            nanoseconds[i] += took;
+            calls.insert((round, i), took);
             if number != 0 {
                 ends[i] = Some(End::Refused {
                     number,
@@ -528,6 +533,7 @@ pub fn run(
         broken,
         probes,
         nanoseconds,
+        calls,
     }
 }
 

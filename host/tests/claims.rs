@@ -1,0 +1,116 @@
+//! docs/CLAIMS.md is held to the tree: each definition, contract, edit and run that it names is there, and its quotations are the documents'.
+
+use std::fs;
+use std::path::{Path, PathBuf};
+
+/// The repository.
+fn root() -> PathBuf {
+    Path::new(env!("CARGO_MANIFEST_DIR")).join("..")
+}
+
+/// A row: the quotation, what says it, edits, runs, what is not covered.
+fn rows() -> Vec<Vec<String>> {
+    let text = fs::read_to_string(root().join("docs/CLAIMS.md")).unwrap();
+    let rows = text.lines().filter(|line| line.starts_with("| \""));
+    rows.map(|row| row.trim_matches('|').split('|').map(|cell| cell.trim().to_string()).collect()).collect()
+}
+
+/// The names between backticks.
+fn named(cell: &str) -> Vec<&str> {
+    cell.split('`').skip(1).step_by(2).collect()
+}
+
+/// Whether a line gives the name its meaning: in code its `fn` or `struct`, in definitions its signature.
+fn defines(line: &str, name: &str, code: bool) -> bool {
+    let mut words = line.split(|c: char| c.is_whitespace() || (code && "(<".contains(c))).filter(|word| !word.is_empty());
+    if code {
+        return words.any(|word| ["fn", "struct"].contains(&word)) && words.next() == Some(name);
+    }
+    let block = words.clone().take(3).any(|word| ["record", "data"].contains(&word));
+    words.find(|word| !["pub", "abbrev", "unfoldable", "record", "data"].contains(word)) == Some(name)
+        && (block || words.next() == Some(":"))
+}
+
+/// What is wrong with a reference `FILE: name, name` below a folder, or with a plain path.
+fn missing(folder: &str, reference: &str) -> Option<String> {
+    let (file, names) = reference.split_once(": ").unwrap_or((reference, ""));
+    let path = root().join(folder).join(file);
+    if names.is_empty() {
+        return (!path.exists()).then(|| format!("there is no {folder}{file}"));
+    }
+    let Ok(text) = fs::read_to_string(&path) else { return Some(format!("there is no {folder}{file}")) };
+    let code = !file.ends_with(".antt");
+    let lost: Vec<&str> = names.split(", ").filter(|name| !text.lines().any(|line| defines(line, name, code))).collect();
+    (!lost.is_empty()).then(|| format!("{folder}{file} defines no {}", lost.join(", ")))
+}
+
+#[test]
+fn every_name_is_in_the_tree() {
+    let rows = rows();
+    assert!(rows.len() > 60, "{} rows", rows.len());
+    let mut wrong = vec![];
+    for row in &rows {
+        assert_eq!(row.len(), 5, "{row:?}");
+        wrong.extend(named(&row[1]).into_iter().filter_map(|name| missing("crates/", name)));
+        for edit in named(&row[2]) {
+            let (name, label) = edit.split_once('/').unwrap_or_else(|| panic!("'{edit}' is no edit"));
+            wrong.extend(missing("crates/", &format!("{name}/must-fail/{label}.edit")));
+        }
+        wrong.extend(named(&row[3]).into_iter().filter_map(|name| missing("", name)));
+    }
+    assert!(wrong.is_empty(), "docs/CLAIMS.md:\n{}", wrong.join("\n"));
+}
+
+/// The quotation of a row, in its parts: ` .. ` stands for what is left out.
+fn parts(row: &[String]) -> Vec<String> {
+    let quoted = row[0].strip_prefix('"').and_then(|cell| cell.rsplit_once('"')).unwrap_or_else(|| panic!("{row:?}")).0;
+    quoted.split(" .. ").map(|part| part.to_string()).collect()
+}
+
+/// Where the parts stand one after another in a paragraph.
+fn within(paragraph: &str, parts: &[String]) -> bool {
+    let mut rest = paragraph;
+    parts.iter().all(|part| rest.find(part.as_str()).map(|at| rest = &rest[at + part.len()..]).is_some())
+}
+
+/// With the documents beside the repository: every quotation is theirs, letter by letter; every paragraph of document 01 has a row; and the rows of the
+/// three demands have all of their words.
+#[test]
+fn every_quotation_is_the_documents() {
+    let shared = root().join("../shared/docs");
+    let (Ok(scope), Ok(demands)) = (fs::read_to_string(shared.join("src/01-scope.md")), fs::read_to_string(shared.join("demands.md")))
+    else {
+        eprintln!("no documents beside the repository: not compared");
+        return;
+    };
+    // A bar would end the cell; document 01 has none.
+    let paragraphs: Vec<&str> = scope.lines().filter(|line| !line.is_empty() && !line.starts_with('#')).collect();
+    let mut three: Vec<String> = demands
+        .lines()
+        .filter(|line| ["> 1. ", "> 2. ", "> 3. "].iter().any(|n| line.starts_with(n)))
+        .map(|line| line[5..].to_string())
+        .collect();
+    assert_eq!(three.len(), 3);
+    let rows = rows();
+    let mut wrong = vec![];
+    for row in &rows {
+        let parts = parts(row);
+        if !paragraphs.iter().any(|paragraph| within(paragraph, &parts)) && !three.iter().any(|demand| within(demand, &parts)) {
+            wrong.push(format!("not the documents' words: {}", row[0]));
+        }
+    }
+    for paragraph in paragraphs {
+        if !rows.iter().any(|row| within(paragraph, &parts(row))) {
+            wrong.push(format!("no row for: {paragraph}"));
+        }
+    }
+    for row in &rows {
+        for demand in &mut three {
+            *demand = demand.replacen(&parts(row)[0], "", 1);
+        }
+    }
+    wrong.extend(
+        three.iter().filter(|rest| rest.contains(char::is_alphanumeric)).map(|rest| format!("no row for the demand's words: {rest}")),
+    );
+    assert!(wrong.is_empty(), "docs/CLAIMS.md:\n{}", wrong.join("\n"));
+}
