@@ -19,8 +19,8 @@ use Rattle.engine.specs.World.{Box, sessionOf}
 use Rattle.engine.specs.Area.{toOthers, mem, also}
 use Rattle.engine.specs.Plain.{isEcho, numberOf, digests, protocolOf}
 use Rattle.engine.specs.Honest.{due, prior, plainAfter}
-use Rattle.engine.specs.Alone.{Turn, turnBox, turns, Tale, AllRead, wroteFor, sureAt, Lives, State, lives, over, Told, Duties, Follows, first, all-told}
-use Rattle.engine.specs.Heard.{taken, answer, heard, lentWith, all-heard}
+use Rattle.engine.specs.Alone.{Tale, wroteFor, sureAt, Lives, State, lives, over, Told, Duties, AsTold, first, all-told}
+use Rattle.engine.specs.OneBox.{Turn, turnBox, turns, AllRead, taken, answer, heard, lentWith, all-heard}
 use Rattle.rounds.specs.Area.{ROUNDS-OWN, at}
 use Rattle.rounds.specs.Echo.{echoMsg, echo}
 use Rattle.rounds.specs.Opening.{Args, reason, spec}
@@ -94,7 +94,7 @@ module _ (a : Args) (q : ℕ → Loan) (m : ℕ → ℕ → List ℕ) where
     I : Given f a m
     I = given a z (q 6 .r) (q 21 .perm) m b h
 
-    start : Follows table (f .n) (f .l) (f .i) U m q (duties I) (openedBox a)
+    start : AsTold table (f .n) (f .l) (f .i) U m q (duties I) (openedBox a)
     unfolding F.sent F.sent1
     start =
         rw (spec-takes a f refl z)
