@@ -11,22 +11,27 @@ use lib.Dec.{eqb}
 use borrow.Author.Tests.{leb-true, le-leb, eq-eqb, ne-eqb}
 use Rattle.lists.specs.Pick.{pick}
 use Rattle.lists.specs.All.{allOf, true-false}
+use Rattle.lists.specs.Rows.{chunk}
 use Rattle.lists.specs.Bytes.{Bytes, bytes-nil, bytes-take, bytes-drop}
+use Rattle.algebra.specs.Sum.{neq, Same, apart, apart?}
+use Rattle.encode.specs.Encode.{noneItem, someItem}
 use Rattle.engine.specs.declared.Frame.{Frame}
 use Rattle.engine.specs.declared.Session.{Session}
 use Rattle.engine.specs.Step.{frame, Loan, Outcome, other, mask, part}
 use Rattle.engine.specs.World.{Box, sessionOf}
-use Rattle.engine.specs.Area.{toOthers, mem, also}
-use Rattle.engine.specs.Plain.{isEcho, numberOf, digests, protocolOf}
+use Rattle.engine.specs.Area.{toOthers, toOthers-ext, mem, also}
+use Rattle.engine.specs.Plain.{rowsOf, isEcho, numberOf, digests, protocolOf}
+use Rattle.engine.specs.PlainLaws.{chunk-rows}
 use Rattle.engine.specs.Honest.{due, prior, plainAfter}
 use Rattle.engine.specs.Alone.{Tale, wroteFor, sureAt, Lives, State, lives, over, Told, Duties, AsTold, first, all-told}
 use Rattle.engine.specs.OneBox.{Turn, turnBox, turns, AllRead, taken, answer, heard, lentWith, all-heard}
 use Rattle.rounds.specs.Area.{ROUNDS-OWN, at}
-use Rattle.rounds.specs.Echo.{echoMsg, echo}
+use Rattle.rounds.specs.Echo.{hashVec, echoMsg, echo}
 use Rattle.rounds.specs.Opening.{Args, reason, spec}
 use Rattle.rounds.specs.Table.{table}
 use Rattle.alone.specs.Formula as F
 use Rattle.alone.specs.Holds.{since, holds, tale}
+use Rattle.alone.specs.Cells.{encode-ext}
 use Rattle.alone.specs.Given.{Given}
 use Rattle.alone.specs.Echo.{lawful, length-hashVec}
 use Rattle.alone.specs.Opening.{ByteArgs, given, opened, spec-takes}
@@ -105,6 +110,23 @@ module _ (a : Args) (q : ℕ → Loan) (m : ℕ → ℕ → List ℕ) where
         → Told table (f .n) (f .l) (f .i) U m q (turns (protocolOf table) (openedBox a) cs)
     told-alone cs r = all-told table (f .n) (f .l) (f .i) U m q (duties I) cs (openedBox a) start r
 
+-- ---- an echo without the rows of hashes
+echo-read : (f : Frame) (a : Args) (strings order : List ℕ) (m : ℕ → ℕ → List ℕ) (k r : ℕ)
+    → echoMsg (f .n) (f .i) (digests table k f (m k)) r ≡ F.echoOf f a strings order m k r
+unfolding echoMsg digests F.echoOf someItem noneItem
+echo-read f a strings order m k r =
+    encode-ext (f .n) _ _ (λ j lj. go j lj (neq (f .i) j) (apart? (f .i) j))
+  where
+    h : ℕ → List ℕ
+    h j = hashVec (f .l) k (m k j)
+
+    go : (j : ℕ) → j < f .n → (b : Bool) → Same (f .i) j b
+        → pick (b && neq r j) (1 ∷ chunk 16 j (rowsOf f h)) (0 ∷ []) ≡ pick (b && neq r j) (1 ∷ h j) (0 ∷ [])
+    go j lj false s = refl
+    go j lj true (apart ne) =
+        ap (λ (x : List ℕ). pick (neq r j) (1 ∷ x) (0 ∷ []))
+        (chunk-rows f h (λ j lj ne. length-hashVec (f .l) k (m k j)) j lj ne)
+
 -- ---- THE CLAIM
 -- all that the calls were lent to read is bytes
 abbrev pub ByteCalls : List Turn → Type 0
@@ -173,8 +195,7 @@ module _ (a : Args) (cs : List Turn) where
   -- that is over has a work area of zeros.
   pub record Claim : Type 0 where
     pub messages : number ≢ 0 → isEcho table number ≡ false → box .wrote ≡ toOthers n i (F.sent (a .party) a strings order mail number)
-    pub echoes : isEcho table number ≡ true
-        → box .wrote ≡ toOthers n i (echoMsg n i (digests table (prior number) (a .party) (mail (prior number))))
+    pub echoes : isEcho table number ≡ true → box .wrote ≡ toOthers n i (F.echoOf (a .party) a strings order mail (prior number))
     pub results : number ≡ 0 → box .wrote ≡ F.result (a .party) a strings order mail
     pub session-is : box .session .due ≢ 0 → box .session ≡ sessionOf n l i number
     pub sections : box .session .due ≢ 0 → (s : ℕ) → s < ROUNDS-OWN → since s ≤ sure
@@ -189,7 +210,8 @@ module _ (a : Args) (cs : List Turn) where
   unfolding wroteFor sureAt at echo
   claim t = record {
     messages = λ h e. t .wrote-is ∙ rw (ne-eqb number 0 h, e) refl;
-    echoes = λ e. t .wrote-is ∙ rw (ne-eqb number 0 (some e), e) refl;
+    echoes = λ e. t .wrote-is ∙ rw (ne-eqb number 0 (some e), e)
+        (toOthers-ext n i _ _ (λ r lr nr. echo-read (a .party) a strings order mail (prior number) r));
     results = λ z. t .wrote-is ∙ rw (eq-eqb number 0 z) refl;
     session-is = λ h. live h (t .state) .session-is;
     sections = λ h s ls le. live h (t .state) .known .has s ls (le-leb _ _ le);

@@ -130,9 +130,6 @@ module _ (T : Table) (n l i : ℕ) (U : Tale) (m : ℕ → ℕ → List ℕ) (q 
     pub last : LastAt (T .last)
 
   -- ---- THE PROOF
-  abbrev box : ℕ → List ℕ → ℕ → List ℕ → Box
-  box k w d o = record { session = sessionOf n l i k; work = w; rounds = d; wrote = o }
-
   -- what is known besides, when round k is due
   pub record Plainly (k : ℕ) (w : List ℕ) : Type 0 where
     pub some : 0 < k
