@@ -16,8 +16,8 @@ use Rattle.rounds.specs.Buckets.{Triple, permBytes}
 use Rattle.rounds.specs.Beaver as B
 use Rattle.alone.specs.Formula as F
 use Rattle.alone.specs.Holds.{tripleRows}
+use Rattle.alone.specs.Cells.{encode-ext}
 use Rattle.alone.specs.Given.{Given}
-use Rattle.alone.specs.FlaandLaws.{encode-ext}
 use Rattle.alone.specs.BucketsLaws.{Ordered, a-read, c-read, small-abc, b-is}
 
 pub agree-finish : (n i : ℕ) (c β a c′ β′ a′ : Share) (p q : Bool) → Agree n i c c′ → Agree n i β β′ → Agree n i a a′

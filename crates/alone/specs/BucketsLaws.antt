@@ -30,8 +30,8 @@ use Rattle.rounds.specs.Beaver as Beaver
 use Rattle.alone.specs.Formula as F
 use Rattle.alone.specs.Holds.{dRows, tripleRows}
 use Rattle.alone.specs.Given.{Given, small-x}
-use Rattle.alone.specs.Cells.{row-byte, part-in}
-use Rattle.alone.specs.FlaandLaws.{encode-ext, z-share-read, small-z}
+use Rattle.alone.specs.Cells.{row-byte, part-in, encode-ext}
+use Rattle.alone.specs.FlaandLaws.{z-share-read, small-z}
 
 -- ---- the permutation in bytes
 module _ (f : Frame) (p : List ℕ) (t : ℕ) (lt : t < leaky (f .l)) where

@@ -22,8 +22,7 @@ use Rattle.rounds.specs.Opening.{Args}
 use Rattle.rounds.specs.Fashare.{d0, d1, dmAt, dmFault, dmFaults, dmRows, dmRow, others1, dibiMsg}
 use Rattle.rounds.specs.DmLaws.{Dues, dm-due, dues-place, dues-in, first-clean}
 use Rattle.alone.specs.Formula as F
-use Rattle.alone.specs.Cells.{head-part, length-cells, cell}
-use Rattle.alone.specs.FlaandLaws.{encode-ext}
+use Rattle.alone.specs.Cells.{head-part, length-cells, cell, encode-ext}
 
 pub dm-some : (n : ℕ) → 0 < dmLen n
 unfolding dmLen

@@ -2,7 +2,7 @@
 use mathlib.Core.Path.{_≡_, refl, sym, ap, _∙_}
 use mathlib.Core.Bool.{Bool}
 use mathlib.Core.Logic.{_≢_}
-use mathlib.Core.List.{List, [], _++_, append-nil}
+use mathlib.Core.List.{List, [], append-nil}
 use Prim.Native.Nat.{ℕ, _+_, _*_, _<_}
 use native.Mathlib.Nat.{add-zero}
 use native.Mathlib.Omega.{arith}
@@ -12,12 +12,12 @@ use Rattle.lists.specs.Rows.{getD-chunk, cat-ext}
 use Rattle.algebra.specs.Group.{XorGroup, bits, sel, odd, num, odd-num, ac}
 use Rattle.algebra.specs.Sum.{others, others-op}
 use Rattle.block.specs.declared.Block.{Block}
-use Rattle.block.specs.Block.{blockAt, le8, bytesOf, Small}
+use Rattle.block.specs.Block.{blockAt, bytesOf, Small}
 use Rattle.block.specs.Group.{blocks}
 use Rattle.block.specs.Trip.{small-at, small-xor, small-sel, small-others, length-bytesOf, block-bytesOf}
 use Rattle.blake3.specs.Tree.{hash}
 use Rattle.share.specs.ShareLaws.{SmallShare, Agree}
-use Rattle.encode.specs.Encode.{encode, bitBlock}
+use Rattle.encode.specs.Encode.{bitBlock}
 use Rattle.plan.specs.Plan.{leaky}
 use Rattle.engine.specs.declared.Frame.{Frame}
 use Rattle.rounds.specs.Area.{rows}
@@ -29,13 +29,8 @@ use Rattle.alone.specs.Formula as F
 use Rattle.alone.specs.Holds.{hRows}
 use Rattle.alone.specs.Given.{Given, small-delta, small-r}
 use Rattle.alone.specs.Base.{chunk-rows, length-rows}
-use Rattle.alone.specs.Cells.{row-block}
+use Rattle.alone.specs.Cells.{row-block, encode-ext}
 use Rattle.alone.specs.HaandLaws.{small-G, small-phi, phi-read, key-hash-read, u-read, z-read, mac-hash-read}
-
--- lists of items that are the same, one by one
-pub encode-ext : (c : ℕ) (g h : ℕ → List ℕ) → ((t : ℕ) → t < c → g t ≡ h t) → encode c g ≡ encode c h
-unfolding encode
-encode-ext c g h e = (λ q. le8 c ++ cat-ext c g h e q)
 
 -- ---- h, as it is computed and as document 01 has it
 h-sort : {A : Type 0} (G : XorGroup A) (a b c d p q : A)

@@ -1,7 +1,7 @@
 -- What one box sends and what it ends with, whoever it talks to (document 01, "What each round means"): of what it was opened with, a, of
 -- the r Blocks and the permutation that it was lent, strings and order, and of the messages that it received: `m k j` is party j's for
 -- round k. Nothing here knows a work area.
-use mathlib.Core.Bool.{Bool, cond}
+use mathlib.Core.Bool.{Bool, cond, _&&_}
 use mathlib.Core.List.{List, []}
 use Prim.Native.Nat.{ℕ, suc, _+_, _*_}
 use lib.ListN.{getD}
@@ -10,16 +10,17 @@ use Rattle.lists.specs.Pick.{pick}
 use Rattle.lists.specs.Over.{cat}
 use Rattle.lists.specs.Rows.{chunk}
 use Rattle.algebra.specs.Group.{bits, addb, sel, odd}
-use Rattle.algebra.specs.Sum.{others}
+use Rattle.algebra.specs.Sum.{neq, others}
 use Rattle.block.specs.declared.Block.{Block}
-use Rattle.block.specs.Block.{blockAt, bytesOf}
+use Rattle.block.specs.Block.{blockAt, bytesOf, xorInplace}
 use Rattle.block.specs.Group.{blocks}
 use Rattle.blake3.specs.Tree.{hash}
 use Rattle.share.specs.Share.{Share, shares, recordOf}
-use Rattle.encode.specs.Encode.{encode, bitBlock, dvalueItem, twoBitsTwoBlocks}
+use Rattle.encode.specs.Encode.{encode, bitBlock, dvalueItem, twoBitsTwoBlocks, noneItem, someItem}
 use Rattle.plan.specs.Plan.{leaky, bucketSize}
 use Rattle.engine.specs.declared.Frame.{Frame}
 use Rattle.rounds.specs.Opening.{Args}
+use Rattle.rounds.specs.Echo.{hashVec}
 use Rattle.rounds.specs.Toss as Toss
 use Rattle.rounds.specs.Fabitn as Fabitn
 use Rattle.rounds.specs.Fashare as Fashare
@@ -72,9 +73,9 @@ module _ (f : Frame) (a : Args) (strings order : List ℕ) (m : ℕ → ℕ → 
   unfoldable pub sent5 : ℕ → List ℕ
   sent5 k = Toss.verMsg (pairSeed k)
 
-  -- "a pairwise seed is the XOR of two": a row for each party
-  unfoldable pub pairwiseSeeds : List ℕ
-  pairwiseSeeds = Toss.pairwiseSeeds f (a .pairs) (m 5)
+  -- "a pairwise seed is the XOR of two": the one with party k
+  unfoldable pub pairwiseSeed : ℕ → List ℕ
+  pairwiseSeed k = xorInplace (pairSeed k) (Toss.told (m 5 k))
 
   -- ---- `fabitn`: round 6. "Send the chosen bits' XOR and, to k, the XOR of the chosen MACs for k."
   unfoldable pub sent6 : ℕ → List ℕ
@@ -189,6 +190,11 @@ module _ (f : Frame) (a : Args) (strings order : List ℕ) (m : ℕ → ℕ → 
 
   unfoldable pub resultShare : ℕ → Share
   resultShare j = Beaver.finish (abc j .tz) (beta j) (abc j .tx) (beaverDOpened j) (beaverEOpened j)
+
+  -- ---- echoes, of what was received for round k: "`hash_vec` .. of every other list received, sent to all but its sender." "The message is
+  -- a list of n options, absent for the box itself and for the receiver."
+  unfoldable pub echoOf : ℕ → ℕ → List ℕ
+  echoOf k r = encode (f .n) (λ j. pick (neq (f .i) j && neq r j) (someItem (hashVec k (m k j))) noneItem)
 
   -- ---- in all
   -- the message of round k, which is no echo, to party j

@@ -13,7 +13,7 @@ use Rattle.engine.specs.declared.Frame.{Frame}
 use Rattle.engine.specs.Sheet.{Store}
 use Rattle.engine.specs.Honest.{before, due}
 use Rattle.engine.specs.Alone.{Tale}
-use Rattle.rounds.specs.Area.{DELTA, SEED, PAIRS, MASKS, BITS, ALPHA, BETA, COMMS, JOINT, PAIR-COMMS, PAIRWISE, KEY-SUMS, SHARE-COMMS, DMS, LEAKY, ZS, ES, HS, H-COMMS, PERM, DS, TRIPLES, ROUNDS-OWN, SECTIONS, sizeOf}
+use Rattle.rounds.specs.Area.{DELTA, SEED, PAIRS, MASKS, BITS, ALPHA, BETA, COMMS, JOINT, PAIR-COMMS, PAIRWISE, KEY-SUMS, SHARE-COMMS, DMS, LEAKY, ZS, ES, HS, H-COMMS, PERM, DS, TRIPLES, ROUNDS-OWN, SECTIONS, sizeOf, rows}
 use Rattle.rounds.specs.Opening.{Args}
 use Rattle.rounds.specs.Toss as Toss
 use Rattle.rounds.specs.Fabitn as Fabitn
@@ -57,7 +57,7 @@ module _ (f : Frame) (a : Args) (strings order : List ℕ) (m : ℕ → ℕ → 
       pick (eqb s DELTA) (a .delta) (pick (eqb s SEED) (a .seed) (pick (eqb s PAIRS) (a .pairs) (pick (eqb s MASKS) (a .masks)
       (pick (eqb s BITS) (a .bits) (pick (eqb s ALPHA) (a .alpha) (pick (eqb s BETA) (a .beta)
       (pick (eqb s COMMS) (Toss.toldRows f (m 1)) (pick (eqb s JOINT) (F.jointSeed f a strings order m)
-      (pick (eqb s PAIR-COMMS) (Toss.toldRows f (m 4)) (pick (eqb s PAIRWISE) (F.pairwiseSeeds f a strings order m)
+      (pick (eqb s PAIR-COMMS) (Toss.toldRows f (m 4)) (pick (eqb s PAIRWISE) (rows f 32 (F.pairwiseSeed f a strings order m))
       (pick (eqb s KEY-SUMS) (Fabitn.keySums f strings (a .bits))
       (pick (eqb s SHARE-COMMS) (Fashare.commRows f (m 8)) (pick (eqb s DMS) (Fashare.dmRows f (m 10))
       (pick (eqb s LEAKY) (Haand.leakyRows f (F.delta f a strings order m) (a .bits))

@@ -191,7 +191,7 @@ module _ (f : Frame) (a : Args) (q : ℕ → Loan) (m : ℕ → ℕ → List ℕ
   fit-pair-comms formed = (omega arith, λ i li. toss-rows 4 formed)
 
   fit-pairwise : fits PAIRWISE
-  unfolding holds sizeOf sizes F.pairwiseSeeds Toss.pairwiseSeeds xorInplace
+  unfolding holds sizeOf sizes F.pairwiseSeed F.pairSeed xorInplace
   fit-pairwise = (
     omega arith,
     λ i li. length-rows f 32 _ (λ k lk ne.
@@ -233,7 +233,7 @@ module _ (f : Frame) (a : Args) (q : ℕ → Loan) (m : ℕ → ℕ → List ℕ
   }
 
   pub recv-5 : RecvAt 5
-  unfolding plainAfter isEcho staysTest allOf mem since holds kept F.pairwiseSeeds
+  unfolding plainAfter isEcho staysTest allOf mem since holds kept F.pairwiseSeed F.pairSeed Toss.pairwiseSeeds
   recv-5 past p =
       fill (due 5) (before 6) PAIRWISE (p .known) refl fit-pairwise
       (ap (λ (s : List ℕ). Toss.pairwiseSeeds f s (m 5)) (pairs-at (p .known)))

@@ -11,7 +11,10 @@ use lib.Dec.{eqb}
 use borrow.Author.Tests.{leb-true, le-leb, eq-eqb, ne-eqb}
 use Rattle.lists.specs.Pick.{pick}
 use Rattle.lists.specs.All.{allOf, true-false}
+use Rattle.lists.specs.Rows.{chunk}
 use Rattle.lists.specs.Bytes.{Bytes, bytes-nil, bytes-take, bytes-drop}
+use Rattle.algebra.specs.Sum.{neq, Same, apart, apart?}
+use Rattle.encode.specs.Encode.{noneItem, someItem}
 use Rattle.message.specs.declared.Kind.the-variants.{Options}
 use Rattle.message.specs.Format as Format
 use Rattle.message.specs.PrefixLaws.{list-form}
@@ -20,17 +23,19 @@ use Rattle.engine.specs.declared.Frame.{Frame}
 use Rattle.engine.specs.declared.Session.{Session}
 use Rattle.engine.specs.Step.{frame, Loan, Outcome, other, mask, part, heard}
 use Rattle.engine.specs.World.{Box, sessionOf}
-use Rattle.engine.specs.Area.{toOthers, mem, also}
-use Rattle.engine.specs.Plain.{prior, isEcho, numberOf, listOf, digests, protocolOf}
+use Rattle.engine.specs.Area.{toOthers, toOthers-ext, mem, also}
+use Rattle.engine.specs.Plain.{rowsOf, prior, isEcho, numberOf, listOf, digests, protocolOf}
+use Rattle.engine.specs.PlainLaws.{chunk-rows}
 use Rattle.engine.specs.Honest.{due, plainAfter}
-use Rattle.engine.specs.Alone.{Turn, turnBox, turns, Tale, AllRead, wroteFor, sureAt, Lives, State, lives, over, Told, Duties, Follows, first, all-told}
-use Rattle.engine.specs.Received.{taken, answer, received, lentWith, all-received}
+use Rattle.engine.specs.Alone.{Tale, wroteFor, sureAt, Lives, State, lives, over, Told, Duties, AsTold, first, all-told}
+use Rattle.engine.specs.OneBox.{Turn, turnBox, turns, AllRead, taken, answer, received, lentWith, all-received}
 use Rattle.rounds.specs.Area.{ROUNDS-OWN, at}
-use Rattle.rounds.specs.Echo.{echoMsg, echo}
+use Rattle.rounds.specs.Echo.{hashVec, echoMsg, echo}
 use Rattle.rounds.specs.Opening.{Args, reason, spec}
 use Rattle.rounds.specs.Table.{table}
 use Rattle.alone.specs.Formula as F
 use Rattle.alone.specs.Holds.{since, holds, tale}
+use Rattle.alone.specs.Cells.{encode-ext}
 use Rattle.alone.specs.Given.{Given}
 use Rattle.rounds.specs.EchoLaws.{length-hashVec}
 use Rattle.rounds.specs.JudgeLaws.{Found, judge-found}
@@ -102,7 +107,7 @@ module _ (a : Args) (q : ℕ → Loan) (m : ℕ → ℕ → List ℕ) where
     I : Given f a m
     I = given a z (q 6 .r) (q 21 .perm) m b h
 
-    start : Follows table (f .n) (f .l) (f .i) U m q (duties I) (openedBox a)
+    start : AsTold table (f .n) (f .l) (f .i) U m q (duties I) (openedBox a)
     unfolding F.sent F.sent1
     start =
         rw (spec-takes a f refl z)
@@ -112,6 +117,23 @@ module _ (a : Args) (q : ℕ → Loan) (m : ℕ → ℕ → List ℕ) where
     pub told-alone : (cs : List Turn) → AllRead table (f .n) (f .l) (f .i) m q (openedBox a) cs
         → Told table (f .n) (f .l) (f .i) U m q (turns (protocolOf table) (openedBox a) cs)
     told-alone cs r = all-told table (f .n) (f .l) (f .i) U m q (duties I) cs (openedBox a) start r
+
+-- ---- an echo without the rows of hashes
+echo-read : (f : Frame) (a : Args) (strings order : List ℕ) (m : ℕ → ℕ → List ℕ) (k r : ℕ)
+    → echoMsg (f .n) (f .i) (digests table k f (m k)) r ≡ F.echoOf f a strings order m k r
+unfolding echoMsg digests F.echoOf someItem noneItem
+echo-read f a strings order m k r =
+    encode-ext (f .n) _ _ (λ j lj. go j lj (neq (f .i) j) (apart? (f .i) j))
+  where
+    h : ℕ → List ℕ
+    h j = hashVec k (m k j)
+
+    go : (j : ℕ) → j < f .n → (b : Bool) → Same (f .i) j b
+        → pick (b && neq r j) (1 ∷ chunk 16 j (rowsOf f h)) (0 ∷ []) ≡ pick (b && neq r j) (1 ∷ h j) (0 ∷ [])
+    go j lj false s = refl
+    go j lj true (apart ne) =
+        ap (λ (x : List ℕ). pick (neq r j) (1 ∷ x) (0 ∷ []))
+        (chunk-rows f h (λ j lj ne. length-hashVec k (m k j)) j lj ne)
 
 -- ---- THE CLAIM
 -- all that the calls were lent to read is bytes
@@ -144,7 +166,8 @@ received-bytes n l i x (c ∷ cs) h k j =
     go : (b : Bool) → Bytes (received table n l i (turnBox (protocolOf table) x c) cs k j)
         → Bytes (pick b (mask (frame n l i) (heard (protocolOf table .rule (c .number)) (frame n l i) (c .lent)) j)
         (received table n l i (turnBox (protocolOf table) x c) cs k j))
-    go true r = masked (other (frame n l i) j) (isEcho table (c .number)) (Format.listLen Options from) (Format.listLen (kindOf l (c .number)) from)
+    go true r =
+        masked (other (frame n l i) j) (isEcho table (c .number)) (Format.listLen Options from) (Format.listLen (kindOf l (c .number)) from)
     go false r = r
 
 module _ (a : Args) (cs : List Turn) where
@@ -187,8 +210,7 @@ module _ (a : Args) (cs : List Turn) where
   -- that is over has a work area of zeros.
   pub record Claim : Type 0 where
     pub messages : number ≢ 0 → isEcho table number ≡ false → box .wrote ≡ toOthers n i (F.sent (a .party) a strings order mail number)
-    pub echoes : isEcho table number ≡ true
-        → box .wrote ≡ toOthers n i (echoMsg n i (digests table (prior number) (a .party) (mail (prior number))))
+    pub echoes : isEcho table number ≡ true → box .wrote ≡ toOthers n i (F.echoOf (a .party) a strings order mail (prior number))
     pub results : number ≡ 0 → box .wrote ≡ F.result (a .party) a strings order mail
     pub session-is : box .session .due ≢ 0 → box .session ≡ sessionOf n l i number
     pub sections : box .session .due ≢ 0 → (s : ℕ) → s < ROUNDS-OWN → since s ≤ sure
@@ -203,7 +225,8 @@ module _ (a : Args) (cs : List Turn) where
   unfolding wroteFor sureAt at echo
   claim t = record {
     messages = λ h e. t .wrote-is ∙ rw (ne-eqb number 0 h, e) refl;
-    echoes = λ e. t .wrote-is ∙ rw (ne-eqb number 0 (some e), e) refl;
+    echoes = λ e. t .wrote-is ∙ rw (ne-eqb number 0 (some e), e)
+        (toOthers-ext n i _ _ (λ r lr nr. echo-read (a .party) a strings order mail (prior number) r));
     results = λ z. t .wrote-is ∙ rw (eq-eqb number 0 z) refl;
     session-is = λ h. live h (t .state) .session-is;
     sections = λ h s ls le. live h (t .state) .known .has s ls (le-leb _ _ le);

@@ -14,37 +14,12 @@ use Rattle.lists.specs.All.{allOf, of-all, true-false}
 use Rattle.engine.specs.Step.{Frame, frame, Session, Loan, Lent, Accepted, Outcome, Fault, Protocol, mask, part, heard, reasonOf, faultOf, accepted, roundSpec}
 use Rattle.engine.specs.StepLaws.{round-faults, round-cases, Due, due-of, last-or, or-zero, fault-clean, mask-at}
 use Rattle.engine.specs.World.{Box, turnedBox, sessionOf}
+use Rattle.engine.specs.OneBox.{Turn, turnBox, turns, Reads, AllRead, alive-some}
 use Rattle.engine.specs.Area.{off, putSec, length-putSec, sec-other, toOthers, toOthers-ext, mem, Every, every-mem}
 use Rattle.engine.specs.Sheet.{Store, Known}
 use Rattle.engine.specs.Plain.{Table, prior, isEcho, nextOf, isRound, numberOf, toEcho, lentOf, formOf, listOf, pending, digests, echoCheck, checkOf, waits, kept, held, made, keepOf, writeOf, protocolOf}
 use Rattle.engine.specs.Honest.{Lawful, before, due, plainAfter}
-use Rattle.engine.specs.PlainLaws.{length-rows, held-waits, first-plain, no-two, echo-not-last, next-on, next-echo, next-plain}
-
--- ---- calls of one box
-pub record Turn : Type 0 where
-  pub number : ℕ
-  pub lent : Lent
-
-abbrev pub turnBox : Protocol → Box → Turn → Box
-turnBox P x c =
-    let r : Outcome = roundSpec P (x .session) (c .number) (c .lent) (x .work) in
-    turnedBox x r (r .reply)
-
-abbrev pub turns : Protocol → Box → List Turn → Box
-turns P x [] = x
-turns P x (c ∷ cs) = turns P (turnBox P x c) cs
-
--- ---- which calls are meant
--- Box i of n with l. m k j: what was read of party j for round k; q k: what was lent with the call that makes the messages of round k
-module _ (T : Table) (n l i : ℕ) (m : ℕ → ℕ → List ℕ) (q : ℕ → Loan) where
-  -- an accepted call reads m and is lent q
-  abbrev pub Reads : Box → Turn → Type 0
-  Reads x c = roundSpec (protocolOf T) (x .session) (c .number) (c .lent) (x .work) .reply ≡ Accepted
-      → ((j : ℕ) → mask (frame n l i) (heard (protocolOf T .rule (c .number)) (frame n l i) (c .lent)) j ≡ m (c .number) j) × (c .lent .loan ≡ q (nextOf T (eqb n 2) (c .number)))
-
-  abbrev pub AllRead : Box → List Turn → Type 0
-  AllRead x [] = Unit {0}
-  AllRead x (c ∷ cs) = Reads x c × AllRead (turnBox (protocolOf T) x c) cs
+use Rattle.engine.specs.PlainLaws.{and-false, length-rows, held-waits, first-plain, no-two, echo-not-last, next-on, next-echo, next-plain}
 
 -- What the box holds and sends. ready t s: section s holds its value at moment t; val s: that value; sent k r: the message of round k,
 -- which is no echo, to r; result: what the last call writes
@@ -160,9 +135,6 @@ module _ (T : Table) (n l i : ℕ) (U : Tale) (m : ℕ → ℕ → List ℕ) (q 
     pub last : LastAt (T .last)
 
   -- ---- THE PROOF
-  abbrev box : ℕ → List ℕ → ℕ → List ℕ → Box
-  box k w d o = record { session = sessionOf n l i k; work = w; rounds = d; wrote = o }
-
   -- what is known besides, when round k is due
   pub record Plainly (k : ℕ) (w : List ℕ) : Type 0 where
     pub some : 0 < k
@@ -357,11 +329,7 @@ module _ (T : Table) (n l i : ℕ) (U : Tale) (m : ℕ → ℕ → List ℕ) (q 
 
       not-last-echo : k ≡ T .last → toEcho T two k ≡ false
       unfolding toEcho
-      not-last-echo p = rw (p, D .tail) (go two)
-        where
-          go : (b : Bool) → (not b && false) ≡ false
-          go true = refl
-          go false = refl
+      not-last-echo p = rw (p, D .tail) (and-false (not two))
 
       at-last : k ≡ T .last → Steps d k w
       unfolding nextOf keepOf writeOf wroteFor passed
@@ -438,52 +406,39 @@ module _ (T : Table) (n l i : ℕ) (U : Tale) (m : ℕ → ℕ → List ℕ) (q 
           (subst (λ j. j ≤ T .last) (sym x) (omega (arith, E .more))) (ap (isEcho T) x ∙ single)
           (subst Past e (past-after k (E .before .past) p)) lent (subst SendAt e (send-of k h))
           (rw (E .echo) (subst (λ j. At (before j) v) e (known-after k v E g)))
-        where
-          and-false : (b : Bool) → (b && false) ≡ false
-          and-false true = refl
-          and-false false = refl
 
     -- ---- ANY CALL
     -- how a box stands
-    pub record Follows (x : Box) : Type 0 where
+    pub record AsTold (x : Box) : Type 0 where
       pub number : ℕ
       pub session-is : x .session ≡ sessionOf n l i number
       pub stands : Stands (x .rounds) number (x .work)
       pub wrote-is : x .wrote ≡ wroteFor (dueAt x)
 
-    -- no round 0 is due
-    never : (b : Bool) → (b && false) ≡ true → ⊥
-    never true h = true-false (sym h)
-    never false h = true-false (sym h)
-
     -- what an accepted call for round k is known to be, with the messages and the loan that it had
-    pub record Took (k : ℕ) (w : List ℕ) (M : ℕ → List ℕ) (loan : Loan) : Type 0 where
+    pub record Allowed (k : ℕ) (w : List ℕ) (M : ℕ → List ℕ) (loan : Loan) : Type 0 where
       pub alive : P .alive (sessionOf n l i k) ≡ true
       pub lent : lentOf T k n l loan ≡ 0
       pub formed : isEcho T k ≡ false → (j : ℕ) → j < n → i ≢ j → T .recv k .form f (M j) ≡ 0
       pub clean : checkOf T k f w M .code ≡ 0
 
-    steps : (d k : ℕ) (w : List ℕ) → Stands d k w → Took k w (m k) (q (nextOf T two k)) → Steps d k w
-    unfolding isRound
+    steps : (d k : ℕ) (w : List ℕ) → Stands d k w → Allowed k w (m k) (q (nextOf T two k)) → Steps d k w
     steps d k w (plainly e A) t = step-plain d k w e A (t .lent) (t .formed (A .plain)) (t .clean)
     steps d (suc k) w (echoing e E) t = step-echo d k w e E (t .lent) (t .clean)
-    steps d zero w (ends b) t = absurd (never (T .fine f) (t .alive))
+    steps d zero w (ends b) t = absurd (alive-some T n l i 0 (t .alive) refl)
 
     number-over : (d k : ℕ) (w : List ℕ) → Stands d k w → k ≢ 0 → numberOf T two d ≡ k
     number-over d k w (plainly e A) ne = e
     number-over d (suc k) w (echoing e E) ne = e
     number-over d zero w (ends b) ne = absurd (ne refl)
 
-    alive-some : (k : ℕ) → P .alive (sessionOf n l i k) ≡ true → k ≢ 0
-    unfolding isRound
-    alive-some k h e = never (T .fine f) (subst (λ k. P .alive (sessionOf n l i k) ≡ true) e h)
-
     -- what is read of a message of the right form is of that form
     formed-at : (k : ℕ) (lt : Lent) → isEcho T k ≡ false → (j : ℕ) → j < n → i ≢ j → formOf T k f (part lt j) ≡ 0
         → T .recv k .form f (mask f (heard (P .rule k) f lt) j) ≡ 0
     unfolding heard formOf listOf
     formed-at k lt e j lj ne h =
-        ap (T .recv k .form f) (mask-at f (heard (P .rule k) f lt) j lj ne ∙ ap (λ b. pick b (T .echo .list (part lt j)) (T .recv k .list f (part lt j))) e)
+        ap (T .recv k .form f)
+        (mask-at f (heard (P .rule k) f lt) j lj ne ∙ ap (λ b. pick b (T .echo .list (part lt j)) (T .recv k .list f (part lt j))) e)
         ∙ D .reads k (part lt j) (sym (ap (λ b. pick b (T .echo .form n (part lt j)) (T .recv k .form f (part lt j))) e) ∙ h)
 
     -- after it
@@ -499,12 +454,12 @@ module _ (T : Table) (n l i : ℕ) (U : Tale) (m : ℕ → ℕ → List ℕ) (q 
         wrote = writeOf T k f (lt .loan) (x .work) M;
       }
 
-      goes : Took k (x .work) M (lt .loan) → ((j : ℕ) → M j ≡ m k j) → lt .loan ≡ q (nextOf T two k) → Follows next
+      goes : Allowed k (x .work) M (lt .loan) → ((j : ℕ) → M j ≡ m k j) → lt .loan ≡ q (nextOf T two k) → AsTold next
       unfolding numberOf
       goes t em el =
           let e : M ≡ m k = fun-ext em in
-          let t′ : Took k (x .work) (m k) (q (nextOf T two k)) =
-          subst (Took k (x .work) (m k)) el (subst (λ (y : ℕ → List ℕ). Took k (x .work) y (lt .loan)) e t) in
+          let t′ : Allowed k (x .work) (m k) (q (nextOf T two k)) =
+          subst (Allowed k (x .work) (m k)) el (subst (λ (y : ℕ → List ℕ). Allowed k (x .work) y (lt .loan)) e t) in
           let s = steps (x .rounds) k (x .work) S t′ in
           record {
             number = nextOf T two k;
@@ -512,7 +467,7 @@ module _ (T : Table) (n l i : ℕ) (U : Tale) (m : ℕ → ℕ → List ℕ) (q 
             stands = subst (Stands (suc (x .rounds)) (nextOf T two k))
                 (ap₂ (λ (y : ℕ → List ℕ) (p : Loan). keepOf T k f p (x .work) y) (sym e) (sym el)) (s .stands);
             wrote-is = ap₂ (λ (y : ℕ → List ℕ) (p : Loan). writeOf T k f p (x .work) y) e el ∙ s .wrote
-                ∙ ap (λ j. wroteFor (nextOf T two j)) (sym (number-over (x .rounds) k (x .work) S (alive-some k (t .alive))));
+                ∙ ap (λ j. wroteFor (nextOf T two j)) (sym (number-over (x .rounds) k (x .work) S (alive-some T n l i k (t .alive))));
           }
 
     -- the call for round a in a session at round k
@@ -524,11 +479,11 @@ module _ (T : Table) (n l i : ℕ) (U : Tale) (m : ℕ → ℕ → List ℕ) (q 
       Read r = r .reply ≡ Accepted → ((j : ℕ) → mask f (heard (P .rule a) f lt) j ≡ m a j) × (lt .loan ≡ q (nextOf T two a))
 
       abbrev Q : Outcome → Type 0
-      Q r = Read r → Follows (turnedBox x r (r .reply))
+      Q r = Read r → AsTold (turnedBox x r (r .reply))
 
-      takes : (a : ℕ) → a ≡ k → Took k (x .work) (mask f (heard (P .rule k) f lt)) (lt .loan)
+      takes : (a : ℕ) → a ≡ k → Allowed k (x .work) (mask f (heard (P .rule k) f lt)) (lt .loan)
           → ((j : ℕ) → mask f (heard (P .rule a) f lt) j ≡ m a j) × (lt .loan ≡ q (nextOf T two a))
-          → Follows (record {
+          → AsTold (record {
             session = sessionOf n l i (nextOf T two a);
             work = keepOf T a f (lt .loan) (x .work) (mask f (heard (P .rule a) f lt));
             rounds = suc (x .rounds);
@@ -536,7 +491,7 @@ module _ (T : Table) (n l i : ℕ) (U : Tale) (m : ℕ → ℕ → List ℕ) (q 
           })
       takes a e t =
           subst (λ a. ((j : ℕ) → mask f (heard (P .rule a) f lt) j ≡ m a j) × (lt .loan ≡ q (nextOf T two a))
-          → Follows (record {
+          → AsTold (record {
             session = sessionOf n l i (nextOf T two a);
             work = keepOf T a f (lt .loan) (x .work) (mask f (heard (P .rule a) f lt));
             rounds = suc (x .rounds);
@@ -550,7 +505,8 @@ module _ (T : Table) (n l i : ℕ) (U : Tale) (m : ℕ → ℕ → List ℕ) (q 
           let c = fault-clean (P .rule a) f lt (x .work) g in
           takes a (v .number)
           (subst (λ a. lentOf T a n l (lt .loan) ≡ 0 → ((j : ℕ) → j < n → i ≢ j → formOf T a f (part lt j) ≡ 0)
-          → checkOf T a f (x .work) (mask f (heard (P .rule a) f lt)) .code ≡ 0 → Took k (x .work) (mask f (heard (P .rule k) f lt)) (lt .loan)) (sym (v .number))
+          → checkOf T a f (x .work) (mask f (heard (P .rule a) f lt)) .code ≡ 0
+          → Allowed k (x .work) (mask f (heard (P .rule k) f lt)) (lt .loan)) (sym (v .number))
           (λ h1 h2 h3. record {
             alive = v .alive;
             lent = h1;
@@ -573,15 +529,15 @@ module _ (T : Table) (n l i : ℕ) (U : Tale) (m : ℕ → ℕ → List ℕ) (q 
           round-cases P s a lt (x .work) Q
           (λ ne read. record { number = k; session-is = refl; stands = S; wrote-is = wrote }) faults accepts
 
-    pub follows : (x : Box) (c : Turn) → Follows x → Reads T n l i m q x c → Follows (turnBox P x c)
-    follows x c F =
+    pub still-told : (x : Box) (c : Turn) → AsTold x → Reads T n l i m q x c → AsTold (turnBox P x c)
+    still-told x c F =
         subst (λ s. (roundSpec P s (c .number) (c .lent) (x .work) .reply ≡ Accepted
         → ((j : ℕ) → mask f (heard (P .rule (c .number)) f (c .lent)) j ≡ m (c .number) j) × (c .lent .loan ≡ q (nextOf T two (c .number))))
-        → Follows (turnedBox x (roundSpec P s (c .number) (c .lent) (x .work)) (roundSpec P s (c .number) (c .lent) (x .work) .reply)))
+        → AsTold (turnedBox x (roundSpec P s (c .number) (c .lent) (x .work)) (roundSpec P s (c .number) (c .lent) (x .work) .reply)))
         (sym (F .session-is)) (any-call x (F .number) (F .stands) (F .wrote-is) (c .number) (c .lent))
 
     -- ---- AFTER ANY LIST OF CALLS
-    told : (x : Box) → Follows x → Told x
+    told : (x : Box) → AsTold x → Told x
     unfolding sureAt
     told x F = record { wrote-is = F .wrote-is; state = go (F .number) (F .session-is) (F .stands) }
       where
@@ -598,13 +554,13 @@ module _ (T : Table) (n l i : ℕ) (U : Tale) (m : ℕ → ℕ → List ℕ) (q 
         })
         go zero p (ends b) = over (record { session-is = p; blank = b })
 
-    pub all-told : (cs : List Turn) (x : Box) → Follows x → AllRead T n l i m q x cs → Told (turns P x cs)
+    pub all-told : (cs : List Turn) (x : Box) → AsTold x → AllRead T n l i m q x cs → Told (turns P x cs)
     all-told [] x F r = told x F
-    all-told (c ∷ cs) x F r = all-told cs (turnBox P x c) (follows x c F (r .0)) (r .1)
+    all-told (c ∷ cs) x F r = all-told cs (turnBox P x c) (still-told x c F (r .0)) (r .1)
 
     -- ---- after opening
     pub first : (x : Box) → 1 ≤ T .last → x .session ≡ sessionOf n l i 1 → x .rounds ≡ 0 → At (due 1) (x .work)
-        → x .wrote ≡ toOthers n i (U .sent 1) → Follows x
+        → x .wrote ≡ toOthers n i (U .sent 1) → AsTold x
     unfolding numberOf wroteFor
     first x low s d K o = record {
       number = 1;
