@@ -381,7 +381,7 @@ pub fn run(
             }
             probes += 1;
         }
-        let before = (care != Care::Time).then(|| (h.work.clone(), h.out.clone()));
+        let before = (care != Care::Time).then(|| (h.session, h.work.clone(), h.out.clone()));
         let start = cpu_time();
         let (number, party) = h.open();
         nanoseconds[i] += cpu_time() - start;
@@ -391,10 +391,9 @@ pub fn run(
                 round: 0,
                 party,
             });
-            if before.is_some_and(|b| b != (h.work.clone(), h.out.clone())) {
+            if before.is_some_and(|b| b != (h.session, h.work.clone(), h.out.clone())) {
                 broken.push(format!("party {i}: a refused opening wrote"));
             }
-            over(h, g, &mut broken);
             continue;
         }
         if care == Care::All {
