@@ -19,7 +19,7 @@ use Rattle.engine.specs.Area.{toOthers, mem, Every, every-mem}
 use Rattle.engine.specs.Sheet.{Known, known-lay}
 use Rattle.engine.specs.Honest.{due}
 use Rattle.rounds.specs.Area.{DELTA, SEED, PAIRS, MASKS, BITS, ALPHA, BETA, ROUNDS-OWN, sizes, sizeOf, workLen}
-use Rattle.rounds.specs.Opening.{Args, listsDue, buffersDue, bytesFault, reason, section, area, spec}
+use Rattle.rounds.specs.Opening.{Args, listsDue, buffersDue, bytesFault, reason, section, area, spec, lengthsFault, orFault}
 use Rattle.rounds.specs.Toss as Toss
 use Rattle.alone.specs.Holds.{since, storeOf, holds}
 use Rattle.alone.specs.Given.{Given}
@@ -55,7 +55,10 @@ module _ (a : Args) where
   lists-say =
       (length (a .bits) ≡ bitsCount l * recordLen n) × ((length (a .alpha) ≡ l * recordLen n) × (length (a .beta) ≡ l * recordLen n))
 
-  lists-true : listsDue a ≡ true → lists-say
+  abbrev lists : Bool
+  lists = listsDue (a .party) (length (a .bits)) (length (a .alpha)) (length (a .beta))
+
+  lists-true : lists ≡ true → lists-say
   unfolding listsDue
   lists-true h =
       let b : Bool = eqb (length (a .bits)) (bitsCount l * recordLen n) in
@@ -96,11 +99,11 @@ module _ (a : Args) where
 
   -- with no reason to refuse
   pub taken : reason a ≡ 0 → Taken a
-  unfolding reason
-  taken z = go parties refl (leb l 300000) refl (eqb l 0) refl (listsDue a) refl (buffersDue a) refl z
+  unfolding reason lengthsFault orFault
+  taken z = go parties refl (leb l 300000) refl (eqb l 0) refl lists refl (buffersDue a) refl z
     where
-      go : (p : Bool) → parties ≡ p → (q : Bool) → leb l 300000 ≡ q → (s : Bool) → eqb l 0 ≡ s → (t : Bool) → listsDue a ≡ t
-          → (u : Bool) → buffersDue a ≡ u → pick p (pick q (pick s 3 (pick t (pick u (bytesFault a) 17) 6)) 16) 15 ≡ 0 → Taken a
+      go : (p : Bool) → parties ≡ p → (q : Bool) → leb l 300000 ≡ q → (s : Bool) → eqb l 0 ≡ s → (t : Bool) → lists ≡ t
+          → (u : Bool) → buffersDue a ≡ u → orFault (pick p (pick q (pick s 3 (pick t (pick u 0 17) 6)) 16) 15) (bytesFault a) ≡ 0 → Taken a
       go true ep true eq false es true et true eu h =
           let p = parties-true ep in
           let t = lists-true et in

@@ -26,7 +26,7 @@ use Rattle.engine.specs.Plain.{noLoan}
 use Rattle.engine.specs.Honest.{Lawful, due}
 use Rattle.engine.specs.PlainSession.{none-lent, HonestOpening}
 use Rattle.rounds.specs.Area.{workLen}
-use Rattle.rounds.specs.Opening.{Args, listsDue, buffersDue, masksFault, orFault, bytesFault, reason, section, area, spec, opening}
+use Rattle.rounds.specs.Opening.{Args, listsDue, buffersDue, masksFault, orFault, bytesFault, lengthsFault, reason, section, area, spec, opening}
 use Rattle.rounds.specs.Table.{lent}
 use Rattle.rounds.specs.Toss as Toss
 use Rattle.alone.specs.Opening.{Lens, first-seven, spec-takes}
@@ -38,7 +38,7 @@ use Rattle.honest.specs.Base.{Run}
 
 -- ---- no reason to refuse
 module _ (a : Args) (r : InRange (a .party .n) (a .party .l)) (li : a .party .i < a .party .n) (o : Own (a .party .n) (a .party .l) (a .party .i) a) where
-  lists-due : listsDue a ≡ true
+  lists-due : listsDue (a .party) (length (a .bits)) (length (a .alpha)) (length (a .beta)) ≡ true
   unfolding listsDue
   lists-due = rw (eq-eqb _ _ (o .bits-len), eq-eqb _ _ (o .alpha-len), eq-eqb _ _ (o .beta-len)) refl
 
@@ -76,7 +76,7 @@ module _ (a : Args) (r : InRange (a .party .n) (a .party .l)) (li : a .party .i 
 
   pub no-reason : length (a .work) ≡ workLen (a .party) → length (a .out) ≡ (a .party .n - 1) * msgLen (a .party .n) (a .party .l) 1
       → reason a ≡ 0
-  unfolding reason
+  unfolding reason lengthsFault orFault
   no-reason hw ho =
       rw (
         le-leb 2 (a .party .n) (r .two),
