@@ -9,9 +9,7 @@ use Rattle.share.specs.Record.{recordLen}
 use Rattle.plan.specs.Plan.{parties?, inRange, within, isRound, writes, bucketSize, msgLen}
 use Rattle.plan.specs.Names.{roundName}
 use Rattle.engine.specs.declared.Session.{Session}
-use Rattle.engine.specs.declared.Verdict.{Verdict}
-use Rattle.engine.specs.declared.Verdict.the-variants.{Accepted, Refused}
-use Rattle.engine.specs.Step.{Lent, Outcome, frame, roundSpec}
+use Rattle.engine.specs.Step.{Lent, Reply, Accepted, Refused, Outcome, frame, roundSpec}
 use Rattle.engine.specs.Area.{off}
 use Rattle.engine.specs.Plain.{protocolOf}
 use Rattle.rounds.specs.Area.{JOINT, PAIRWISE, sizeOf}
@@ -27,7 +25,7 @@ unfoldable pub numbersOf : Session → List ℕ
 numbersOf s = s .party .n ∷ s .party .i ∷ s .party .l ∷ s .due ∷ []
 
 -- 0 for accepted; else the number in the low byte, and the party above it
-unfoldable pub packedOf : Verdict → ℕ
+unfoldable pub packedOf : Reply → ℕ
 packedOf Accepted = 0
 packedOf (Refused code party) = code + 256 * party
 
@@ -46,7 +44,7 @@ abbrev pub exported : ℕ → List ℕ → List ℕ → List ℕ → Exported
 exported answer session work out = record { answer = answer; session = session; work = work; out = out }
 
 unfoldable pub ofOutcome : Outcome → Exported
-ofOutcome o = exported (packedOf (o .verdict)) (numbersOf (o .session)) (o .work) (o .out)
+ofOutcome o = exported (packedOf (o .reply)) (numbersOf (o .session)) (o .work) (o .out)
 
 -- "Opening: 15, 16, 3 for l = 0, 6, 17, then lent bytes in order", where the session is one more of the buffers whose length is due
 unfoldable pub openReason : List ℕ → Opening.Args → ℕ
@@ -74,7 +72,7 @@ abbrev pub combined : ℕ → List ℕ → Combined
 combined answer out = record { answer = answer; out = out }
 
 unfoldable pub combineC : Combine.Args → Combined
-combineC a = combined (packedOf (Combine.spec a .verdict)) (Combine.spec a .out)
+combineC a = combined (packedOf (Combine.spec a .reply)) (Combine.spec a .out)
 
 -- ---- what a host asks; 0 where there is none
 -- the round due

@@ -14,9 +14,7 @@ use Rattle.plan.specs.Plan.{parties?, echo?, inRange, isRound, nextRound, write
 use Rattle.plan.specs.Names.{roundName}
 use Rattle.engine.specs.declared.Frame.{Frame}
 use Rattle.engine.specs.declared.Session.{Session}
-use Rattle.engine.specs.declared.Verdict.{Verdict}
-use Rattle.engine.specs.declared.Verdict.the-variants.{Accepted, Refused}
-use Rattle.engine.specs.Step.{Lent, Outcome, outcome, reasonOf, faultOf, refused, accepted, roundSpec}
+use Rattle.engine.specs.Step.{Lent, Reply, Accepted, Refused, Outcome, outcome, reasonOf, faultOf, refused, accepted, roundSpec}
 use Rattle.engine.specs.StepLaws.{round-faults, round-cases}
 use Rattle.engine.specs.Area.{off, sec}
 use Rattle.engine.specs.Plain.{nextOf, isEcho, pending, protocolOf}
@@ -25,15 +23,14 @@ use Rattle.rounds.specs.Opening as Opening
 use Rattle.rounds.specs.Opening.{Args, orFault, listsDue, lengthsFault, buffersDue, bytesFault, reason}
 use Rattle.rounds.specs.Combine as Combine
 use Rattle.rounds.specs.CombineLaws as CombineLaws
+use Rattle.rounds.specs.JudgeLaws.{Named, fault-named}
 use Rattle.rounds.specs.Table.{table}
 use Rattle.admit.specs.AdmitLaws.{reason-zero, alive-round, round-low}
-use Rattle.broadcast.specs.BroadcastLaws.{pending-size}
-use Rattle.session.specs.PartyLaws.{fault-names}
 use Rattle.nuzsdike.specs.Interface.{sessionAt, numbersOf, packedOf, NO-PARTY, Exported, exported, ofOutcome, openReason, openC, roundC}
 use Rattle.nuzsdike.specs.Interface.{Combined, combined, combineC, dueOf, roundAfter, messageLen, nameByte}
 use Rattle.nuzsdike.specs.Narrow.{Narrow, named}
 
-exports : (a : ℕ) (s w o : List ℕ) (t : Session) (v : Verdict) (x : Outcome) → a ≡ packedOf v → s ≡ numbersOf t → outcome t v w o ≡ x → exported a s w o ≡ ofOutcome x
+exports : (a : ℕ) (s w o : List ℕ) (t : Session) (v : Reply) (x : Outcome) → a ≡ packedOf v → s ≡ numbersOf t → outcome t v w o ≡ x → exported a s w o ≡ ofOutcome x
 unfolding ofOutcome
 exports a s w o t v x ea es e = ap (λ n. exported n s w o) ea ∙ ap (λ (l : List ℕ). exported (packedOf v) l w o) es ∙ ap ofOutcome e
 
@@ -58,7 +55,7 @@ some? f bits alpha beta = go (leb 2 (f .n) && leb (f .n) 8 && ltb (f .i) (f .n))
     go true true false false e = omega arith
 
 module _ (a : Args) where
-  spec-takes : reason a ≡ 0 → (Opening.spec a .verdict ≡ Accepted) × (Opening.spec a .session ≡ record { party = a .party; due = 1 })
+  spec-takes : reason a ≡ 0 → (Opening.spec a .reply ≡ Accepted) × (Opening.spec a .session ≡ record { party = a .party; due = 1 })
   unfolding Opening.spec
   spec-takes z = (rw (eq-eqb (reason a) 0 z) refl, rw (eq-eqb (reason a) 0 z) refl)
 
@@ -66,9 +63,9 @@ module _ (a : Args) where
   unfolding Opening.spec
   spec-refuses ne = rw (ne-eqb (reason a) 0 ne) refl
 
-  module _ (t : Session) (v : Verdict) (w o : List ℕ) (e : outcome t v w o ≡ Opening.spec a) where
+  module _ (t : Session) (v : Reply) (w o : List ℕ) (e : outcome t v w o ≡ Opening.spec a) where
     accepted-none : v ≡ Accepted → reason a ≡ 0
-    accepted-none ev = zero? (reason a) (reason a ≡ 0) (λ ne. absurd (never (ap (λ (x : Outcome). x .verdict) (e ∙ spec-refuses ne)))) (λ z. z)
+    accepted-none ev = zero? (reason a) (reason a ≡ 0) (λ ne. absurd (never (ap (λ (x : Outcome). x .reply) (e ∙ spec-refuses ne)))) (λ z. z)
       where
         never : v ≡ Refused (reason a) (a .party .i) → ⊥
         never f = let z : _≡_ {A = ℕ} 0 1 = cc in omega arith
@@ -81,7 +78,7 @@ module _ (a : Args) where
       out-is : o ≡ a .out
 
     refused-some : (code party : ℕ) → v ≡ Refused code party → Kept code party
-    refused-some code party ev = zero? (reason a) (Kept code party) some (λ z. absurd (never (ap (λ (x : Outcome). x .verdict) e ∙ spec-takes z .0)))
+    refused-some code party ev = zero? (reason a) (Kept code party) some (λ z. absurd (never (ap (λ (x : Outcome). x .reply) e ∙ spec-takes z .0)))
       where
         never : v ≡ Accepted → ⊥
         never f = let z : _≡_ {A = ℕ} 0 1 = cc in omega arith
@@ -89,7 +86,7 @@ module _ (a : Args) where
         some : reason a ≢ 0 → Kept code party
         some ne =
             let q = e ∙ spec-refuses ne in
-            let r : v ≡ Refused (reason a) (a .party .i) = ap (λ (x : Outcome). x .verdict) q in
+            let r : v ≡ Refused (reason a) (a .party .i) = ap (λ (x : Outcome). x .reply) q in
             record {
               there = ne;
               code-is = (cc);
@@ -122,7 +119,7 @@ module _ (s : List ℕ) (a : Args) where
       rw (ne-eqb (openReason s a) 0 (λ z. some? (a .party) (length (a .bits)) (length (a .alpha)) (length (a .beta)) (sym (reason-short ne) ∙ z)))
       (ap (λ m. exported m s (a .work) (a .out)) (e ∙ ap (λ c. packedOf (Refused c (a .party .i))) r))
 
-  module _ (h : length s ≡ 4) (t : Session) (v : Verdict) (w o : List ℕ) (e : outcome t v w o ≡ Opening.spec a) where
+  module _ (h : length s ≡ 4) (t : Session) (v : Reply) (w o : List ℕ) (e : outcome t v w o ≡ Opening.spec a) where
     pub opens : v ≡ Accepted → (s′ : List ℕ) → s′ ≡ numbersOf t → exported 0 s′ w o ≡ openC s a
     unfolding openC packedOf
     opens ev s′ es =
@@ -139,7 +136,7 @@ module _ (s : List ℕ) (a : Args) where
 
 -- ---- the call for a round
 module _ (s : List ℕ) (k : ℕ) (q : Lent) (w : List ℕ) where
-  pub rounds : length s ≡ 4 → (n : ℕ) (s′ w′ o : List ℕ) (t : Session) (v : Verdict) → n ≡ packedOf v → s′ ≡ numbersOf t
+  pub rounds : length s ≡ 4 → (n : ℕ) (s′ w′ o : List ℕ) (t : Session) (v : Reply) → n ≡ packedOf v → s′ ≡ numbersOf t
       → outcome t v w′ o ≡ roundSpec (protocolOf table) (sessionAt s) k q w → exported n s′ w′ o ≡ roundC s k q w
   unfolding roundC
   rounds h n s′ w′ o t v en es e = rw (eq-eqb (length s) 4 h) (exports n s′ w′ o t v _ en es e)
@@ -148,9 +145,9 @@ module _ (s : List ℕ) (k : ℕ) (q : Lent) (w : List ℕ) where
   unfolding roundC
   rounds-not ne n e = rw (ne-eqb (length s) 4 ne) (ap (λ m. exported m s w (q .out)) e)
 
-pub combines : (a : Combine.Args) (n : ℕ) (o : List ℕ) (v : Verdict) → n ≡ packedOf v → Combine.outcome v o ≡ Combine.spec a → combined n o ≡ combineC a
+pub combines : (a : Combine.Args) (n : ℕ) (o : List ℕ) (v : Reply) → n ≡ packedOf v → Combine.outcome v o ≡ Combine.spec a → combined n o ≡ combineC a
 unfolding combineC
-combines a n o v en e = ap (λ m. combined m o) en ∙ ap (λ (x : Combine.Outcome). combined (packedOf (x .verdict)) (x .out)) e
+combines a n o v en e = ap (λ m. combined m o) en ∙ ap (λ (x : Combine.Outcome). combined (packedOf (x .reply)) (x .out)) e
 
 -- ---- what fits
 module _ (s : Session) (k : ℕ) (q : Lent) (w : List ℕ) where
@@ -174,35 +171,27 @@ module _ (s : Session) (k : ℕ) (q : Lent) (w : List ℕ) where
       let low = round-low (s .party .n) (s .due) (alive-round s (A .alive-is)) in
       record { n-fits = h .n-fits; i-fits = h .i-fits; l-fits = h .l-fits; due-fits = next-small (omega (arith, A .due-is, low)) (eqb (s .party .n) 2) })
 
-  waited : ((j : ℕ) → getD w j 0 < 256) → pending table (s .party) w .party ≤ NO-PARTY
-  unfolding pending sec
-  waited bytes =
-      let at = off (sizeOf (s .party)) PENDING in
-      let e : getD (take (sizeOf (s .party) PENDING) (drop at w)) 1 0 ≡ getD w (at + 1) 0 =
-      getD-take (sizeOf (s .party) PENDING) (drop at w) 1 0 (omega (arith, pending-size (s .party))) ∙ getD-drop at w 1 0 in
-      omega (arith, e, bytes (at + 1))
-
   -- and names a party that fits
-  pub round-named : Narrow s → ((j : ℕ) → getD w j 0 < 256) → named (roundSpec (protocolOf table) s k q w .verdict) ≤ NO-PARTY
-  unfolding accepted
-  round-named h bytes =
-      round-cases (protocolOf table) s k q w (λ (o : Outcome). named (o .verdict) ≤ NO-PARTY) (λ ne. omega (arith, h .i-fits))
+  pub round-named : Narrow s → named (roundSpec (protocolOf table) s k q w .reply) ≤ NO-PARTY
+  unfolding accepted Named
+  round-named h =
+      round-cases (protocolOf table) s k q w (λ (o : Outcome). named (o .reply) ≤ NO-PARTY) (λ ne. omega (arith, h .i-fits))
       (λ z ne. rw (round-faults (protocolOf table) s k q w z ne)
       (let A = reason-zero s k q w z in
-      fault-names (s .party) (A .ranges .own) k q w NO-PARTY (omega (arith, A .ranges .eight)) (waited bytes)))
+      omega (arith, fault-named (s .party) (A .ranges .own) k q w ne, A .ranges .eight)))
       (λ z f. omega arith)
 
-pub combine-named : (a : Combine.Args) (v : Verdict) (o : List ℕ) → Combine.outcome v o ≡ Combine.spec a → a .i < 0x1_0000_0000 → named v ≤ NO-PARTY
+pub combine-named : (a : Combine.Args) (v : Reply) (o : List ℕ) → Combine.outcome v o ≡ Combine.spec a → a .i < 0x1_0000_0000 → named v ≤ NO-PARTY
 combine-named a v o e h = zero? (Combine.reason a) (named v ≤ NO-PARTY) some none
   where
     some : Combine.reason a ≢ 0 → named v ≤ NO-PARTY
     some ne =
-        let q : v ≡ Refused (Combine.reason a) (a .i) = ap (λ (x : Combine.Outcome). x .verdict) (e ∙ CombineLaws.spec-refuses a ne) in
+        let q : v ≡ Refused (Combine.reason a) (a .i) = ap (λ (x : Combine.Outcome). x .reply) (e ∙ CombineLaws.spec-refuses a ne) in
         rw q (omega (arith, h))
 
     none : Combine.reason a ≡ 0 → named v ≤ NO-PARTY
     none z =
-        let q : v ≡ Accepted = ap (λ (x : Combine.Outcome). x .verdict) (e ∙ CombineLaws.spec-accepts a z) in
+        let q : v ≡ Accepted = ap (λ (x : Combine.Outcome). x .reply) (e ∙ CombineLaws.spec-accepts a z) in
         rw q (omega arith)
 
 -- ---- what a host asks

@@ -1,8 +1,7 @@
 -- What fits the interface's 32-bit numbers, and its answers.
 use Prim.Native.Nat.{ℕ, _<_}
 use Rattle.engine.specs.declared.Session.{Session}
-use Rattle.engine.specs.declared.Verdict.{Verdict}
-use Rattle.engine.specs.declared.Verdict.the-variants.{Accepted, Refused}
+use Rattle.engine.specs.Step.{Reply, Accepted, Refused}
 
 -- the four numbers of a session fit
 pub record Narrow (s : Session) : Type 0 where
@@ -12,6 +11,6 @@ pub record Narrow (s : Session) : Type 0 where
   pub due-fits : s .due < 0x1_0000_0000
 
 -- the party that an answer names
-abbrev pub named : Verdict → ℕ
+abbrev pub named : Reply → ℕ
 named Accepted = 0
 named (Refused code party) = party

@@ -5,7 +5,7 @@ ghost use mathlib.Core.List.{List};
 ghost use Prim.Native.Nat.{_≤_};
 ghost use lib.ListN.{length};
 ghost use Rattle.plan.specs.Plan.{within, outLen, bitsLen, sharesLen, masksLen, pairsLen, rDue, permDue};
-ghost use Rattle.engine.specs.Step.{frame};
+ghost use Rattle.engine.specs.Step.{Refused, replyOf, frame};
 ghost use Rattle.engine.specs.Area.{off};
 ghost use Rattle.rounds.specs.Area.{sizeOf, workLen};
 ghost use Rattle.rounds.specs.Combine as Combine;
@@ -59,14 +59,14 @@ fn store(out: &mut [u32], s: Session)
 // Number and party in one.
 fn packed(code: u8, party: usize) -> u64
     requires { ⌜ party ≤ NO-PARTY ⌝ }
-    ensures { λ r. ⌜ r ≡ packedOf (Verdict.Refused code party) ⌝ }
+    ensures { λ r. ⌜ r ≡ packedOf (Refused code party) ⌝ }
 {
     code as u64 + 256 * party as u64
 }
 
 fn answer(v: Verdict) -> u64
-    requires { ⌜ named v ≤ NO-PARTY ⌝ }
-    ensures { λ r. ⌜ r ≡ packedOf v ⌝ }
+    requires { ⌜ named (replyOf v) ≤ NO-PARTY ⌝ }
+    ensures { λ r. ⌜ r ≡ packedOf (replyOf v) ⌝ }
 {
     match v {
         Verdict::Accepted => 0,

@@ -1,13 +1,14 @@
 -- A content check finds one of its round's numbers, and names a party of the session: so what waits for an echo is found again, and fits two bytes.
 use mathlib.Core.Path.{_≡_, refl}
-use mathlib.Core.Bool.{Bool, true, false, _||_}
+use mathlib.Core.Bool.{Bool, true, false, _&&_, _||_}
 use mathlib.Core.Logic.{_≢_}
 use mathlib.Core.List.{List, [], _∷_}
 use Prim.Native.Nat.{ℕ, zero, suc, _+_, _*_, _<_, _≤_}
 use native.Mathlib.Nat.{le-refl}
 use native.Mathlib.Omega.{arith}
 use lib.ListN.{getD, take, drop}
-use lib.Dec.{leb, eqb}
+use lib.Dec.{ltb, leb, eqb}
+use borrow.Author.Tests.{ltb-true}
 use Rattle.lists.specs.Pick.{pick}
 use Rattle.lists.specs.All.{allOf}
 use Rattle.lists.specs.Rows.{chunk}
@@ -19,7 +20,8 @@ use Rattle.message.specs.declared.Kind.the-variants.{Dms}
 use Rattle.message.specs.Format.{itemAt}
 use Rattle.plan.specs.Plan.{leaky, dmLen}
 use Rattle.engine.specs.declared.Frame.{Frame}
-use Rattle.engine.specs.Step.{Fault, none?, other, orElse, scan, byParty}
+use Rattle.engine.specs.Step.{Lent, Fault, none?, other, mask, heard, orElse, scan, byParty, faultOf}
+use Rattle.engine.specs.Plain.{waiting, isEcho, toEcho, pending, echoCheck, checkOf, ruleOf}
 use Rattle.engine.specs.Area.{mem}
 use Rattle.rounds.specs.Area.{firstOf}
 use Rattle.rounds.specs.Toss as Toss
@@ -155,3 +157,54 @@ judge-found f h k w m =
     (arm (eqb k 21) (f .n) _ _ _ _ (dvalues f _ m _ _)
     (arm (eqb k 22) (f .n) _ _ _ _ (faand f _ m _ _ _ _ _)
     (found-none [] (f .n)))))))))
+
+-- ---- whatever a round call finds in what was received names a party of the session
+unfoldable pub Named : ℕ → Fault → Type 0
+Named n e = e .code ≢ 0 → e .party < n
+
+module _ (n : ℕ) where
+  named-none : Named n none?
+  unfolding Named
+  named-none ne = absurd (ne refl)
+
+  named-pick : (b : Bool) (x y : Fault) → Named n x → Named n y → Named n (pick b x y)
+  named-pick true x y hx hy = hx
+  named-pick false x y hx hy = hy
+
+  named-or : (x y : Fault) → Named n x → Named n y → Named n (orElse x y)
+  unfolding orElse
+  named-or x y hx hy = named-pick (eqb (x .code) 0) y x hy hx
+
+  named-scan : (c : ℕ → ℕ) (m : ℕ) → m ≤ n → Named n (scan m c)
+  unfolding scan Named
+  named-scan c zero l = named-none
+  named-scan c (suc m) l = named-or (scan m c) (record { code = c m; party = m }) (named-scan c m (omega arith)) (λ _. l)
+
+  -- what waited for an echo
+  named-waiting : (numbers x : List ℕ) → Named n (waiting numbers n x)
+  unfolding waiting Named
+  named-waiting numbers x = go (mem (getD x 0 0) numbers) (ltb (getD x 1 0) n) refl
+    where
+      go : (a b : Bool) → ltb (getD x 1 0) n ≡ b
+          → pick (a && b) (record { code = getD x 0 0; party = getD x 1 0 }) none? .code ≢ 0
+          → pick (a && b) (record { code = getD x 0 0; party = getD x 1 0 }) none? .party < n
+      go true true e ne = ltb-true _ _ e
+      go true false e ne = absurd (ne refl)
+      go false b e ne = absurd (ne refl)
+
+named-by : (f : Frame) (c : ℕ → ℕ) → Named (f .n) (byParty f c)
+unfolding byParty
+named-by f c = named-scan (f .n) _ (f .n) (le-refl (f .n))
+
+pub fault-named : (f : Frame) → f .i < f .n → (k : ℕ) (q : Lent) (w : List ℕ) → Named (f .n) (faultOf (ruleOf Table.table k) f q w)
+unfolding faultOf checkOf echoCheck pending
+fault-named f h k q w =
+    named-or (f .n) _ _ (named-by f _)
+    (named-pick (f .n) (isEcho Table.table k) _ _ (named-or (f .n) _ _ (named-by f _) (named-waiting (f .n) _ _))
+    (named-pick (f .n) (toEcho Table.table (eqb (f .n) 2) k) _ _ (named-none (f .n)) (judged (Table.judge k f w m) (judge-found f h k w m))))
+  where
+    m : ℕ → List ℕ
+    m = mask f (heard (ruleOf Table.table k) f q)
+
+    judged : (e : Fault) → Found (Table.faults k) (f .n) e → Named (f .n) e
+    judged e d = unfold Named Found in λ ne. d ne .1

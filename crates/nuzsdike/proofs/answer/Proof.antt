@@ -1,6 +1,6 @@
 use mathlib.Core.Path.{_≡_, sym, ap, _∙_}
 use Prim.Native.Nat.{_≤_}
-use Rattle.engine.specs.declared.Verdict.{Verdict}
+use Rattle.engine.specs.Step.{replyOf}
 use Rattle.nuzsdike.specs.Interface.{packedOf, NO-PARTY}
 use Rattle.nuzsdike.specs.Narrow.{named}
 use borrow.Author.Needs.{needs}
@@ -20,16 +20,18 @@ enum-known-v c = search needs
 
 -- src/lib.rt:73:42
 packed-requires : tie.Need-packed-requires
+unfolding replyOf
 packed-requires c κs = rw (c .before .v .given .1) at (c .before .before .before .pre)
 
 -- src/lib.rt:67:1
 returns : tie.Need-returns
-unfolding packedOf
-returns c = ap packedOf (sym (c .enum-told .given .1))
+unfolding packedOf replyOf
+returns c = ap (λ v. packedOf (replyOf v)) (sym (c .enum-told .given .1))
 
 -- src/lib.rt:67:1
 returns-2 : tie.Need-returns-2
-returns-2 c = c .packed .ensures ∙ ap packedOf (sym (c .before .before .v .given .1))
+unfolding replyOf
+returns-2 c = c .packed .ensures ∙ ap (λ v. packedOf (replyOf v)) (sym (c .before .before .v .given .1))
 
 pub answer-spec : {M : Type 1} → statement M
 answer-spec = tie.close (tie.spec enum-told enum-known-v packed-requires returns returns-2)

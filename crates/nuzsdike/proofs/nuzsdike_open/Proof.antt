@@ -1,3 +1,5 @@
+use mathlib.Core.Path.{ap}
+use Rattle.engine.specs.Step.{replyOf}
 use native.Mathlib.Omega.{arith}
 use denote.Ref.{now}
 use Rattle.opening.specs.Given.{args}
@@ -38,6 +40,7 @@ enum-told c = search needs
 
 -- src/lib.rt:131:13
 store-requires : tie.Need-store-requires
+unfolding replyOf
 store-requires c κs =
     let a = c .before .before .before .before .before .before .before .before .before .before .before .before .before .before .before .before .before .before .before .before .before .before .args in
     let f = c .before .before .before .before .before .before .before .before .before .before .before .before .before .before .before .before .before .before .before .before .before .before .fits in
@@ -45,9 +48,9 @@ store-requires c κs =
       c .before .before .before .before .before .before .before .before .before .before .before .if1 .left,
       opened-narrow (args (a .n) (a .i) (a .l) (now (a .delta)) (now (a .seed)) (now (a .pairs)) (now (a .bits)) (now (a .alpha)) (now (a .beta)) (now (a .masks))
           (now (a .work)) (now (a .out)))
-          (o .«open» .result .session) (o .«open» .result .verdict)
+          (o .«open» .result .session) (replyOf (o .«open» .result .verdict))
           (o .«open» .last .1 .1 .1 .1 .1 .1 .1 .1 .1 .1 .0) (o .«open» .last .1 .1 .1 .1 .1 .1 .1 .1 .1 .1 .1 .0) (o .«open» .ensures)
-          (c .before .before .enum-told .given .1) (f .n .fits) (f .i .fits) (f .l .fits),
+          (ap replyOf (c .before .before .enum-told .given .1)) (f .n .fits) (f .i .fits) (f .l .fits),
     )
 
 -- src/lib.rt:134:26
@@ -72,14 +75,15 @@ same-length-3 c = search needs
 
 -- src/lib.rt:80:1
 returns-2 : tie.Need-returns-2
+unfolding replyOf
 returns-2 c =
     let a = c .before .before .before .before .before .before .before .before .before .before .before .before .before .before .before .before .before .before .before .before .before .before .before .before .before .args in
     let o = c .before .before .before .before .before .before .before .before .before .before .before in
     opens (now (a .session)) (args (a .n) (a .i) (a .l) (now (a .delta)) (now (a .seed)) (now (a .pairs)) (now (a .bits)) (now (a .alpha)) (now (a .beta)) (now (a .masks))
     (now (a .work)) (now (a .out)))
-    (c .before .before .before .before .before .before .before .before .before .before .before .before .before .before .if1 .left) (o .«open» .result .session) (o .«open» .result .verdict)
+    (c .before .before .before .before .before .before .before .before .before .before .before .before .before .before .if1 .left) (o .«open» .result .session) (replyOf (o .«open» .result .verdict))
     (o .«open» .last .1 .1 .1 .1 .1 .1 .1 .1 .1 .1 .0) (o .«open» .last .1 .1 .1 .1 .1 .1 .1 .1 .1 .1 .1 .0) (o .«open» .ensures)
-    (c .before .before .before .before .before .enum-told .given .1) (c .before .before .store .last .0) (c .before .before .store .ensures)
+    (ap replyOf (c .before .before .before .before .before .enum-told .given .1)) (c .before .before .store .last .0) (c .before .before .store .ensures)
 
 -- src/lib.rt:80:1
 same-length-4 : tie.Need-same-length-4
@@ -91,14 +95,15 @@ same-length-5 c = search needs
 
 -- src/lib.rt:80:1
 returns-3 : tie.Need-returns-3
+unfolding replyOf
 returns-3 c =
     let a = c .before .before .before .before .before .before .before .before .before .before .before .before .before .before .before .before .before .before .before .before .before .before .args in
     let o = c .before .before .before .before .before .before .before .before in
     opens-refused (now (a .session)) (args (a .n) (a .i) (a .l) (now (a .delta)) (now (a .seed)) (now (a .pairs)) (now (a .bits)) (now (a .alpha)) (now (a .beta)) (now (a .masks))
     (now (a .work)) (now (a .out)))
-    (c .before .before .before .before .before .before .before .before .before .before .before .if1 .left) (o .«open» .result .session) (o .«open» .result .verdict)
+    (c .before .before .before .before .before .before .before .before .before .before .before .if1 .left) (o .«open» .result .session) (replyOf (o .«open» .result .verdict))
     (o .«open» .last .1 .1 .1 .1 .1 .1 .1 .1 .1 .1 .0) (o .«open» .last .1 .1 .1 .1 .1 .1 .1 .1 .1 .1 .1 .0) (o .«open» .ensures)
-    _ _ (c .before .before .verdict .given .1) (c .packed2 .result) (c .packed2 .ensures)
+    _ _ (ap replyOf (c .before .before .verdict .given .1)) (c .packed2 .result) (c .packed2 .ensures)
 
 pub nuzsdike-open-spec : {M : Type 1} → statement M
 nuzsdike-open-spec =

@@ -2,8 +2,7 @@ use mathlib.Core.Path.{_≡_, sym, ap, _∙_, subst}
 use Prim.Native.Nat.{_≤_}
 use denote.Ref.{now}
 use Rattle.engine.specs.declared.Session.{Session}
-use Rattle.engine.specs.declared.Verdict.{Verdict}
-use Rattle.engine.specs.Step.{Outcome, roundSpec}
+use Rattle.engine.specs.Step.{Reply, replyOf, Outcome, roundSpec}
 use Rattle.engine.specs.Plain.{protocolOf}
 use Rattle.rounds.specs.Table.{table}
 use Rattle.session.specs.Given.{lent}
@@ -56,8 +55,8 @@ answer-requires c κs =
     let a = c .before .before .before .before .before .before .before .before .before .before .before .before .before .before .before .before .before .before .before .before .before .before .before .before .args in
     let q = (lent (now (a .incoming)) (now (a .starts)) (now (a .lens)) (now (a .missing)) (now (a .r)) (now (a .perm)) (now (a .out))) in
     let l = c .before .before .before .before .before .before .before .before .before .before .before .before in
-    subst (λ (v : Verdict). named v ≤ NO-PARTY) (sym (ap (λ (o : Outcome). o .verdict) (c .before .before .before .before .before .before .before .before .before .round .ensures)))
-    (round-named (l .load .result) (a .round) q (now (a .work)) (l .load .ensures .1) (λ j. c .before .before .before .before .before .before .before .before .before .before .before .before .before .before .before .before .slice-known2 .given j .fits))
+    subst (λ (v : Reply). named v ≤ NO-PARTY) (sym (ap (λ (o : Outcome). o .reply) (c .before .before .before .before .before .before .before .before .before .round .ensures)))
+    (round-named (l .load .result) (a .round) q (now (a .work)) (l .load .ensures .1))
 
 -- src/lib.rt:139:1
 same-length : tie.Need-same-length
@@ -79,7 +78,7 @@ returns-2 c =
     let l = c .before .before .before .before .before .before .before .before .before .before .before .before .before in
     let o = c .before .before .before .before .before .before .before .before .before .before in
     rounds (now (a .session)) (a .round) q (now (a .work)) (c .before .before .before .before .before .before .before .before .before .before .before .before .before .before .before .if1 .left) (c .answer .result) (c .before .before .before .store .last .0)
-    (o .round .last .1 .1 .1 .1 .1 .1 .1 .1 .0) (o .round .last .1 .1 .1 .1 .1 .1 .1 .1 .1 .0) (o .round .result .session) (o .round .result .verdict)
+    (o .round .last .1 .1 .1 .1 .1 .1 .1 .1 .0) (o .round .last .1 .1 .1 .1 .1 .1 .1 .1 .1 .0) (o .round .result .session) (replyOf (o .round .result .verdict))
     (c .answer .ensures) (c .before .before .before .store .ensures)
     (o .round .ensures ∙ ap (λ (s : Session). roundSpec (protocolOf table) s (a .round) q (now (a .work))) (l .load .ensures .0))
 
