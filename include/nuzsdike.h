@@ -17,13 +17,16 @@ extern "C" {
 /* A session: four numbers n, i, l and the round that is due, 0 once it is done or ended. The host keeps them between calls and changes none. */
 #define NUZSDIKE_SESSION 4
 
-/* An answer: 0 accepted; else document 01's number in the low byte, and above it the party that it names. */
+/* An answer: 0 accepted; else document 01's number in the low byte, and above it the party that it names. A round call whose session has another
+ * length than 4 answers 20 and names no party: nobody gave one. */
 #define NUZSDIKE_CODE(answer) ((unsigned)((answer) & 0xff))
-#define NUZSDIKE_PARTY(answer) ((size_t)((answer) >> 8))
+#define NUZSDIKE_PARTY(answer) ((uint64_t)(answer) >> 8)
+#define NUZSDIKE_NO_PARTY ((uint64_t)1 << 32)
 
 /* Opens a session of party i of n, for l ANDs; round 1 is due. session: 4 numbers, written. delta 16 bytes, seed 32, pairs 32 for each party; bits, alpha
- * and beta share records; masks a byte for each party and leaky AND. out: the messages of round 1 to the others, by party, own left out. */
-uint64_t nuzsdike_open(size_t *session, size_t session_len, size_t n, size_t i, size_t l,
+ * and beta share records; masks a byte for each party and leaky AND. out: the messages of round 1 to the others, by party, own left out.
+ * A refused opening writes nothing: a session that stands in the buffers goes on. */
+uint64_t nuzsdike_open(uint32_t *session, size_t session_len, uint32_t n, uint32_t i, uint32_t l,
                        const uint8_t *delta, size_t delta_len, const uint8_t *seed, size_t seed_len,
                        const uint8_t *pairs, size_t pairs_len, const uint8_t *bits, size_t bits_len,
                        const uint8_t *alpha, size_t alpha_len, const uint8_t *beta, size_t beta_len,
@@ -33,31 +36,41 @@ uint64_t nuzsdike_open(size_t *session, size_t session_len, size_t n, size_t i, 
 /* The call for a round, with the messages of the others: party k's lies in incoming from starts[k] on, lens[k] bytes; missing[k] other than 0 says that
  * there is none. starts, lens and missing have n entries, the own one is ignored. r and perm are empty but for the calls that nuzsdike_r_len and
  * nuzsdike_perm_len tell. out: the messages of the next round, or the results after the last. */
-uint64_t nuzsdike_round(size_t *session, size_t session_len, size_t round,
+uint64_t nuzsdike_round(uint32_t *session, size_t session_len, uint32_t round,
                         const uint8_t *incoming, size_t incoming_len, const size_t *starts, size_t starts_len,
                         const size_t *lens, size_t lens_len, const uint8_t *missing, size_t missing_len,
                         const uint8_t *r, size_t r_len, const uint32_t *perm, size_t perm_len,
                         uint8_t *work, size_t work_len, uint8_t *out, size_t out_len);
 
 /* Combines `count` triples of records x, y, z (at most 5) into one, by count - 1 bytes d; a call by itself. */
-uint64_t nuzsdike_combine(size_t n, size_t i, size_t count, const uint8_t *triples, size_t triples_len,
+uint64_t nuzsdike_combine(uint32_t n, uint32_t i, uint32_t count, const uint8_t *triples, size_t triples_len,
                           const uint8_t *d, size_t d_len, uint8_t *out, size_t out_len);
 
 /* Lengths for n parties and l ANDs; 0 where opening would refuse them. Round 0 stands for opening. */
-size_t nuzsdike_work_len(size_t n, size_t l);                /* bytes of the work area */
-size_t nuzsdike_out_len(size_t n, size_t l, size_t round);   /* bytes of the outgoing buffer of the call for that round */
-size_t nuzsdike_message_len(size_t n, size_t l, size_t round); /* bytes of one message of that round */
-size_t nuzsdike_bits_len(size_t n, size_t l);                /* bytes of the list of bits */
-size_t nuzsdike_shares_len(size_t n, size_t l);              /* bytes of alpha, of beta and of the results */
-size_t nuzsdike_masks_len(size_t n, size_t l);               /* bytes of the masks */
-size_t nuzsdike_pairs_len(size_t n);                         /* bytes of the pairwise seeds */
-size_t nuzsdike_r_len(size_t n, size_t l, size_t round);     /* bytes of r, lent with the call for that round */
-size_t nuzsdike_perm_len(size_t n, size_t l, size_t round);  /* numbers of the permutation, lent with that call */
-size_t nuzsdike_next_round(size_t n, size_t round);          /* the round after it, 0 after the last; 1 after 0 */
-size_t nuzsdike_due(const size_t *session, size_t session_len); /* the round that is due, 0 for none */
+size_t nuzsdike_work_len(uint32_t n, uint32_t l);                    /* bytes of the work area */
+size_t nuzsdike_out_len(uint32_t n, uint32_t l, uint32_t round);     /* bytes of the outgoing buffer of the call for that round */
+size_t nuzsdike_message_len(uint32_t n, uint32_t l, uint32_t round); /* bytes of one message of that round */
+size_t nuzsdike_bits_len(uint32_t n, uint32_t l);                    /* bytes of the list of bits */
+size_t nuzsdike_shares_len(uint32_t n, uint32_t l);                  /* bytes of alpha, of beta and of the results */
+size_t nuzsdike_masks_len(uint32_t n, uint32_t l);                   /* bytes of the masks */
+size_t nuzsdike_pairs_len(uint32_t n);                               /* bytes of the pairwise seeds */
+size_t nuzsdike_r_len(uint32_t n, uint32_t l, uint32_t round);       /* bytes of r, lent with the call for that round */
+size_t nuzsdike_perm_len(uint32_t n, uint32_t l, uint32_t round);    /* numbers of the permutation, lent with that call */
+size_t nuzsdike_record_len(uint32_t n);                              /* bytes of a share record */
+uint32_t nuzsdike_bucket_size(uint32_t l);                           /* leaky ANDs for each AND */
+
+/* Where the tossed seeds start in the work area of a live session, 0 where opening would refuse n or l. The joint seed, 32 bytes and the same for all,
+ * is there once the call for round 3 was accepted: draw r and the permutation from it. The pairwise seeds, nuzsdike_pairs_len(n) bytes by party, once
+ * the call for round 5 was. */
+size_t nuzsdike_joint_seed_at(uint32_t n, uint32_t l);
+size_t nuzsdike_pairwise_seeds_at(uint32_t n, uint32_t l);
+
+/* The round after a round of n parties, 1 after 0 (opening); 0 after the last, and where n or the round is none that a session has. */
+uint32_t nuzsdike_next_round(uint32_t n, uint32_t round);
+uint32_t nuzsdike_due(const uint32_t *session, size_t session_len); /* the round that is due, 0 for none */
 
 /* Byte k (0 to 15) of the name of a round, zeros behind it. */
-uint8_t nuzsdike_round_name(size_t round, size_t k);
+uint8_t nuzsdike_round_name(uint32_t round, size_t k);
 
 #ifdef __cplusplus
 }

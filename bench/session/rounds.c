@@ -32,11 +32,11 @@ static double now(void) {
     return t.tv_sec * 1e6 + t.tv_nsec / 1e3;
 }
 
-static size_t n, l;
+static uint32_t n, l;
 static uint8_t *delta[MOST], *seed[MOST], *pairs[MOST], *bits[MOST], *alpha[MOST], *beta[MOST], *masks[MOST], *work[MOST], *out[MOST], *in;
 
 static void deal(uint8_t *list[], size_t count) {
-    size_t record = 1 + 32 * n;
+    size_t record = nuzsdike_record_len(n);
     for (size_t j = 0; j < n; j++) memset(list[j], 0, count * record);
     for (size_t t = 0; t < count; t++)
         for (size_t j = 0; j < n; j++) {
@@ -53,10 +53,10 @@ static void deal(uint8_t *list[], size_t count) {
 
 int main(int argc, char **argv) {
     if (argc != 4) return fputs("usage: rounds N L TIMES\n", stderr), 2;
-    n = strtoul(argv[1], 0, 10), l = strtoul(argv[2], 0, 10);
+    n = (uint32_t)strtoul(argv[1], 0, 10), l = (uint32_t)strtoul(argv[2], 0, 10);
     size_t times = strtoul(argv[3], 0, 10), work_len = nuzsdike_work_len(n, l), most = nuzsdike_shares_len(n, l), r_len = 0, perm_len = 0;
     if (!work_len || !times) return fputs("usage: rounds N L TIMES\n", stderr), 2;
-    for (size_t k = 0; k <= LAST; k++) {
+    for (uint32_t k = 0; k <= LAST; k++) {
         if (nuzsdike_out_len(n, l, k) > most) most = nuzsdike_out_len(n, l, k);
         if (nuzsdike_r_len(n, l, k)) r_len = nuzsdike_r_len(n, l, k);
         if (nuzsdike_perm_len(n, l, k)) perm_len = nuzsdike_perm_len(n, l, k);
@@ -67,7 +67,7 @@ int main(int argc, char **argv) {
         bits[i] = buffer(bits_len), alpha[i] = buffer(shares), beta[i] = buffer(shares), work[i] = buffer(work_len), out[i] = buffer(most);
     }
     in = buffer(most * n);
-    deal(bits, bits_len / (1 + 32 * n)), deal(alpha, l), deal(beta, l);
+    deal(bits, bits_len / nuzsdike_record_len(n)), deal(alpha, l), deal(beta, l);
     uint8_t *r = drawn(r_len, 255);
     uint32_t *perm = malloc(4 * perm_len + 4);
     for (size_t t = 0; t < perm_len; t++) {
@@ -77,16 +77,16 @@ int main(int argc, char **argv) {
     double least[LAST + 1], plain = 1e18;
     for (size_t k = 0; k <= LAST; k++) least[k] = 1e18;
     for (size_t turn = 0; turn < times; turn++) {
-        size_t session[MOST][NUZSDIKE_SESSION];
-        for (size_t i = 0; i < n; i++) {
+        uint32_t session[MOST][NUZSDIKE_SESSION];
+        for (uint32_t i = 0; i < n; i++) {
             double t = now();
-            uint64_t a = nuzsdike_open(session[i], 4, n, i, l, delta[i], 16, seed[i], 32, pairs[i], pairs_len, bits[i], bits_len, alpha[i], shares, beta[i], shares,
+            uint64_t a = nuzsdike_open(session[i], NUZSDIKE_SESSION, n, i, l, delta[i], 16, seed[i], 32, pairs[i], pairs_len, bits[i], bits_len, alpha[i], shares, beta[i], shares,
                                        masks[i], masks_len, work[i], work_len, out[i], nuzsdike_out_len(n, l, 0));
             t = now() - t;
             if (a) return fprintf(stderr, "opening refused: %u\n", NUZSDIKE_CODE(a)), 1;
             if (!i && t < least[0]) least[0] = t;
         }
-        for (size_t k; (k = nuzsdike_due(session[0], 4)) != 0;) {
+        for (uint32_t k; (k = nuzsdike_due(session[0], NUZSDIKE_SESSION)) != 0;) {
             size_t len = nuzsdike_message_len(n, l, k), starts[MOST] = {0}, lens[MOST] = {0};
             uint8_t missing[MOST] = {0}, *sent[MOST];
             for (size_t j = 0; j < n; j++) memcpy(sent[j] = buffer((n - 1) * len), out[j], (n - 1) * len);
@@ -96,10 +96,10 @@ int main(int argc, char **argv) {
                     if (j != i) memcpy(in + j * len, sent[j] + (i < j ? i : i - 1) * len, len);
                 }
                 double t = now();
-                uint64_t a = nuzsdike_round(session[i], 4, k, in, n * len, starts, n, lens, n, missing, n, r, nuzsdike_r_len(n, l, k), perm, nuzsdike_perm_len(n, l, k),
+                uint64_t a = nuzsdike_round(session[i], NUZSDIKE_SESSION, k, in, n * len, starts, n, lens, n, missing, n, r, nuzsdike_r_len(n, l, k), perm, nuzsdike_perm_len(n, l, k),
                                             work[i], work_len, out[i], nuzsdike_out_len(n, l, k));
                 t = now() - t;
-                if (a) return fprintf(stderr, "round %zu refused: %u\n", k, NUZSDIKE_CODE(a)), 1;
+                if (a) return fprintf(stderr, "round %u refused: %u\n", k, NUZSDIKE_CODE(a)), 1;
                 if (!i && t < least[k]) least[k] = t;
                 if (i || k != MAKES_FABITN) continue;
                 t = now();
@@ -112,14 +112,14 @@ int main(int argc, char **argv) {
         }
     }
     double sum = 0;
-    for (size_t k = 0; k <= LAST; k++)
+    for (uint32_t k = 0; k <= LAST; k++)
         if (least[k] < 1e18) {
             char name[17] = {0};
             for (size_t b = 0; b < 16; b++) name[b] = (char)nuzsdike_round_name(k, b);
-            printf("%2zu %-14s %12.0f", k, k ? name : "opening", least[k]), sum += least[k];
+            printf("%2u %-14s %12.0f", k, k ? name : "opening", least[k]), sum += least[k];
             if (k == MAKES_FABITN) printf("  (plain C: %.0f for its sums)", plain);
             puts("");
         }
-    printf("n %zu l %zu: %.2f ms, %.2f us an AND\n", n, l, sum / 1e3, sum / l);
+    printf("n %u l %u: %.2f ms, %.2f us an AND\n", n, l, sum / 1e3, sum / l);
     return 0;
 }

@@ -1,5 +1,5 @@
 /* Two boxes in one process, on the C interface alone: what a host has to do, with a dealer in place of oblivious transfer and memory in place
- * of a network. The two sessions share nothing but the messages (and r and the permutation, which are public).
+ * of a network. The two sessions share nothing but the messages; each box draws r and the permutation, which are public, from the tossed joint seed.
  *
  *   cc -O2 -Iinclude -o two host/examples-c/two.c target/staticlib/libnuzsdike.a && ./two [L]
  */
@@ -9,13 +9,13 @@
 
 #include "nuzsdike.h"
 
-enum { N = 2, RECORD = 1 + 32 * N, LAST = 22 };
+enum { N = 2 };
 
 /* What a box brings along, and what it has during a session. */
 struct box {
     uint8_t delta[16], seed[32], *pairs, *bits, *alpha, *beta, *masks; /* secret, fresh for each session */
-    size_t session[NUZSDIKE_SESSION];
-    uint8_t *work, *out, *in; /* in: the other's message, copied as a network would */
+    uint32_t session[NUZSDIKE_SESSION], *perm;
+    uint8_t *work, *out, *in, *r; /* in: the other's message, copied as a network would */
 };
 
 static uint64_t state; /* of a generator for the demo; a box takes its operating system's randomness */
@@ -39,23 +39,37 @@ static uint8_t *random_bytes(uint8_t *p, size_t len) {
 static void deal(struct box *box, uint8_t *list[N], size_t count) {
     for (size_t t = 0; t < count; t++)
         for (size_t j = 0; j < N; j++) {
-            size_t k = 1 - j, at = t * RECORD;
+            size_t k = 1 - j, at = t * nuzsdike_record_len(N);
             uint8_t bit = list[j][at] = byte() & 1, *key = list[k] + at + 17 + 32 * j, *mac = list[j] + at + 1 + 32 * k;
             random_bytes(key, 16);
             for (size_t b = 0; b < 16; b++) mac[b] = key[b] ^ (box[k].delta[b] & -bit);
         }
 }
 
-static void refused(uint64_t answer, size_t box, size_t round) {
+/* r and the permutation from the joint seed. A box takes a cipher keyed with all of it. */
+static void draw(struct box *p, uint32_t l, size_t r_len, size_t perm_len) {
+    memcpy(&state, p->work + nuzsdike_joint_seed_at(N, l), sizeof state);
+    random_bytes(p->r, r_len);
+    for (size_t t = 0; t < perm_len; t++) { /* a shuffle, inside out */
+        size_t k = ((size_t)byte() << 16 | (size_t)byte() << 8 | byte()) % (t + 1);
+        p->perm[t] = p->perm[k];
+        p->perm[k] = (uint32_t)t;
+    }
+}
+
+static void refused(uint64_t answer, uint32_t box, uint32_t round) {
     char name[17] = {0};
     for (size_t k = 0; k < 16; k++) name[k] = (char)nuzsdike_round_name(round, k);
-    fprintf(stderr, "box %zu: refused %u in round %zu (%s), names box %zu\n", box, NUZSDIKE_CODE(answer), round, name, NUZSDIKE_PARTY(answer));
+    fprintf(stderr, "box %u: refused %u in round %u (%s), names box %llu\n", box, NUZSDIKE_CODE(answer), round, name,
+            (unsigned long long)NUZSDIKE_PARTY(answer));
     exit(1);
 }
 
 int main(int argc, char **argv) {
     char *end = "";
-    size_t l = argc > 1 ? strtoul(argv[1], &end, 10) : 100, work_len = nuzsdike_work_len(N, l);
+    unsigned long given = argc > 1 ? strtoul(argv[1], &end, 10) : 100;
+    uint32_t l = given <= UINT32_MAX ? (uint32_t)given : 0;
+    size_t work_len = nuzsdike_work_len(N, l), record = nuzsdike_record_len(N);
     if (argc > 2 || *end || !work_len) {
         fputs("usage: two [L], L from 1 to 300000\n", stderr);
         return 2;
@@ -63,10 +77,12 @@ int main(int argc, char **argv) {
     state = 1;
     struct box box[N];
     uint8_t *bits[N], *alpha[N], *beta[N];
-    size_t bits_len = nuzsdike_bits_len(N, l), shares_len = nuzsdike_shares_len(N, l), masks_len = nuzsdike_masks_len(N, l), most = 0;
-    for (size_t k = 0; k != LAST; k = nuzsdike_next_round(N, k)) /* the longest message, or the results */
+    size_t bits_len = nuzsdike_bits_len(N, l), shares_len = nuzsdike_shares_len(N, l), masks_len = nuzsdike_masks_len(N, l);
+    size_t most = nuzsdike_out_len(N, l, 0), r_len = 0, perm_len = 0; /* most: the longest message, or the results */
+    for (uint32_t k = 1; k; k = nuzsdike_next_round(N, k)) {
         if (nuzsdike_out_len(N, l, k) > most) most = nuzsdike_out_len(N, l, k);
-    if (shares_len > most) most = shares_len;
+        r_len += nuzsdike_r_len(N, l, k), perm_len += nuzsdike_perm_len(N, l, k);
+    }
 
     for (size_t i = 0; i < N; i++) {
         struct box *p = &box[i];
@@ -81,36 +97,29 @@ int main(int argc, char **argv) {
         p->work = buffer(work_len);
         p->out = buffer(most);
         p->in = buffer(most);
+        p->r = buffer(r_len);
+        p->perm = (uint32_t *)buffer(4 * perm_len);
     }
-    deal(box, bits, bits_len / RECORD);
+    deal(box, bits, bits_len / record);
     deal(box, alpha, l);
     deal(box, beta, l);
-    /* Public, and the same for both: in a deployment from the tossed joint seed. */
-    size_t r_len = 0, perm_len = 0;
-    for (size_t k = 1; k; k = nuzsdike_next_round(N, k)) r_len += nuzsdike_r_len(N, l, k), perm_len += nuzsdike_perm_len(N, l, k);
-    uint8_t *r = random_bytes(buffer(r_len), r_len);
-    uint32_t *perm = (uint32_t *)buffer(4 * perm_len);
-    for (size_t t = 0; t < perm_len; t++) { /* a shuffle, inside out */
-        size_t k = ((size_t)byte() << 16 | (size_t)byte() << 8 | byte()) % (t + 1);
-        perm[t] = perm[k];
-        perm[k] = (uint32_t)t;
-    }
 
-    for (size_t i = 0; i < N; i++) {
+    for (uint32_t i = 0; i < N; i++) {
         struct box *p = &box[i];
         uint64_t answer = nuzsdike_open(p->session, NUZSDIKE_SESSION, N, i, l, p->delta, 16, p->seed, 32, p->pairs, nuzsdike_pairs_len(N), p->bits,
                                         bits_len, p->alpha, shares_len, p->beta, shares_len, p->masks, masks_len, p->work, work_len, p->out,
                                         nuzsdike_out_len(N, l, 0));
         if (answer) refused(answer, i, 0);
     }
-    for (size_t round; (round = nuzsdike_due(box[0].session, NUZSDIKE_SESSION)) != 0;) {
+    for (uint32_t round; (round = nuzsdike_due(box[0].session, NUZSDIKE_SESSION)) != 0;) {
         size_t len = nuzsdike_message_len(N, l, round);
         for (size_t i = 0; i < N; i++) memcpy(box[1 - i].in, box[i].out, len); /* the network */
-        for (size_t i = 0; i < N; i++) {
+        for (uint32_t i = 0; i < N; i++) {
+            if (nuzsdike_r_len(N, l, round)) draw(&box[i], l, r_len, perm_len); /* round 3 was accepted: the joint seed is there */
             size_t starts[N] = {0}, lens[N] = {len, len}; /* one incoming message; the own entry is ignored */
             uint8_t missing[N] = {0};
-            uint64_t answer = nuzsdike_round(box[i].session, NUZSDIKE_SESSION, round, box[i].in, len, starts, N, lens, N, missing, N, r,
-                                             nuzsdike_r_len(N, l, round), perm, nuzsdike_perm_len(N, l, round), box[i].work, work_len, box[i].out,
+            uint64_t answer = nuzsdike_round(box[i].session, NUZSDIKE_SESSION, round, box[i].in, len, starts, N, lens, N, missing, N, box[i].r,
+                                             nuzsdike_r_len(N, l, round), box[i].perm, nuzsdike_perm_len(N, l, round), box[i].work, work_len, box[i].out,
                                              nuzsdike_out_len(N, l, round));
             if (answer) refused(answer, i, round);
         }
@@ -118,7 +127,7 @@ int main(int argc, char **argv) {
 
     /* The results lie in out. A checker that sees both boxes: MAC rule and AND. */
     for (size_t t = 0; t < l; t++) {
-        size_t at = t * RECORD;
+        size_t at = t * record;
         int ok = (box[0].out[at] ^ box[1].out[at]) == ((alpha[0][at] ^ alpha[1][at]) & (beta[0][at] ^ beta[1][at]));
         for (size_t j = 0; j < N; j++)
             for (size_t b = 0; b < 16; b++) {
@@ -131,6 +140,6 @@ int main(int argc, char **argv) {
             return 1;
         }
     }
-    printf("%zu ANDs of two boxes are right: MAC rule and AND\n", l);
+    printf("%u ANDs of two boxes are right: MAC rule and AND\n", l);
     return 0;
 }

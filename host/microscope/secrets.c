@@ -39,8 +39,8 @@ static void hide(const void *p, size_t len) { VALGRIND_MAKE_MEM_UNDEFINED(p, len
 static void show(const void *p, size_t len) { VALGRIND_MAKE_MEM_DEFINED(p, len); }
 
 /* Share records for n boxes, as docs/INTEGRATION.md has them. */
-static void deal(size_t n, uint8_t *delta[], uint8_t *list[], size_t count) {
-    size_t record = 1 + 32 * n;
+static void deal(uint32_t n, uint8_t *delta[], uint8_t *list[], size_t count) {
+    size_t record = nuzsdike_record_len(n);
     for (size_t t = 0; t < count; t++)
         for (size_t j = 0; j < n; j++) {
             uint8_t bit = list[j][t * record] = byte() & 1;
@@ -74,25 +74,26 @@ int main(int argc, char **argv) {
         control_address(&secret);
         return 0;
     }
-    size_t n = argc > 1 ? strtoul(argv[1], 0, 10) : 0, l = argc > 2 ? strtoul(argv[2], 0, 10) : 0, flip = argc > 3 ? strtoul(argv[3], 0, 10) : 0;
-    size_t work_len = nuzsdike_work_len(n, l);
+    uint32_t n = argc > 1 ? (uint32_t)strtoul(argv[1], 0, 10) : 0, l = argc > 2 ? (uint32_t)strtoul(argv[2], 0, 10) : 0;
+    uint32_t flip = argc > 3 ? (uint32_t)strtoul(argv[3], 0, 10) : 0;
+    size_t work_len = nuzsdike_work_len(n, l), record = nuzsdike_record_len(n);
     if (!work_len) {
         fputs("usage: secrets N L [K] | secrets control\n", stderr);
         return 2;
     }
     size_t bits_len = nuzsdike_bits_len(n, l), shares_len = nuzsdike_shares_len(n, l), masks_len = nuzsdike_masks_len(n, l);
     size_t pairs_len = nuzsdike_pairs_len(n), r_len = 0, perm_len = 0;
-    for (size_t k = 1; k; k = nuzsdike_next_round(n, k)) r_len += nuzsdike_r_len(n, l, k), perm_len += nuzsdike_perm_len(n, l, k);
+    for (uint32_t k = 1; k; k = nuzsdike_next_round(n, k)) r_len += nuzsdike_r_len(n, l, k), perm_len += nuzsdike_perm_len(n, l, k);
     uint8_t *r = random_bytes(r_len), *delta[MOST], *seed[MOST], *pairs[MOST], *masks[MOST], *bits[MOST], *alpha[MOST], *beta[MOST], *work[MOST], *out[MOST];
     uint32_t *perm = (uint32_t *)buffer(4 * perm_len);
-    size_t session[MOST][NUZSDIKE_SESSION];
+    uint32_t session[MOST][NUZSDIKE_SESSION];
     for (size_t t = 0; t < perm_len; t++) perm[t] = (uint32_t)(perm_len - 1 - t);
     for (size_t i = 0; i < n; i++) {
         delta[i] = random_bytes(16), seed[i] = random_bytes(32), pairs[i] = random_bytes(pairs_len), masks[i] = random_bytes(masks_len);
         for (size_t k = 0; k < masks_len; k++) masks[i][k] &= 1;
         bits[i] = buffer(bits_len), alpha[i] = buffer(shares_len), beta[i] = buffer(shares_len), work[i] = buffer(work_len), out[i] = 0;
     }
-    deal(n, delta, bits, bits_len / (1 + 32 * n));
+    deal(n, delta, bits, bits_len / record);
     deal(n, delta, alpha, l);
     deal(n, delta, beta, l);
     for (size_t i = 0; i < n; i++) {
@@ -100,7 +101,7 @@ int main(int argc, char **argv) {
         hide(bits[i], bits_len), hide(alpha[i], shares_len), hide(beta[i], shares_len);
     }
 
-    for (size_t i = 0; i < n; i++) {
+    for (uint32_t i = 0; i < n; i++) {
         out[i] = buffer(nuzsdike_out_len(n, l, 0));
         VALGRIND_PRINTF("CALL open\n");
         uint64_t answer = nuzsdike_open(session[i], NUZSDIKE_SESSION, n, i, l, delta[i], 16, seed[i], 32, pairs[i], pairs_len, bits[i], bits_len, alpha[i],
@@ -109,7 +110,7 @@ int main(int argc, char **argv) {
         show(&answer, sizeof answer), show(session[i], sizeof session[i]); /* an answer is public */
         if (answer) return fprintf(stderr, "opening: refused %u\n", NUZSDIKE_CODE(answer)), 1;
     }
-    for (size_t round = 1; round; round = nuzsdike_next_round(n, round)) {
+    for (uint32_t round = 1; round; round = nuzsdike_next_round(n, round)) {
         size_t len = nuzsdike_message_len(n, l, round), out_len = nuzsdike_out_len(n, l, round), refused = 0;
         uint8_t *incoming[MOST], *next[MOST];
         for (size_t i = 0; i < n; i++) show(out[i], (n - 1) * len); /* it is on the line */
@@ -119,16 +120,16 @@ int main(int argc, char **argv) {
                 if (k != i) memcpy(incoming[i] + k * len, out[k] + (i < k ? i : i - 1) * len, len);
         }
         if (round == flip) incoming[0][2 * len - 1] ^= 1;
-        for (size_t i = 0; i < n; i++) {
+        for (uint32_t i = 0; i < n; i++) {
             size_t starts[MOST] = {0}, lens[MOST] = {0};
             uint8_t missing[MOST] = {0};
             for (size_t k = 0; k < n; k++) starts[k] = k * len, lens[k] = len;
-            VALGRIND_PRINTF("CALL round %zu\n", round);
+            VALGRIND_PRINTF("CALL round %u\n", round);
             uint64_t answer = nuzsdike_round(session[i], NUZSDIKE_SESSION, round, incoming[i], n * len, starts, n, lens, n, missing, n, r,
                                              nuzsdike_r_len(n, l, round), perm, nuzsdike_perm_len(n, l, round), work[i], work_len, next[i], out_len);
             VALGRIND_PRINTF("CALL none\n");
             show(&answer, sizeof answer), show(session[i], sizeof session[i]);
-            if (answer) printf("round %zu: box %zu refuses %u, naming %zu\n", round, i, NUZSDIKE_CODE(answer), NUZSDIKE_PARTY(answer)), refused = 1;
+            if (answer) printf("round %u: box %u refuses %u, naming %llu\n", round, i, NUZSDIKE_CODE(answer), (unsigned long long)NUZSDIKE_PARTY(answer)), refused = 1;
         }
         if (refused) return flip ? 0 : 1;
         for (size_t i = 0; i < n; i++) free(out[i]), free(incoming[i]), out[i] = next[i];
@@ -136,9 +137,9 @@ int main(int argc, char **argv) {
     if (flip) return puts("nobody refused"), 0;
 
     /* Combining by itself: records of the list of bits as triples; d is public, as it is opened. */
-    uint8_t d[4] = {0, 1, 1, 0}, *combined = buffer(3 * (1 + 32 * n));
+    uint8_t d[4] = {0, 1, 1, 0}, *combined = buffer(3 * record);
     VALGRIND_PRINTF("CALL combine\n");
-    uint64_t answer = nuzsdike_combine(n, 0, 5, bits[0], 15 * (1 + 32 * n), d, 4, combined, 3 * (1 + 32 * n));
+    uint64_t answer = nuzsdike_combine(n, 0, 5, bits[0], 15 * record, d, 4, combined, 3 * record);
     VALGRIND_PRINTF("CALL none\n");
     show(&answer, sizeof answer);
     return answer != 0;

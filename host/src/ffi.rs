@@ -6,13 +6,18 @@ compile_error!("libnuzsdike.a is for 64-bit machines");
 
 pub const SESSION: usize = 4;
 
+/// A number for the interface. What 32 bits do not hold is above every limit, and so is the largest that they hold.
+pub fn number(x: usize) -> u32 {
+    u32::try_from(x).unwrap_or(u32::MAX)
+}
+
 extern "C" {
     pub fn nuzsdike_open(
-        session: *mut usize,
+        session: *mut u32,
         session_len: usize,
-        n: usize,
-        i: usize,
-        l: usize,
+        n: u32,
+        i: u32,
+        l: u32,
         delta: *const u8,
         delta_len: usize,
         seed: *const u8,
@@ -34,9 +39,9 @@ extern "C" {
     ) -> u64;
 
     pub fn nuzsdike_round(
-        session: *mut usize,
+        session: *mut u32,
         session_len: usize,
-        round: usize,
+        round: u32,
         incoming: *const u8,
         incoming_len: usize,
         starts: *const usize,
@@ -56,9 +61,9 @@ extern "C" {
     ) -> u64;
 
     pub fn nuzsdike_combine(
-        n: usize,
-        i: usize,
-        count: usize,
+        n: u32,
+        i: u32,
+        count: u32,
         triples: *const u8,
         triples_len: usize,
         d: *const u8,
@@ -67,16 +72,20 @@ extern "C" {
         out_len: usize,
     ) -> u64;
 
-    pub fn nuzsdike_work_len(n: usize, l: usize) -> usize;
-    pub fn nuzsdike_out_len(n: usize, l: usize, round: usize) -> usize;
-    pub fn nuzsdike_message_len(n: usize, l: usize, round: usize) -> usize;
-    pub fn nuzsdike_bits_len(n: usize, l: usize) -> usize;
-    pub fn nuzsdike_shares_len(n: usize, l: usize) -> usize;
-    pub fn nuzsdike_masks_len(n: usize, l: usize) -> usize;
-    pub fn nuzsdike_pairs_len(n: usize) -> usize;
-    pub fn nuzsdike_r_len(n: usize, l: usize, round: usize) -> usize;
-    pub fn nuzsdike_perm_len(n: usize, l: usize, round: usize) -> usize;
-    pub fn nuzsdike_next_round(n: usize, round: usize) -> usize;
-    pub fn nuzsdike_due(session: *const usize, session_len: usize) -> usize;
-    pub fn nuzsdike_round_name(round: usize, k: usize) -> u8;
+    pub fn nuzsdike_work_len(n: u32, l: u32) -> usize;
+    pub fn nuzsdike_out_len(n: u32, l: u32, round: u32) -> usize;
+    pub fn nuzsdike_message_len(n: u32, l: u32, round: u32) -> usize;
+    pub fn nuzsdike_bits_len(n: u32, l: u32) -> usize;
+    pub fn nuzsdike_shares_len(n: u32, l: u32) -> usize;
+    pub fn nuzsdike_masks_len(n: u32, l: u32) -> usize;
+    pub fn nuzsdike_pairs_len(n: u32) -> usize;
+    pub fn nuzsdike_r_len(n: u32, l: u32, round: u32) -> usize;
+    pub fn nuzsdike_perm_len(n: u32, l: u32, round: u32) -> usize;
+    pub fn nuzsdike_record_len(n: u32) -> usize;
+    pub fn nuzsdike_bucket_size(l: u32) -> u32;
+    pub fn nuzsdike_joint_seed_at(n: u32, l: u32) -> usize;
+    pub fn nuzsdike_pairwise_seeds_at(n: u32, l: u32) -> usize;
+    pub fn nuzsdike_next_round(n: u32, round: u32) -> u32;
+    pub fn nuzsdike_due(session: *const u32, session_len: usize) -> u32;
+    pub fn nuzsdike_round_name(round: u32, k: usize) -> u8;
 }

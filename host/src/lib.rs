@@ -40,7 +40,7 @@ pub enum Call {
 /// The name of a round as the library has it, empty for what is no round.
 pub fn round_name(round: usize) -> String {
     // Sound: reads no memory of ours.
-    let byte = |k| unsafe { ffi::nuzsdike_round_name(round, k) };
+    let byte = |k| unsafe { ffi::nuzsdike_round_name(ffi::number(round), k) };
     (0..16).map(byte).take_while(|b| *b != 0).map(char::from).collect()
 }
 
@@ -52,9 +52,10 @@ pub fn round_title(round: usize) -> String {
     }
 }
 
-/// The bytes of a share record: the bit, then for each party a MAC and a key.
-pub const fn record_len(n: usize) -> usize {
-    1 + 32 * n
+/// The bytes of a share record: the bit, then for each party a MAC and a key; 0 where opening would refuse n.
+pub fn record_len(n: usize) -> usize {
+    // Sound: takes a number.
+    unsafe { ffi::nuzsdike_record_len(ffi::number(n)) }
 }
 
 /// The numbers of a session of n boxes for l ANDs. Every length is the library's own answer; all are 0 where opening would refuse n or l.
@@ -71,48 +72,61 @@ impl Plan {
     }
 
     pub fn work_len(self) -> usize {
-        unsafe { ffi::nuzsdike_work_len(self.n, self.l) }
+        unsafe { ffi::nuzsdike_work_len(ffi::number(self.n), ffi::number(self.l)) }
     }
 
     /// The outgoing buffer of the call for a round; round 0 is opening.
     pub fn out_len(self, round: usize) -> usize {
-        unsafe { ffi::nuzsdike_out_len(self.n, self.l, round) }
+        unsafe { ffi::nuzsdike_out_len(ffi::number(self.n), ffi::number(self.l), ffi::number(round)) }
     }
 
     pub fn message_len(self, round: usize) -> usize {
-        unsafe { ffi::nuzsdike_message_len(self.n, self.l, round) }
+        unsafe { ffi::nuzsdike_message_len(ffi::number(self.n), ffi::number(self.l), ffi::number(round)) }
     }
 
     pub fn bits_len(self) -> usize {
-        unsafe { ffi::nuzsdike_bits_len(self.n, self.l) }
+        unsafe { ffi::nuzsdike_bits_len(ffi::number(self.n), ffi::number(self.l)) }
     }
 
     /// Of alpha, of beta and of the results.
     pub fn shares_len(self) -> usize {
-        unsafe { ffi::nuzsdike_shares_len(self.n, self.l) }
+        unsafe { ffi::nuzsdike_shares_len(ffi::number(self.n), ffi::number(self.l)) }
     }
 
     pub fn masks_len(self) -> usize {
-        unsafe { ffi::nuzsdike_masks_len(self.n, self.l) }
+        unsafe { ffi::nuzsdike_masks_len(ffi::number(self.n), ffi::number(self.l)) }
     }
 
     pub fn pairs_len(self) -> usize {
-        unsafe { ffi::nuzsdike_pairs_len(self.n) }
+        unsafe { ffi::nuzsdike_pairs_len(ffi::number(self.n)) }
     }
 
     /// The bytes of r to lend with the call for a round.
     pub fn r_len(self, round: usize) -> usize {
-        unsafe { ffi::nuzsdike_r_len(self.n, self.l, round) }
+        unsafe { ffi::nuzsdike_r_len(ffi::number(self.n), ffi::number(self.l), ffi::number(round)) }
     }
 
     /// The numbers of the permutation to lend with the call for a round.
     pub fn perm_len(self, round: usize) -> usize {
-        unsafe { ffi::nuzsdike_perm_len(self.n, self.l, round) }
+        unsafe { ffi::nuzsdike_perm_len(ffi::number(self.n), ffi::number(self.l), ffi::number(round)) }
+    }
+
+    /// How many leaky ANDs make one AND.
+    pub fn bucket_size(self) -> usize {
+        unsafe { ffi::nuzsdike_bucket_size(ffi::number(self.l)) as usize }
     }
 
     /// The round after a round, 0 after the last; the first after 0.
     pub fn next_round(self, round: usize) -> usize {
-        unsafe { ffi::nuzsdike_next_round(self.n, round) }
+        unsafe { ffi::nuzsdike_next_round(ffi::number(self.n), ffi::number(round)) as usize }
+    }
+
+    fn joint_seed_at(self) -> usize {
+        unsafe { ffi::nuzsdike_joint_seed_at(ffi::number(self.n), ffi::number(self.l)) }
+    }
+
+    fn pairwise_seeds_at(self) -> usize {
+        unsafe { ffi::nuzsdike_pairwise_seeds_at(ffi::number(self.n), ffi::number(self.l)) }
     }
 
     /// The rounds in order: 14 for two boxes, else 22.
@@ -284,7 +298,7 @@ pub enum Step {
 pub struct Session {
     plan: Plan,
     i: usize,
-    state: [usize; ffi::SESSION],
+    state: [u32; ffi::SESSION],
     work: Vec<u8>,
 }
 
@@ -292,16 +306,22 @@ impl Session {
     /// Opens a session for box i, and gives the messages of round 1. The inputs are copied to the work area and may be dropped.
     pub fn open(plan: Plan, i: usize, inputs: &Inputs) -> Result<(Session, Outgoing), Refusal> {
         let mut session = Session { plan, i, state: [0; ffi::SESSION], work: vec![0; plan.work_len()] };
+        let outgoing = session.open_again(plan, i, inputs)?;
+        Ok((session, outgoing))
+    }
+
+    /// Opens another session in the memory of this one, which is over then. Where that is refused, this one goes on as it was.
+    pub fn open_again(&mut self, plan: Plan, i: usize, inputs: &Inputs) -> Result<Outgoing, Refusal> {
         let mut bytes = vec![0; plan.out_len(0)];
         // Sound: each pair is a slice's pointer (never null, in Rust) and its length; what is written is borrowed mutably and so overlaps
         // nothing; the library keeps no pointer.
         let answer = unsafe {
             ffi::nuzsdike_open(
-                session.state.as_mut_ptr(),
-                session.state.len(),
-                plan.n,
-                i,
-                plan.l,
+                self.state.as_mut_ptr(),
+                self.state.len(),
+                ffi::number(plan.n),
+                ffi::number(i),
+                ffi::number(plan.l),
                 inputs.delta.as_ptr(),
                 inputs.delta.len(),
                 inputs.seed.as_ptr(),
@@ -316,17 +336,17 @@ impl Session {
                 inputs.beta.len(),
                 inputs.masks.as_ptr(),
                 inputs.masks.len(),
-                session.work.as_mut_ptr(),
-                session.work.len(),
+                self.work.as_mut_ptr(),
+                self.work.len(),
                 bytes.as_mut_ptr(),
                 bytes.len(),
             )
         };
         if answer != 0 {
-            return Err(Refusal::new(answer, Call::Open, true));
+            return Err(Refusal::new(answer, Call::Open, self.due() == 0));
         }
-        let out = Outgoing { round: session.due(), n: plan.n, i, bytes };
-        Ok((session, out))
+        (self.plan, self.i) = (plan, i);
+        Ok(Outgoing { round: self.due(), n: plan.n, i, bytes })
     }
 
     /// The call for the round of `mail`. Where it is refused the session may be over (`Refusal::over`), or as it was before.
@@ -338,7 +358,7 @@ impl Session {
             ffi::nuzsdike_round(
                 self.state.as_mut_ptr(),
                 self.state.len(),
-                round,
+                ffi::number(round),
                 mail.buffer.as_ptr(),
                 mail.buffer.len(),
                 mail.starts.as_ptr(),
@@ -369,7 +389,7 @@ impl Session {
     /// The round that is due, 0 once the session is over.
     pub fn due(&self) -> usize {
         // Sound: a slice of ours, read only.
-        unsafe { ffi::nuzsdike_due(self.state.as_ptr(), self.state.len()) }
+        unsafe { ffi::nuzsdike_due(self.state.as_ptr(), self.state.len()) as usize }
     }
 
     pub fn plan(&self) -> Plan {
@@ -378,6 +398,21 @@ impl Session {
 
     pub fn number(&self) -> usize {
         self.i
+    }
+
+    /// The joint seed, the same at every box, once round 3 was accepted: r and the permutation are to be drawn from it.
+    pub fn joint_seed(&self) -> &[u8] {
+        &self.work[self.plan.joint_seed_at()..][..32]
+    }
+
+    /// The seeds tossed with each other box, 32 bytes by party, once round 5 was accepted.
+    pub fn pairwise_seeds(&self) -> &[u8] {
+        &self.work[self.plan.pairwise_seeds_at()..][..self.plan.pairs_len()]
+    }
+
+    /// The work area. It holds secrets as long as the session is alive.
+    pub fn work(&self) -> &[u8] {
+        &self.work
     }
 
     /// Whether the work area is all zero, as the library leaves it once a session is over.
@@ -399,8 +434,19 @@ impl Drop for Session {
 pub fn combine(n: usize, i: usize, count: usize, triples: &[u8], d: &[u8]) -> Result<Vec<u8>, Refusal> {
     let mut out = vec![0; 3 * record_len(n)];
     // Sound: as in `Session::open`.
-    let answer =
-        unsafe { ffi::nuzsdike_combine(n, i, count, triples.as_ptr(), triples.len(), d.as_ptr(), d.len(), out.as_mut_ptr(), out.len()) };
+    let answer = unsafe {
+        ffi::nuzsdike_combine(
+            ffi::number(n),
+            ffi::number(i),
+            ffi::number(count),
+            triples.as_ptr(),
+            triples.len(),
+            d.as_ptr(),
+            d.len(),
+            out.as_mut_ptr(),
+            out.len(),
+        )
+    };
     match answer {
         0 => Ok(out),
         _ => Err(Refusal::new(answer, Call::Combine, false)),

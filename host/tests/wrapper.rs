@@ -120,7 +120,8 @@ fn results_have_ones() {
 fn lengths_are_those_of_the_documents() {
     for n in 2..=8 {
         for (l, b) in [(1, 5), (3_099, 5), (3_100, 4), (279_999, 4), (280_000, 3), (300_000, 3)] {
-            let (plan, record, lb) = (Plan::new(n, l), record_len(n), l * b);
+            let (plan, record, lb) = (Plan::new(n, l), 1 + 32 * n, l * b);
+            assert_eq!((record_len(n), plan.bucket_size()), (record, b));
             assert_eq!(plan.bits_len(), (3 * lb + 160) * record);
             assert_eq!(plan.shares_len(), l * record);
             assert_eq!(plan.masks_len(), n * lb);
@@ -140,6 +141,7 @@ fn lengths_are_those_of_the_documents() {
     for (n, l) in [(1, 1), (9, 1), (2, 0), (2, 300_001), (usize::MAX, usize::MAX)] {
         let plan = Plan::new(n, l);
         assert_eq!((plan.work_len(), plan.bits_len(), plan.out_len(0), plan.shares_len()), (0, 0, 0, 0));
+        assert_eq!((record_len(n), plan.bucket_size()), (if n == 2 { 65 } else { 0 }, if l == 1 { 5 } else { 0 }));
     }
 }
 
@@ -147,6 +149,9 @@ fn lengths_are_those_of_the_documents() {
 fn rounds_have_order_and_names() {
     assert_eq!(Plan::new(3, 1).rounds(), (1..=22).collect::<Vec<_>>());
     assert_eq!(Plan::new(2, 1).rounds(), [1, 3, 4, 5, 6, 8, 10, 12, 14, 15, 17, 19, 21, 22]);
+    // What is no round of a session, or no number of boxes, has no next one.
+    assert_eq!([(2, 2), (2, 22), (2, 23), (3, usize::MAX)].map(|(n, k)| Plan::new(n, 1).next_round(k)), [0; 4]);
+    assert_eq!([0, 1, 9, usize::MAX].map(|n| Plan::new(n, 1).next_round(0)), [0; 4]);
     assert_eq!((round_name(1), round_name(12), round_name(22)), ("RNG comm".into(), "fashare di_bi".into(), "faand".into()));
     assert_eq!((round_title(9), round_title(20)), ("echo of fashare comm".into(), "echo of flaand hash".into()));
     assert_eq!((round_name(0), round_name(23), round_name(usize::MAX)), (String::new(), String::new(), String::new()));
@@ -215,6 +220,64 @@ fn a_hosts_mistakes_leave_the_session() {
     refused(run.sessions[2].round(&mail, Lent { r: &[], perm: &outside }), 18, 2, false);
     refused(run.sessions[2].round(&mail, Lent::default()), 17, 2, false);
     assert!(run.call(2, &mail).is_ok());
+}
+
+/// Opening by mistake into a live session's memory is refused, and the session goes on to the end.
+#[test]
+fn a_refused_opening_leaves_a_live_session() {
+    for n in [2, 3] {
+        let mut run = Run::new(n, 2, 11);
+        let results = loop {
+            let round = run.sessions[1].due();
+            let (again, work) = (dealer::deal_in_memory(run.plan, 12).0, run.sessions[1].work().to_vec());
+            let mut bad = |plan: Plan, i, change: fn(&mut Inputs), number| {
+                let mut inputs = dealer::deal_in_memory(run.plan, 12).0.remove(1);
+                change(&mut inputs);
+                refused(run.sessions[1].open_again(plan, i, &inputs), number, i, false);
+                assert!(run.sessions[1].due() == round && run.sessions[1].work() == work);
+            };
+            bad(run.plan, n, |_| {}, 15);
+            bad(Plan::new(n, 300_001), 1, |_| {}, 16);
+            bad(Plan::new(n, 0), 1, |_| {}, 3);
+            bad(run.plan, 1, |inputs| inputs.alpha.clear(), 6);
+            bad(run.plan, 1, |inputs| inputs.pairs.clear(), 17);
+            bad(run.plan, 1, |inputs| inputs.bits[0] = 2, 1);
+            // Another box's inputs.
+            refused(run.sessions[1].open_again(run.plan, 1, &again[0]), 4, 1, false);
+            if let Some(results) = run.step() {
+                break results;
+            }
+        };
+        assert_eq!(run.check(&results), Ok(Checked { ands: 2, macs: 2 * n * (n - 1) }));
+    }
+}
+
+/// An accepted opening takes the place of the session that was there.
+#[test]
+fn an_accepted_opening_replaces_a_session() {
+    let mut run = Run::new(2, 2, 13).until(6);
+    for i in 0..2 {
+        run.outgoing[i] = run.sessions[i].open_again(run.plan, i, &run.inputs[i]).unwrap_or_else(|refusal| panic!("{refusal}"));
+    }
+    let results = loop {
+        if let Some(results) = run.step() {
+            break results;
+        }
+    };
+    assert_eq!(run.check(&results), Ok(Checked { ands: 2, macs: 4 }));
+}
+
+/// The tossed seeds lie where the library says.
+#[test]
+fn boxes_share_the_tossed_seeds() {
+    let run = Run::new(3, 2, 14).until(6);
+    let joint = run.sessions[0].joint_seed();
+    assert!(joint.iter().any(|byte| *byte != 0) && run.sessions.iter().all(|session| session.joint_seed() == joint));
+    let pairwise = |i: usize, k: usize| &run.sessions[i].pairwise_seeds()[32 * k..][..32];
+    for (i, k) in [(0, 1), (0, 2), (1, 2)] {
+        assert!(pairwise(i, k).iter().any(|byte| *byte != 0) && pairwise(i, k) == pairwise(k, i));
+    }
+    assert_ne!(pairwise(0, 1), pairwise(0, 2));
 }
 
 /// What the others get wrong ends the session and zeroes the work area.

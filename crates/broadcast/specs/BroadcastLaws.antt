@@ -44,9 +44,9 @@ module _ (f : Frame) (m : ℕ → List ℕ) where
   party-masked c = scan-ext (f .n) _ _ (λ k _. masked (c k) 0 k)
 
   -- ---- the definitions at the table
-  pub digests-are : (k : ℕ) → digests table k f (mask f m) ≡ rowsOf f (λ j. hashVec (f .l) k (m j))
+  pub digests-are : (k : ℕ) → digests table k f (mask f m) ≡ rowsOf f (λ j. hashVec k (m j))
   unfolding digests
-  digests-are k = rows-masked (hashVec (f .l) k)
+  digests-are k = rows-masked (hashVec k)
 
   pub echo-checks : (w : List ℕ) → echoCheck table f w (mask f m) ≡ orElse (byParty f (echoFaults (f .n) (f .i) (at f HASHES w) m)) (pending table f w)
   unfolding echoCheck hashes at echo

@@ -10,6 +10,7 @@ ghost use Rattle.algebra.specs.Group.{XorGroup, sel, odd};
 ghost use Rattle.share.specs.Record.{recordLen};
 ghost use Rattle.share.specs.Share.{shareAt, shares, recordOf};
 ghost use Rattle.rounds.specs.Buckets as B;
+ghost use Rattle.engine.specs.Step.{replyOf};
 ghost use Rattle.rounds.specs.Combine as C;
 ghost use Rattle.combine.specs.Pair.{pairAt, putPair};
 use engine::Verdict;
@@ -149,7 +150,7 @@ pub fn combine(
     d: &[u8],
     out: &mut [u8],
 ) -> Verdict
-    ensures { λ r. ⌜ C.outcome r (now (out .exit)) ≡ C.spec (C.args n i count (now (triples .entry)) (now (d .entry)) (now (out .entry))) ⌝ }
+    ensures { λ r. ⌜ C.outcome (replyOf r) (now (out .exit)) ≡ C.spec (C.args n i count (now (triples .entry)) (now (d .entry)) (now (out .entry))) ⌝ }
 {
     let code = reason(n, i, count, triples, d, out);
     if code != 0 {

@@ -25,11 +25,10 @@ use rounds::Fault;
 // ---- what is kept of the lists
 
 // `hash_vec`: the first 16 bytes of BLAKE3 of the list of round k, its count included; of the bits alone where the items are a bit and a Block.
-pub fn hash_list(m: &[u8], l: usize, k: usize) -> Block
-    requires { ⌜ decodes (kindOf l k) (now m) ≡ true ⌝ }
-    ensures { λ r. ⌜ bytesOf r ≡ Echo.hashVec l k (now (m .entry)) ⌝ }
+fn hash_list(list: &[u8], k: usize) -> Block
+    requires { ⌜ 8 ≤ length (now list) ⌝ }
+    ensures { λ r. ⌜ bytesOf r ≡ Echo.hashVec k (now (list .entry)) ⌝ }
 {
-    let list = message::list(plan::kind_of(l, k), m);
     if (k == 6) | (k == 15) {
         blake3::hash128_firsts(list, 17)
     } else {
@@ -50,13 +49,13 @@ fn hash_row(
 ) -> Block
     requires { ⌜ j < n ⌝ }
     requires { ⌜ Received (kindOf l k) (countDue n l k) n i (now incoming) (now starts) (now lens) ⌝ }
-    ensures { λ r. ⌜ bytesOf r ≡ pick (neq i j) (Echo.hashVec l k (Mail.letter (now (incoming .entry)) (now (starts .entry)) (now (lens .entry)) j)) (replicate 16 0) ⌝ }
+    ensures { λ r. ⌜ bytesOf r ≡ pick (neq i j) (Echo.hashVec k (Mail.letter (now (incoming .entry)) (now (starts .entry)) (now (lens .entry)) j)) (replicate 16 0) ⌝ }
 {
     if j == i {
         return Block::zero();
     }
     let m = rounds::letter(incoming, starts, lens, j);
-    hash_list(m, l, k)
+    hash_list(m, k)
 }
 
 // The hashes of the lists of round k, by party.
@@ -72,7 +71,7 @@ pub fn keep_hashes(
 )
     requires { ⌜ (n ≤ 8) × (length (now section) ≡ n * 16) ⌝ }
     requires { ⌜ Received (kindOf l k) (countDue n l k) n i (now incoming) (now starts) (now lens) ⌝ }
-    ensures { λ _. ⌜ now (section .exit) ≡ rowsOf (frame n l i) (λ j. Echo.hashVec l k (Mail.letter (now (incoming .entry)) (now (starts .entry)) (now (lens .entry)) j)) ⌝ }
+    ensures { λ _. ⌜ now (section .exit) ≡ rowsOf (frame n l i) (λ j. Echo.hashVec k (Mail.letter (now (incoming .entry)) (now (starts .entry)) (now (lens .entry)) j)) ⌝ }
 {
     let mut j = 0;
     while j < n {

@@ -6,9 +6,6 @@ use Prim.Native.Nat.{ℕ, zero, suc, _+_, _-_, _*_, _^_, _<_, _≤_}
 use native.Mathlib.Omega.{arith}
 use lib.ListN.{length, take, drop, length-append, length-drop, take-append-drop}
 use lib.Seq.{take-at, take-append-le, drop-append-le, drop-append-add}
-use lib.Dec.{leb, eqb}
-use borrow.Author.Tests.{le-leb, eq-eqb}
-use Rattle.lists.specs.Pick.{pick}
 use Rattle.lists.specs.All.{all-of}
 use Rattle.lists.specs.Over.{cat, length-cat}
 use Rattle.lists.specs.Rows.{cat-part, cat-inside}
@@ -16,8 +13,7 @@ use Rattle.block.specs.Block.{le8}
 use Rattle.block.specs.Trip.{length-le8}
 use Rattle.message.specs.declared.Kind.{Kind}
 use Rattle.message.specs.Format.{itemLen, itemAt, countOf, decodes, listLen, listOf, innerDue, innersDue, formOf}
-use Rattle.message.specs.FormatLaws.{and-true, decodes-of, list-some, form-of}
-use Rattle.message.specs.Read.{inside, partOf, readList, verdictOf}
+use Rattle.message.specs.FormatLaws.{decodes-of, list-some, form-of}
 use Rattle.encode.specs.Encode.{encode}
 use Rattle.encode.specs.Coded.{Coded, count-encode}
 
@@ -119,19 +115,3 @@ module _ (K : Kind) (size c : ℕ) (g : ℕ → List ℕ) (long : (t : ℕ) → 
 
   pub even-item : (t : ℕ) → t < c → take size (drop (8 + t * size) m) ≡ g t
   even-item t l = ap₂ (λ n a. take n (drop a m)) (sym (long t l)) (sym (even-at t (omega arith))) ∙ w .item t l
-
--- ---- read where it lies in the incoming buffer
-module _ (K : Kind) (c : ℕ) (g : ℕ → List ℕ) (incoming : List ℕ) (start len : ℕ) (within : start + len ≤ length incoming)
-    (w : Trip K c g (partOf start len incoming)) where
-  pub read-back : readList K c incoming start len ≡ encode c g
-  unfolding readList inside
-  read-back =
-      ap (λ (b : Bool). pick b (listOf K (partOf start len incoming)) [])
-      (and-true (leb (start + len) (length incoming)) (eqb (formOf K c (partOf start len incoming)) 0)
-      (le-leb (start + len) (length incoming) within) (eq-eqb (formOf K c (partOf start len incoming)) 0 (w .form-is)))
-      ∙ w .list-is
-
-  pub accepted : verdictOf K c incoming start len 0 ≡ 0
-  unfolding verdictOf inside
-  accepted =
-      ap (λ (b : Bool). pick b (formOf K c (partOf start len incoming)) 17) (le-leb (start + len) (length incoming) within) ∙ w .form-is

@@ -252,6 +252,10 @@ abbrev pub Every : (ℕ → Type 0) → List ℕ → Type 0
 Every Q [] = Unit {0}
 Every Q (a ∷ l) = Q a × Every Q l
 
+-- one entry more
+pub also : {A B : Type 0} → A → B → A × B
+also a b = (a, b)
+
 pub every-at : (Q : ℕ → Type 0) (l : List ℕ) (z : ℕ) → Every Q l → (d : ℕ) → d < length l → Q (getD l d z)
 every-at Q [] z h d i = absurd (omega arith)
 every-at Q (a ∷ l) z h zero i = h .0

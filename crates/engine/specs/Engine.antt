@@ -13,7 +13,7 @@ use lib.Dec.{ltb}
 use borrow.Author.Tests.{ltb-true, ltb-false}
 use Rattle.lists.specs.All.{true-false}
 use Rattle.algebra.specs.Sum.{neq, apart?, Same, same}
-use Rattle.engine.specs.Step.{Frame, frame, Session, Loan, Lent, Verdict, Accepted, Refused, Outcome, outcome, Protocol, mask, part}
+use Rattle.engine.specs.Step.{Frame, frame, Session, Loan, Lent, Reply, Accepted, Refused, Outcome, outcome, Protocol, mask, part, heard}
 use Rattle.engine.specs.Step.{stretch, reasonOf, faultOf, accepted, roundSpec}
 use Rattle.engine.specs.StepLaws.{round-cases, due-of, over-20, other-19, mask-ext, no-fault, round-accepts}
 use Rattle.engine.specs.World.{In, here, there, All, update, Box, Note, World, Call, opening, turn, start, logged, openedBox}
@@ -47,6 +47,8 @@ module _ (P : Protocol) (n l : ℕ) (loans : ℕ → Loan) where
     pub sized : (G : Joint) → Holds k G → (i : ℕ) → i < n → length (G .work i) ≡ P .workLen (frame n l i)
     pub formed : (G : Joint) → Holds k G → (i j : ℕ) → i < n → j < n → i ≢ j
         → P .rule k .form (frame n l i) (stretch (P .msgLen n l k) j i (G .out j)) ≡ 0
+    pub whole : (G : Joint) → Holds k G → (i j : ℕ) → i < n → j < n → i ≢ j
+        → P .rule k .list (frame n l i) (stretch (P .msgLen n l k) j i (G .out j)) ≡ stretch (P .msgLen n l k) j i (G .out j)
     pub passes : (G : Joint) → Holds k G → Valid k → (i : ℕ) → i < n
         → P .rule k .check (frame n l i) (loans k) (G .work i) (mailOf k G i) .code ≡ 0
     pub goes : (G : Joint) → Holds k G → Valid k → Holds (P .next n k) (together k G)
@@ -161,9 +163,17 @@ module _ {Args : Type 0} (S : Scene Args) (D : Duty S) where
           let o : c .0 ≡ ideal d .out j = all-in NoteOk (B .notes) (c .1) in
           c .2 ∙ ap₂ (λ m x. stretch (P .msgLen (S .n) (S .l) m) j b x) (due-is z) o
 
-      mail-is : Z → mask (fr b) (part q) ≡ mailOf P (S .n) (S .l) (D .loans) (C .number d) (ideal d) b
+      -- all of a message is read
+      heard-is : Z → (j : ℕ) → j < S .n → b ≢ j
+          → heard (P .rule k) (fr b) q j ≡ stretch (P .msgLen (S .n) (S .l) (C .number d)) j b (ideal d .out j)
+      unfolding heard
+      heard-is z j lj ne =
+          ap₂ (λ m x. P .rule m .list (fr b) x) (due-is z) (part-is z j lj ne)
+          ∙ D .rounds d (not-over z) .whole (ideal d) (holds d (B .step) (B .valid)) b j (B .box) lj ne
+
+      mail-is : Z → mask (fr b) (heard (P .rule k) (fr b) q) ≡ mailOf P (S .n) (S .l) (D .loans) (C .number d) (ideal d) b
       unfolding mailOf
-      mail-is z = mask-ext (fr b) (part q) _ (part-is z)
+      mail-is z = mask-ext (fr b) (heard (P .rule k) (fr b) q) _ (heard-is z)
 
       loan-is : Z → q .loan ≡ D .loans (C .number d)
       loan-is z = D .agreed k (q .loan) (due-of P s k q wk z .lent) (fair z .1) ∙ ap (D .loans) (due-is z)
@@ -195,8 +205,8 @@ module _ {Args : Type 0} (S : Scene Args) (D : Duty S) where
   -- what a round call of box x comes to, with outcome r
   record Took (b k : ℕ) (q : Lent) (log : List Note) (x : Box) (r : Outcome) : Type 0 where
     answered : Answered (reasonAfter S b x k q) b (x .session) (x .work) (q .out) r
-    follows : Follows b (turnedBox x r (r .verdict))
-    notes : All NoteOk (logged log b (suc (x .rounds)) r (r .verdict))
+    follows : Follows b (turnedBox x r (r .reply))
+    notes : All NoteOk (logged log b (suc (x .rounds)) r (r .reply))
 
   below : (d : ℕ) → ((e : ℕ) → e < d → ValidAt e) → ValidAt d → (e : ℕ) → e < suc d → ValidAt e
   below d v h e l = go (ltb e d) refl
@@ -243,7 +253,7 @@ module _ {Args : Type 0} (S : Scene Args) (D : Duty S) where
       let t = took b k q (w .log) x lb (ok .1) (h .notes) fair in (
         t .answered,
         record {
-          boxes = update-all BoxOk (w .box) b (some (turnedBox x r (r .verdict))) (h .boxes) (lb, t .follows);
+          boxes = update-all BoxOk (w .box) b (some (turnedBox x r (r .reply))) (h .boxes) (lb, t .follows);
           notes = t .notes;
         },
       )
@@ -251,7 +261,7 @@ module _ {Args : Type 0} (S : Scene Args) (D : Duty S) where
   abbrev Opened : World → ℕ → Args → Outcome → Type 0
   Opened w b a r =
       Answered (S .opens .reason a) (S .opens .party a) (r .session) (S .opens .work a) (S .opens .out a) r
-      × Inv (record { box = update (w .box) b (openedBox (w .box b) r (r .verdict)); log = logged (w .log) b 0 r (r .verdict) })
+      × Inv (record { box = update (w .box) b (openedBox (w .box b) r (r .reply)); log = logged (w .log) b 0 r (r .reply) })
 
   opening-ok : (w : World) (b : ℕ) (a : Args) → Inv w → b < S .n → FairOpening S b a → Opened w b a (S .opens .spec a)
   unfolding ideal
@@ -291,7 +301,7 @@ module _ {Args : Type 0} (S : Scene Args) (D : Duty S) where
 
   -- done exactly when all rounds were accepted
   done-all : (b : ℕ) (x : Box) → Follows b x → x .rounds ≡ C .steps → Done P (x .session)
-  done-all b x f e k q w = rw (f .session, e) (ap (λ (r : Outcome). r .verdict) (over-20 P (sessionAt S b (C .steps)) k q w (C .over b)))
+  done-all b x f e k q w = rw (f .session, e) (ap (λ (r : Outcome). r .reply) (over-20 P (sessionAt S b (C .steps)) k q w (C .over b)))
 
   all-done : (b : ℕ) (x : Box) → b < S .n → Follows b x → Done P (x .session) → x .rounds ≡ C .steps
   all-done b x lb f done = go (ltb (x .rounds) (C .steps)) refl
@@ -299,7 +309,7 @@ module _ {Args : Type 0} (S : Scene Args) (D : Duty S) where
       nothing : Lent
       nothing = record { incoming = []; starts = []; lens = []; missing = []; loan = record { r = []; perm = [] }; out = [] }
 
-      code : Verdict → ℕ
+      code : Reply → ℕ
       code Accepted = 0
       code (Refused c p) = c
 
@@ -313,8 +323,8 @@ module _ {Args : Type 0} (S : Scene Args) (D : Duty S) where
       go : (t : Bool) → ltb (x .rounds) (C .steps) ≡ t → x .rounds ≡ C .steps
       go false e = omega (arith, f .bound, ltb-false (x .rounds) (C .steps) e)
       go true e =
-          let a : roundSpec P (x .session) (wrong (x .session)) nothing [] .verdict ≡ Refused 19 (x .session .party .i) =
-          ap (λ (r : Outcome). r .verdict) (answers (ltb-true _ _ e)) in
+          let a : roundSpec P (x .session) (wrong (x .session)) nothing [] .reply ≡ Refused 19 (x .session .party .i) =
+          ap (λ (r : Outcome). r .reply) (answers (ltb-true _ _ e)) in
           let c : _≡_ {A = ℕ} 19 20 = ap code (sym a ∙ done (wrong (x .session)) nothing []) in
           absurd (omega arith)
 

@@ -13,11 +13,14 @@ use Rattle.engine.specs.Step.{Frame, Loan, Fault, none?, Rule, Protocol,
 use Rattle.engine.specs.Area.{off, sec, putSec, toOthers, mem}
 
 -- ---- what a round gives
--- What is done with its messages. form: 13 or 6 of one message, or 0; judge: the content; keep: the work area afterwards; digest: the
--- 16 bytes of `hash_vec` of the list in a message, for a round that has an echo
+-- What is done with its messages. form: 13 or 6 of one message, or 0; list: the part of it that holds the list; judge: the content, from the
+-- lists; faults: the numbers that the content check can find; keep: the work area afterwards; digest: the 16 bytes of `hash_vec` of a list,
+-- for a round that has an echo
 pub record Recv : Type 0 where
   pub form : Frame → List ℕ → ℕ
+  pub list : Frame → List ℕ → List ℕ
   pub judge : Frame → List ℕ → (ℕ → List ℕ) → Fault
+  pub faults : List ℕ
   pub keep : Frame → List ℕ → (ℕ → List ℕ) → List ℕ
   pub digest : Frame → List ℕ → List ℕ
 
@@ -30,10 +33,12 @@ pub record Send : Type 0 where
   pub write : Frame → Loan → List ℕ → ℕ → List ℕ
 
 -- The echo's messages: lists of n options of 16 bytes. rows: n rows of 16 bytes, row k the hash of k's list. form n m: 13 or 6, or 0;
--- write n i rows r: what i sends to r; fault n i j rows m: 3 or 7 of what j sent to i, or 0
+-- list m: the part of m that holds the list; write n i rows r: what i sends to r; fault n i j rows m: 3 or 7 of the list m that j sent to
+-- i, or 0
 pub record Echo : Type 0 where
   pub len : ℕ → ℕ
   pub form : ℕ → List ℕ → ℕ
+  pub list : List ℕ → List ℕ
   pub write : ℕ → ℕ → List ℕ → ℕ → List ℕ
   pub fault : ℕ → ℕ → ℕ → List ℕ → List ℕ → ℕ
 
@@ -64,6 +69,17 @@ rowsOf f h = cat (f .n) (λ k. pick (other f k) (h k) (replicate 16 0))
 -- what waits for the echo: number and party of a fault, 0 0 for none
 unfoldable pub waits : Fault → List ℕ
 waits e = pick (eqb (e .code) 0) (0 ∷ 0 ∷ []) (e .code ∷ e .party ∷ [])
+
+-- What two such bytes say to the echo's call, where the content check finds these numbers and there are n parties. Anything else is no
+-- fault: no call leaves it there.
+unfoldable pub waiting : List ℕ → ℕ → List ℕ → Fault
+waiting numbers n x =
+    pick (mem (getD x 0 0) numbers && ltb (getD x 1 0) n) (record { code = getD x 0 0; party = getD x 1 0 }) none?
+
+-- the round before
+abbrev pub prior : ℕ → ℕ
+prior zero = zero
+prior (suc k) = k
 
 -- with a fault, what was received isn't kept
 unfoldable pub kept : Fault → List ℕ → List ℕ → List ℕ
@@ -113,10 +129,14 @@ module _ (T : Table) where
   unfoldable pub formOf : ℕ → Frame → List ℕ → ℕ
   formOf k f m = pick (isEcho k) (T .echo .form (f .n) m) (T .recv k .form f m)
 
+  -- the list in a message of round k
+  unfoldable pub listOf : ℕ → Frame → List ℕ → List ℕ
+  listOf k f m = pick (isEcho k) (T .echo .list m) (T .recv k .list f m)
+
   -- ---- the sections of the echoes
-  -- the fault that waits for the echo, its number and its party
-  unfoldable pub pending : Frame → List ℕ → Fault
-  pending f w = record { code = getD (sec (T .size f) (T .count) w) 0 0; party = getD (sec (T .size f) (T .count) w) 1 0 }
+  -- the fault of the round before that waits for echo k
+  unfoldable pub pending : ℕ → Frame → List ℕ → Fault
+  pending k f w = waiting (T .recv (prior k) .faults) (f .n) (sec (T .size f) (T .count) w)
 
   -- the hashes of the lists that the echo is about
   unfoldable pub hashes : Frame → List ℕ → List ℕ
@@ -128,12 +148,12 @@ module _ (T : Table) where
 
   -- ---- the content
   -- "From each sender the entries .. are checked", then what waited for the echo
-  unfoldable pub echoCheck : Frame → List ℕ → (ℕ → List ℕ) → Fault
-  echoCheck f w m = orElse (byParty f (λ j. T .echo .fault (f .n) (f .i) j (hashes f w) (m j))) (pending f w)
+  unfoldable pub echoCheck : ℕ → Frame → List ℕ → (ℕ → List ℕ) → Fault
+  echoCheck k f w m = orElse (byParty f (λ j. T .echo .fault (f .n) (f .i) j (hashes f w) (m j))) (pending k f w)
 
   -- a call that writes an echo has no fault by content: its echo's call reports it
   unfoldable pub checkOf : ℕ → Frame → List ℕ → (ℕ → List ℕ) → Fault
-  checkOf k f w m = pick (isEcho k) (echoCheck f w m) (pick (toEcho (eqb (f .n) 2) k) none? (T .recv k .judge f w m))
+  checkOf k f w m = pick (isEcho k) (echoCheck k f w m) (pick (toEcho (eqb (f .n) 2) k) none? (T .recv k .judge f w m))
 
   -- ---- the work area
   -- after a call that writes an echo
@@ -167,6 +187,7 @@ module _ (T : Table) where
     outLen = outLenOf k;
     lent = lentOf k;
     form = formOf k;
+    list = listOf k;
     check = λ f q w m. checkOf k f w m;
     keep = keepOf k;
     write = writeOf k;

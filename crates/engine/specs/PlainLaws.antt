@@ -19,10 +19,10 @@ use Rattle.engine.specs.World.{Course, sessionOf}
 use Rattle.engine.specs.Engine.{Joint, Valid, HonestRound}
 use Rattle.engine.specs.Area.{off, sec, putSec, length-putSec, sec-same, sec-other, toOthers, toOthers-ext, mem, every-mem}
 use Rattle.engine.specs.Sheet.{Known, Sheet, Mail, Passes, Middle, Last, Holds, middle, last}
-use Rattle.engine.specs.Honest.{orderTest, courseTest, Lawful, before, due, prior, Script, storeOf, plainAfter, Heard, RecvAt}
+use Rattle.engine.specs.Honest.{orderTest, courseTest, Lawful, before, due, Script, storeOf, plainAfter, Heard, RecvAt}
 use Rattle.engine.specs.Honest.{ListAt, SendAt, LastAt, Honest, momentOf, readyOf, valOf, sentOf, sheetOf, loansOf}
-use Rattle.engine.specs.Plain.{Table, rowsOf, isEcho, nextOf, isRound, numberOf, stepsOf, toEcho, lenOf, lentOf, formOf, pending}
-use Rattle.engine.specs.Plain.{hashes, digests, echoCheck, checkOf, waits, kept, held, made, keepOf, writeOf, protocolOf}
+use Rattle.engine.specs.Plain.{Table, rowsOf, prior, isEcho, nextOf, isRound, numberOf, stepsOf, toEcho, lenOf, lentOf, formOf}
+use Rattle.engine.specs.Plain.{listOf, pending, hashes, digests, echoCheck, checkOf, waits, waiting, kept, held, made, keepOf, writeOf, protocolOf}
 
 -- ---- rows of 16 bytes
 module _ (f : Frame) (h : ℕ → List ℕ) where
@@ -45,16 +45,40 @@ module _ (f : Frame) (h : ℕ → List ℕ) where
     chunk-rows k l ne = chunk-cat 16 (f .n) _ each k l ∙ ap (λ b. pick b (h k) (replicate 16 0)) (other-is f k l ne)
 
 -- ---- what waits for an echo
+length-waits : (e : Fault) → length (waits e) ≡ 2
+unfolding waits
+length-waits e = go (eqb (e .code) 0)
+  where
+    go : (b : Bool) → length (pick b (0 ∷ 0 ∷ []) (e .code ∷ e .party ∷ [])) ≡ 2
+    go true = refl
+    go false = refl
+
+-- a fault in two bytes is found again
+pub waiting-fault : (numbers : List ℕ) (n : ℕ) (e : Fault) → e .code ≢ 0 → mem (e .code) numbers ≡ true → e .party < n
+    → waiting numbers n (waits e) ≡ e
+unfolding waiting waits
+waiting-fault numbers n e ne h l = rw (ne-eqb (e .code) 0 ne, h, lt-ltb (e .party) n l) refl
+
+pub waiting-none : (numbers : List ℕ) (n : ℕ) → waiting numbers n (0 ∷ 0 ∷ []) .code ≡ 0
+unfolding waiting
+waiting-none numbers n = go (mem 0 numbers && ltb 0 n)
+  where
+    go : (b : Bool) → pick b (record { code = 0; party = 0 }) none? .code ≡ 0
+    go true = refl
+    go false = refl
+
 -- the fault that the call for a round found is what the call for its echo reports, unless the echo itself is at fault
 module _ (T : Table) (k : ℕ) (f : Frame) (w : List ℕ) (m : ℕ → List ℕ) where
   pub held-waits : length w ≡ off (T .size f) (suc (suc (T .count))) → T .size f (T .count) ≡ 2 → T .size f (suc (T .count)) ≡ f .n * 16
       → ((x : List ℕ) → length (T .recv k .digest f x) ≡ 16) → T .recv k .judge f w m .code ≢ 0
-      → pending T f (held T k f w m) ≡ T .recv k .judge f w m
-  unfolding pending held waits kept digests
-  held-waits h two rows len ne =
+      → mem (T .recv k .judge f w m .code) (T .recv k .faults) ≡ true → T .recv k .judge f w m .party < f .n
+      → pending T (suc k) f (held T k f w m) ≡ T .recv k .judge f w m
+  unfolding pending held kept digests
+  held-waits h two rows len ne mine among =
       rw (ne-eqb (T .recv k .judge f w m .code) 0 ne)
-      (ap (λ (x : List ℕ). record { code = getD x 0 0; party = getD x 1 0 })
-      (sec-same (T .size f) (suc (suc (T .count))) v lv (T .count) (e .code ∷ e .party ∷ []) (omega arith) (sym two)))
+      (ap (waiting (T .recv k .faults) (f .n))
+      (sec-same (T .size f) (suc (suc (T .count))) v lv (T .count) (waits e) (omega arith) (length-waits e ∙ sym two))
+      ∙ waiting-fault (T .recv k .faults) (f .n) e ne mine among)
     where
       e : Fault
       e = T .recv k .judge f w m
@@ -66,12 +90,12 @@ module _ (T : Table) (k : ℕ) (f : Frame) (w : List ℕ) (m : ℕ → List ℕ)
       lv = length-putSec (T .size f) (suc (suc (T .count))) w h (suc (T .count)) _ (omega arith)
           (length-rows f (λ j. T .recv k .digest f (m j)) (λ j lj nj. len (m j)) ∙ sym rows)
 
-  pub echo-then-waits : byParty f (λ j. T .echo .fault (f .n) (f .i) j (hashes T f w) (m j)) .code ≡ 0 → echoCheck T f w m ≡ pending T f w
+  pub echo-then-waits : byParty f (λ j. T .echo .fault (f .n) (f .i) j (hashes T f w) (m j)) .code ≡ 0 → echoCheck T k f w m ≡ pending T k f w
   unfolding echoCheck
   echo-then-waits h = or-none _ _ h
 
   pub echo-first : byParty f (λ j. T .echo .fault (f .n) (f .i) j (hashes T f w) (m j)) .code ≢ 0
-      → echoCheck T f w m ≡ byParty f (λ j. T .echo .fault (f .n) (f .i) j (hashes T f w) (m j))
+      → echoCheck T k f w m ≡ byParty f (λ j. T .echo .fault (f .n) (f .i) j (hashes T f w) (m j))
   unfolding echoCheck
   echo-first h = or-first _ _ h
 
@@ -89,7 +113,7 @@ not-true : (b : Bool) → not b ≡ true → b ≡ false
 not-true true e = sym e
 not-true false e = refl
 
-and-false : (b : Bool) → (b && false) ≡ false
+pub and-false : (b : Bool) → (b && false) ≡ false
 and-false true = refl
 and-false false = refl
 
@@ -142,6 +166,21 @@ module _ (T : Table) (n l : ℕ) (W : Lawful T n l) where
       go : (c : Bool) → two ≡ c → (b : Bool) → isEcho T (suc k) ≡ b → (not c && b) ≡ true → (nextOf T two k ≡ suc k) × (b ≡ true)
       go true z b e q = absurd (true-false (sym q))
       go false z b e q = (next-on two k ne (ap (λ c. c && isEcho T (suc k)) z), q)
+
+  -- what comes after a plain round whose call writes no echo
+  pub next-plain : (k : ℕ) → k < T .last → toEcho T (eqb n 2) k ≡ false
+      → (nextOf T (eqb n 2) k ≡ plainAfter T k) × (isEcho T (plainAfter T k) ≡ false)
+  unfolding plainAfter toEcho
+  next-plain k lk q = go (isEcho T (suc k)) refl (eqb n 2) refl q
+    where
+      ne : k ≢ T .last
+      ne p = omega arith
+
+      go : (b : Bool) → isEcho T (suc k) ≡ b → (c : Bool) → eqb n 2 ≡ c → (not c && b) ≡ false
+          → (nextOf T (eqb n 2) k ≡ suc (pick b (suc k) k)) × (isEcho T (suc (pick b (suc k) k)) ≡ false)
+      go true e true c q = (next-skips (eqb n 2) k ne c e, no-two (suc k) lk e)
+      go true e false c q = absurd (true-false q)
+      go false e c z q = (next-on (eqb n 2) k ne (ap (λ b. eqb n 2 && b) e ∙ and-false (eqb n 2)), e)
 
   -- ---- which round is due
   abbrev counts : Bool
@@ -300,11 +339,13 @@ module _ (T : Table) (U : Script) (n l : ℕ) (W : Lawful T n l) where
         h .has (suc (T .count)) (omega arith) (rw (le-ltb (suc (T .count)) (T .count) (omega arith)) e)
         ∙ rw (le-ltb (suc (T .count)) (T .count) (omega arith), ne-eqb (suc (T .count)) (T .count) (λ p. omega arith)) refl
 
-    holds-none : (w : List ℕ) → Is (suc k) i w → pending T (frame n l i) w .code ≡ 0
+    holds-none : (w : List ℕ) → Is (suc k) i w → pending T (suc k) (frame n l i) w .code ≡ 0
     unfolding pending readyOf valOf
     holds-none w h =
-        ap (λ (x : List ℕ). getD x 0 0) (h .has (T .count) (omega arith) (rw (le-ltb (T .count) (T .count) (le-refl (T .count))) e))
-        ∙ rw (le-ltb (T .count) (T .count) (le-refl (T .count)), eq-eqb (T .count) (T .count) refl) refl
+        ap (λ (x : List ℕ). waiting (T .recv k .faults) n x .code)
+        (h .has (T .count) (omega arith) (rw (le-ltb (T .count) (T .count) (le-refl (T .count))) e)
+        ∙ rw (le-ltb (T .count) (T .count) (le-refl (T .count)), eq-eqb (T .count) (T .count) refl) refl)
+        ∙ waiting-none (T .recv k .faults) n
 
   -- ---- what is received
   abbrev Mails : ℕ → ℕ → (ℕ → List ℕ) → Type 0
@@ -324,10 +365,11 @@ module _ (T : Table) (U : Script) (n l : ℕ) (W : Lawful T n l) where
 
   pass-plain : (k : ℕ) → isEcho T k ≡ false → Heard n l (storeOf T U n l) (T .recv k) (T .send k .len n l) (U .sent k) (due k)
       → Passes P n l L S k
-  unfolding lenOf formOf sentOf checkOf
+  unfolding lenOf formOf listOf sentOf checkOf
   pass-plain k e H = record {
     lens = λ j r lj lr ne. rw e (H .lens j r lj lr ne);
     formed = λ i j li lj ne. rw e (H .formed i j li lj ne);
+    whole = λ i j li lj ne. rw e (H .whole i j li lj ne);
     passes = λ v i li w K m M. rw e (go (toEcho T two k) i li w K m M);
   }
     where
@@ -345,10 +387,10 @@ module _ (T : Table) (U : Script) (n l : ℕ) (W : Lawful T n l) where
     row-at i j lj ne = chunk-rows (frame n l i) (U .hashed k) (λ j lj ne. len j lj) j lj ne
 
     echo-clean : (i : ℕ) → i < n → (w : List ℕ) → Is (suc k) i w → (m : ℕ → List ℕ) → Mails (suc k) i m
-        → echoCheck T (frame n l i) w m .code ≡ 0
+        → echoCheck T (suc k) (frame n l i) w m .code ≡ 0
     unfolding echoCheck
     echo-clean i li w K m M =
-        ap (λ (x : Fault). x .code) (or-none _ (pending T (frame n l i) w) (by-none (frame n l i) _ each))
+        ap (λ (x : Fault). x .code) (or-none _ (pending T (suc k) (frame n l i) w) (by-none (frame n l i) _ each))
         ∙ holds-none k i e len w K
       where
         each : (j : ℕ) → j < n → i ≢ j → T .echo .fault n i j (hashes T (frame n l i) w) (m j) ≡ 0
@@ -358,10 +400,11 @@ module _ (T : Table) (U : Script) (n l : ℕ) (W : Lawful T n l) where
             (λ r lr ni nj. row-at i r lr ni ∙ sym (row-at j r lr nj))
 
     pass-echo : Passes P n l L S (suc k)
-    unfolding lenOf formOf sentOf checkOf
+    unfolding lenOf formOf listOf sentOf checkOf
     pass-echo = record {
       lens = λ j r lj lr ne. rw e (W .echo .lens j r lj lr ne (rows k j) (full j));
       formed = λ i j li lj ne. rw e (W .echo .formed j i lj li (λ q. ne (sym q)) (rows k j) (full j));
+      whole = λ i j li lj ne. rw e (W .echo .whole j i lj li (λ q. ne (sym q)) (rows k j) (full j));
       passes = λ v i li w K m M. rw e (echo-clean i li w K m M);
     }
 
@@ -415,27 +458,13 @@ module _ (T : Table) (U : Script) (n l : ℕ) (W : Lawful T n l) where
             → Own (due (suc to)) i (area i w m)
         next v i li w K m M = H .keeps (sym lent-made ∙ v) i li (got i w m) (G i li w K m M)
 
-  -- what comes after a plain round whose call writes no echo
-  next-plain : (k : ℕ) → k < T .last → toEcho T two k ≡ false → (nextOf T two k ≡ plainAfter T k) × (isEcho T (plainAfter T k) ≡ false)
-  unfolding plainAfter toEcho
-  next-plain k lk q = go (isEcho T (suc k)) refl two refl q
-    where
-      ne : k ≢ T .last
-      ne p = omega arith
-
-      go : (b : Bool) → isEcho T (suc k) ≡ b → (c : Bool) → two ≡ c → (not c && b) ≡ false
-          → (nextOf T two k ≡ suc (pick b (suc k) k)) × (isEcho T (suc (pick b (suc k) k)) ≡ false)
-      go true e true c q = (next-skips T n l W two k ne c e, no-two T n l W (suc k) lk e)
-      go true e false c q = absurd (true-false q)
-      go false e c z q = (next-on T n l W two k ne (ap (λ b. two && b) e ∙ and-false two), e)
-
   -- ---- THE FOUR KINDS OF CALLS
   -- for a plain round, when no echo follows
   pub middle-plain : (k : ℕ) → k < T .last → isEcho T k ≡ false → toEcho T (eqb n 2) k ≡ false → RecvAt T U n l k
       → SendAt T U n l (plainAfter T k) → Middle (protocolOf T) n l (loansOf T U n l) (sheetOf T U n l) k
   unfolding plainAfter
   middle-plain k lk e q R H =
-      let x = next-plain k lk q in
+      let x = next-plain T n l W k lk q in
       middle-made k _ (λ p. omega arith) q (x .0) (x .1) (pass-plain k e (R .heard)) H
       (λ i li w K m M. rw e (R .keeps i li w (subst (λ t. Own t i w) (moment-plain k e) (to-own k i w K)) m (mail-plain k i m e M)))
 

@@ -10,8 +10,8 @@ use Rattle.lists.specs.All.{allOf}
 use Rattle.algebra.specs.Sum.{neq}
 pub use Rattle.engine.specs.declared.Frame.{Frame}
 pub use Rattle.engine.specs.declared.Session.{Session}
-pub use Rattle.engine.specs.declared.Verdict.{Verdict}
-pub use Rattle.engine.specs.declared.Verdict.the-variants.{Accepted, Refused}
+use Rattle.engine.specs.declared.Verdict.{Verdict}
+use Rattle.engine.specs.declared.Verdict.the-variants as Variant
 
 -- ---- what a call is given and leaves
 -- "The r Blocks are lent with the call that writes `fabitn`, the permutation .. with the one that writes `dvalue`; both are empty otherwise."
@@ -31,15 +31,25 @@ pub record Lent : Type 0 where
   pub loan : Loan
   pub out : List ℕ
 
+-- What a call answers, as document 01 has it: accepted, or "the number and a party"
+pub data Reply : Type 0 where
+  Accepted : Reply
+  Refused : ℕ → ℕ → Reply
+
+-- "Where an answer is an enum, a definition gives this paper's number and values for each of the enum's cases."
+unfoldable pub replyOf : Verdict → Reply
+replyOf Variant.Accepted = Accepted
+replyOf (Variant.Refused number party) = Refused number party
+
 -- session, answer, work area and outgoing buffer after the call
 pub record Outcome : Type 0 where
   pub session : Session
-  pub verdict : Verdict
+  pub reply : Reply
   pub work : List ℕ
   pub out : List ℕ
 
-abbrev pub outcome : Session → Verdict → List ℕ → List ℕ → Outcome
-outcome s v w o = record { session = s; verdict = v; work = w; out = o }
+abbrev pub outcome : Session → Reply → List ℕ → List ℕ → Outcome
+outcome s v w o = record { session = s; reply = v; work = w; out = o }
 
 -- box i of n, with l
 abbrev pub frame : ℕ → ℕ → ℕ → Frame
@@ -55,12 +65,14 @@ none? = record { code = 0; party = 0 }
 
 -- ---- what the rounds are
 -- One round. outLen: the length of the outgoing buffer; lent: 17 or 18 of the r Blocks and the permutation, or 0, by n and l alone, so
--- that it is the same for every box; form: 13 or 6 of one message, or 0; check: the content; keep: the work area afterwards; write: the
--- outgoing buffer. `m k` is the message of party k, [] for the own one.
+-- that it is the same for every box; form: 13 or 6 of one message, or 0; list: "the part of the incoming buffer that holds one list", of a
+-- message; check: the content; keep: the work area afterwards; write: the outgoing buffer. `m k` is the list that was read of party k's
+-- message, [] for the own one.
 pub record Rule : Type 0 where
   pub outLen : Frame → ℕ
   pub lent : ℕ → ℕ → Loan → ℕ
   pub form : Frame → List ℕ → ℕ
+  pub list : Frame → List ℕ → List ℕ
   pub check : Frame → Loan → List ℕ → (ℕ → List ℕ) → Fault
   pub keep : Frame → Loan → List ℕ → (ℕ → List ℕ) → List ℕ
   pub write : Frame → Loan → List ℕ → (ℕ → List ℕ) → List ℕ
@@ -90,6 +102,10 @@ gone q k = not (eqb (getD (q .missing) k 0) 0)
 -- the part of the incoming buffer that holds party k's message
 unfoldable pub part : Lent → ℕ → List ℕ
 part q k = take (getD (q .lens) k 0) (drop (getD (q .starts) k 0) (q .incoming))
+
+-- what is read of it
+unfoldable pub heard : Rule → Frame → Lent → ℕ → List ℕ
+heard R f q k = R .list f (part q k)
 
 -- "The outgoing buffer holds just the messages that call writes, by party, own left out": the one for party i in what party j wrote, of
 -- m bytes
@@ -136,7 +152,7 @@ unfoldable pub formFault : Rule → Frame → Lent → ℕ → ℕ
 formFault R f q k = pick (gone q k) 14 (R .form f (part q k))
 
 unfoldable pub faultOf : Rule → Frame → Lent → List ℕ → Fault
-faultOf R f q w = orElse (byParty f (formFault R f q)) (R .check f (q .loan) w (mask f (part q)))
+faultOf R f q w = orElse (byParty f (formFault R f q)) (R .check f (q .loan) w (mask f (heard R f q)))
 
 -- ---- the call
 -- a session that is done or ended
@@ -154,8 +170,8 @@ faulted s e q w = outcome (ended s) (Refused (e .code) (e .party)) (replicate (l
 unfoldable pub accepted : Protocol → Session → ℕ → Lent → List ℕ → Outcome
 accepted P s k q w =
     outcome (record { party = s .party; due = P .next (s .party .n) k }) Accepted
-    (P .rule k .keep (s .party) (q .loan) w (mask (s .party) (part q)))
-    (P .rule k .write (s .party) (q .loan) w (mask (s .party) (part q)))
+    (P .rule k .keep (s .party) (q .loan) w (mask (s .party) (heard (P .rule k) (s .party) q)))
+    (P .rule k .write (s .party) (q .loan) w (mask (s .party) (heard (P .rule k) (s .party) q)))
 
 -- the round call for round k
 unfoldable pub roundSpec : Protocol → Session → ℕ → Lent → List ℕ → Outcome

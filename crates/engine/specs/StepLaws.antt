@@ -13,7 +13,7 @@ use borrow.Author.Tests.{ltb-true, ltb-false, eqb-true, eqb-false, eq-eqb, ne-eq
 use Rattle.lists.specs.Pick.{pick, pick-else}
 use Rattle.lists.specs.All.{all-of}
 use Rattle.algebra.specs.Sum.{neq, neq-true, apart?, Same, apart}
-use Rattle.engine.specs.Step.{Frame, Session, Lent, Refused, Outcome, outcome, Fault, Rule, Protocol, other, mask, gone, part}
+use Rattle.engine.specs.Step.{Frame, Session, Lent, Refused, Outcome, outcome, Fault, Rule, Protocol, other, mask, gone, part, heard}
 use Rattle.engine.specs.Step.{inside, partsIn, sizes, reasonOf, orElse, scan, byParty, formFault, faultOf, ended, refused, faulted}
 use Rattle.engine.specs.Step.{accepted, roundSpec}
 
@@ -162,14 +162,51 @@ pub by-none : (f : Frame) (c : ℕ → ℕ) → ((k : ℕ) → k < f .n → f .i
 unfolding byParty
 by-none f c h = scan-none (f .n) _ (λ k l. other-cases f k (λ b. pick b (c k) 0 ≡ 0) (λ l′ ne. h k l′ ne) refl)
 
+-- ---- what no fault says
+pub or-zero : (a b : Fault) → orElse a b .code ≡ 0 → (a .code ≡ 0) × (b .code ≡ 0)
+unfolding orElse
+or-zero a b h = go (eqb (a .code) 0) refl h
+  where
+    go : (t : Bool) → eqb (a .code) 0 ≡ t → pick t b a .code ≡ 0 → (a .code ≡ 0) × (b .code ≡ 0)
+    go true e z = (eqb-true (a .code) 0 e, z)
+    go false e z = absurd (eqb-false (a .code) 0 e z)
+
+-- a claim on a number below n + 1: it is below n, or is n
+pub last-or : (q n : ℕ) (Q : ℕ → Type 0) → q < suc n → (q < n → Q q) → Q n → Q q
+last-or q n Q h before last = go (ltb q n) refl
+  where
+    go : (b : Bool) → ltb q n ≡ b → Q q
+    go true e = before (ltb-true q n e)
+    go false e = subst Q (let w : n ≡ q = omega (arith, ltb-false q n e) in w) last
+
+scan-clean : (n : ℕ) (c : ℕ → ℕ) → scan n c .code ≡ 0 → (k : ℕ) → k < n → c k ≡ 0
+unfolding scan
+scan-clean zero c z k h = absurd (omega arith)
+scan-clean (suc n) c z k h =
+    let w = or-zero (scan n c) (record { code = c n; party = n }) z in
+    last-or k n (λ j. c j ≡ 0) h (scan-clean n c (w .0) k) (w .1)
+
+pub by-clean : (f : Frame) (c : ℕ → ℕ) → byParty f c .code ≡ 0 → (k : ℕ) → k < f .n → f .i ≢ k → c k ≡ 0
+unfolding byParty
+by-clean f c z k h ne =
+    sym (ap (λ b. pick b (c k) 0) (other-is f k h ne)) ∙ scan-clean (f .n) (λ k. pick (other f k) (c k) 0) z k h
+
+-- no fault: every other message is well formed, and the check passes
+pub fault-clean : (R : Rule) (f : Frame) (q : Lent) (w : List ℕ) → faultOf R f q w .code ≡ 0
+    → ((j : ℕ) → j < f .n → f .i ≢ j → R .form f (part q j) ≡ 0) × (R .check f (q .loan) w (mask f (heard R f q)) .code ≡ 0)
+unfolding faultOf formFault
+fault-clean R f q w z =
+    let v = or-zero (byParty f (formFault R f q)) (R .check f (q .loan) w (mask f (heard R f q))) z in
+    (λ j l ne. pick-else (gone q j) 14 (R .form f (part q j)) 0 (λ e. omega arith) (by-clean f (formFault R f q) (v .0) j l ne) .1, v .1)
+
 -- no fault: every other message is there and well formed, and the check passes
 pub no-fault : (R : Rule) (f : Frame) (q : Lent) (w : List ℕ)
     → ((j : ℕ) → j < f .n → f .i ≢ j → (gone q j ≡ false) × (R .form f (part q j) ≡ 0))
-    → R .check f (q .loan) w (mask f (part q)) .code ≡ 0 → faultOf R f q w .code ≡ 0
+    → R .check f (q .loan) w (mask f (heard R f q)) .code ≡ 0 → faultOf R f q w .code ≡ 0
 unfolding faultOf formFault
 no-fault R f q w h c =
     ap (λ (e : Fault). e .code)
-    (or-none (byParty f (formFault R f q)) (R .check f (q .loan) w (mask f (part q)))
+    (or-none (byParty f (formFault R f q)) (R .check f (q .loan) w (mask f (heard R f q)))
     (by-none f (formFault R f q) (λ j l ne. ap (λ b. pick b 14 (R .form f (part q j))) (h j l ne .0) ∙ h j l ne .1)))
     ∙ c
 

@@ -7,7 +7,7 @@ use mathlib.Core.List.{List, [], _∷_}
 use mathlib.Core.Option.{Option, some, none}
 use Prim.Native.Nat.{ℕ, suc, _<_}
 use Rattle.algebra.specs.Sum.{neq}
-use Rattle.engine.specs.Step.{frame, Session, Loan, Lent, Verdict, Accepted, Refused, Outcome, outcome, Protocol, gone, part}
+use Rattle.engine.specs.Step.{frame, Session, Loan, Lent, Reply, Accepted, Refused, Outcome, outcome, Protocol, gone, part}
 use Rattle.engine.specs.Step.{stretch, reasonOf, roundSpec}
 
 -- ---- lists and tables
@@ -64,16 +64,16 @@ pub data Call (Args : Type 0) : Type 0 where
   opening : ℕ → Args → Call Args
   turn : ℕ → ℕ → Lent → Call Args
 
-abbrev pub logged : List Note → ℕ → ℕ → Outcome → Verdict → List Note
+abbrev pub logged : List Note → ℕ → ℕ → Outcome → Reply → List Note
 logged log b d r Accepted = note b d (r .out) ∷ log
 logged log b d r (Refused c p) = log
 
 -- "refused, there is no session"
-abbrev pub openedBox : Option Box → Outcome → Verdict → Option Box
+abbrev pub openedBox : Option Box → Outcome → Reply → Option Box
 openedBox o r Accepted = some (record { session = r .session; work = r .work; rounds = 0; wrote = r .out })
 openedBox o r (Refused c p) = o
 
-abbrev pub turnedBox : Box → Outcome → Verdict → Box
+abbrev pub turnedBox : Box → Outcome → Reply → Box
 turnedBox x r Accepted = record { session = r .session; work = r .work; rounds = suc (x .rounds); wrote = r .out }
 turnedBox x r (Refused c p) = record { session = r .session; work = r .work; rounds = x .rounds; wrote = x .wrote }
 
@@ -83,15 +83,15 @@ turned P w b k q none = w
 turned P w b k q (some x) =
     let r : Outcome = roundSpec P (x .session) k q (x .work) in
     record {
-      box = update (w .box) b (some (turnedBox x r (r .verdict)));
-      log = logged (w .log) b (suc (x .rounds)) r (r .verdict);
+      box = update (w .box) b (some (turnedBox x r (r .reply)));
+      log = logged (w .log) b (suc (x .rounds)) r (r .reply);
     }
 
 module _ {Args : Type 0} (P : Protocol) (O : Opening Args) where
   abbrev pub after : World → Call Args → World
   after w (opening b a) =
       let r : Outcome = O .spec a in
-      record { box = update (w .box) b (openedBox (w .box b) r (r .verdict)); log = logged (w .log) b 0 r (r .verdict) }
+      record { box = update (w .box) b (openedBox (w .box b) r (r .reply)); log = logged (w .log) b 0 r (r .reply) }
   after w (turn b k q) = turned P w b k q (w .box b)
 
   abbrev pub run : World → List (Call Args) → World
@@ -100,7 +100,7 @@ module _ {Args : Type 0} (P : Protocol) (O : Opening Args) where
 
 -- "A box is done when its session answers 20 to whatever round call comes next"
 abbrev pub Done : Protocol → Session → Type 0
-Done P s = (k : ℕ) (q : Lent) (w : List ℕ) → roundSpec P s k q w .verdict ≡ Refused 20 (s .party .i)
+Done P s = (k : ℕ) (q : Lent) (w : List ℕ) → roundSpec P s k q w .reply ≡ Refused 20 (s .party .i)
 
 -- ---- the order of the rounds
 abbrev pub sessionOf : ℕ → ℕ → ℕ → ℕ → Session
@@ -170,7 +170,7 @@ module _ {Args : Type 0} (S : Scene Args) where
 -- a call that has a reason is refused with it and changes nothing; any other is accepted
 pub data Answered (reason party : ℕ) (s : Session) (w o : List ℕ) (r : Outcome) : Type 0 where
   refused-it : reason ≢ 0 → r ≡ outcome s (Refused reason party) w o → Answered reason party s w o r
-  accepted-it : reason ≡ 0 → r .verdict ≡ Accepted → Answered reason party s w o r
+  accepted-it : reason ≡ 0 → r .reply ≡ Accepted → Answered reason party s w o r
 
 module _ {Args : Type 0} (S : Scene Args) where
   abbrev pub RightTurn : ℕ → ℕ → Lent → Option Box → Type 0

@@ -19,10 +19,9 @@ use Rattle.block.specs.Group.{blocks, eq-block}
 use Rattle.block.specs.Trip.{length-bytesOf, block-at}
 use Rattle.share.specs.Record.{recordLen}
 use Rattle.share.specs.Share.{Share, shares, recordOf}
-use Rattle.share.specs.ShareLaws.{SmallShare, small-share-at, small-share-op, small-share-sel, Agree, agree-record, agree-op, agree-refl, agree-sel}
+use Rattle.share.specs.ShareLaws.{SmallShare, small-share-at, small-share-op, small-share-sel, Agree, agree-record, agree-op, agree-refl}
 use Rattle.share.specs.Parties.{shareOf, share-of-op, share-of-sel, share-of-at}
 use Rattle.message.specs.declared.Kind.the-variants.{Items}
-use Rattle.message.specs.Format.{formOf}
 use Rattle.encode.specs.Encode.{encode, twoBitsTwoBlocks}
 use Rattle.encode.specs.Coded.{length-twoBitsTwoBlocks, coded-twoBitsTwoBlocks}
 use Rattle.encode.specs.RoundTrip.{trip-whole, even-item}
@@ -39,11 +38,13 @@ use Rattle.honest.specs.Subject.{subject}
 use Rattle.rounds.specs.Haand.{y}
 use Rattle.rounds.specs.Buckets.{tripleRows}
 use Rattle.rounds.specs.Beaver as B
+use Rattle.alone.specs.BucketsLaws.{first-in}
+use Rattle.alone.specs.BeaverLaws.{agree-finish}
 use Rattle.honest.specs.Script as S
 use Rattle.honest.specs.Inputs.{Boxes, Inputs, deltas, alphasOf, betasOf, small-bits, small-alpha, small-beta}
-use Rattle.honest.specs.Base.{list-form, list-len, Fit, delta-is, bits-at, alpha-at, beta-at, zs-at, es-at, perm-at, ds-at, triples-at, keep-one}
+use Rattle.honest.specs.Base.{list-form, list-len, Fit, delta-is, bits-at, alpha-at, beta-at, zs-at, es-at, perm-at, ds-at, triples-at, keep-one, Reads}
 use Rattle.honest.specs.Values.{share-y, LeakyTriples}
-use Rattle.honest.specs.Buckets.{item-byte, item-block, open-all, passes, aOf, bOf, cOf, place, entry-is, first-in, good-y, l-small, length-triples, bytes-triples, a-read, c-read, small-a, small-c, abc-triple}
+use Rattle.honest.specs.Buckets.{item-byte, item-block, open-all, passes, aOf, bOf, cOf, place, entry-is, good-y, l-small, length-triples, bytes-triples, a-read, c-read, small-a, small-c, abc-triple}
 
 -- ---- a message of two bits and two Blocks each
 module _ (c : ℕ) (p q : ℕ → Bool) (x y : ℕ → Block) (small : c < 2 ^ 64) (t : ℕ) (lt : t < c) where
@@ -98,13 +99,6 @@ module _ (n : ℕ) (c β a : Share) (p q : Bool) where
       small-share-op n (shares .op c (sel shares p β)) (sel shares q a)
       (small-share-op n c (sel shares p β) hc (small-share-sel n p β hb)) (small-share-sel n q a ha)
 
-  agree-finish : (i : ℕ) (c′ β′ a′ : Share) → Agree n i c c′ → Agree n i β β′ → Agree n i a a′
-      → Agree n i (B.finish c β a p q) (B.finish c′ β′ a′ p q)
-  unfolding B.finish
-  agree-finish i c′ β′ a′ hc hb ha =
-      agree-op n i (shares .op c (sel shares p β)) (sel shares q a) (shares .op c′ (sel shares p β′)) (sel shares q a′)
-      (agree-op n i c (sel shares p β) c′ (sel shares p β′) hc (agree-sel n i p β β′ hb)) (agree-sel n i q a a′ ha)
-
 -- ---- the values
 module _ (n l : ℕ) (args : ℕ → Args) (strings order : List ℕ) where
   -- "d = a + alpha, e = b + beta"
@@ -149,7 +143,7 @@ module _ (n l : ℕ) (args : ℕ → Args) (strings order : List ℕ) (I : Input
   unfolding B.e B.b B.share
   e-share i j lj =
       ap₂ (shares .op)
-      (ap (y (frame n l i) (args i .bits)) (entry-is n l args strings order I i j 0 lj (first-in n l args strings order I))
+      (ap (y (frame n l i) (args i .bits)) (entry-is n l args strings order I i j 0 lj (first-in l))
       ∙ sym (share-y n l args i (place l order j 0)))
       (sym (share-of-at (λ b. args b .beta) (j * recordLen n) i))
       ∙ sym (share-of-op i (bOf n l args strings order j) (betasOf n args j))
@@ -170,14 +164,14 @@ module _ (n l : ℕ) (args : ℕ → Args) (strings order : List ℕ) (I : Input
     good-d = good-op blocks n (deltas args) _ _ (abc-triple n l args strings order I L j lj .good-a) (X .alpha-mac j lj)
 
     good-e : Good blocks n (deltas args) (eOf n l args strings order j)
-    good-e = good-op blocks n (deltas args) _ _ (good-y n l args strings order I j 0 lj (first-in n l args strings order I)) (X .beta-mac j lj)
+    good-e = good-op blocks n (deltas args) _ _ (good-y n l args strings order I j 0 lj (first-in l)) (X .beta-mac j lj)
 
   -- ---- the messages
   faand-len : (j r : ℕ) → length (S.sent22 n l args strings order j r) ≡ msgLen n l 22
   unfolding S.sent22 B.faandMsg msgLen kindOf countDue
   faand-len j r = list-len n 34 2 l _ (λ t i. length-twoBitsTwoBlocks _ _ _ _)
 
-  faand-form : (j r : ℕ) → formOf (kindOf l 22) (countDue n l 22) (S.sent22 n l args strings order j r) ≡ 0
+  faand-form : (j r : ℕ) → Reads (kindOf l 22) (countDue n l 22) (S.sent22 n l args strings order j r)
   unfolding S.sent22 B.faandMsg kindOf countDue
   faand-form j r = list-form (Items 34 2) l _ (l-small n l args strings order I) (λ t i. coded-twoBitsTwoBlocks _ _ _ _)
 
@@ -277,7 +271,7 @@ module _ (n l : ℕ) (args : ℕ → Args) (strings order : List ℕ) (I : Input
       (B.finish (B.c (frame n l i) (triples i) j) (B.share (frame n l i) (args i .beta) j) (B.a (frame n l i) (triples i) j) p q))
       (d-opened i li m M j lj) (e-opened i li m M j lj)
       ∙ agree-record n i _ _
-      (agree-finish n _ _ _ _ _ i _ _ _ (c-read n l args strings order I i j li lj) (beta-read i j) (a-read n l args strings order I i j li lj))
+      (agree-finish n i _ _ _ _ _ _ _ _ (c-read n l args strings order I i j li lj) (beta-read i j) (a-read n l args strings order I i j li lj))
       ∙ ap (recordOf n i) (sym (share-out i j)))
 
   -- what box i writes at the end
@@ -306,7 +300,8 @@ module _ (n l : ℕ) (args : ℕ → Args) (strings order : List ℕ) (I : Input
   last-22 L = record {
     heard = record {
       lens = λ j r lj lr ne. faand-len j r;
-      formed = λ i j li lj ne. faand-form j i;
+      formed = λ i j li lj ne. faand-form j i .form-is;
+      whole = λ i j li lj ne. faand-form j i .list-is;
       judged = λ i li w K m M.
           (λ q. B.deFaults (frame n l i) (delta-is n l args strings order K q) (bits-at n l args strings order K q)
           (perm-at n l args strings order K refl q) (triples-at n l args strings order K refl q) (alpha-at n l args strings order K q)

@@ -1,18 +1,18 @@
 -- Round 21, `dvalue`, in an honest run: the permutation is read back, every MAC of d fits, all boxes open the same d, and what TRIPLES holds is
 -- read back as shares of an AND.
-use mathlib.Core.Path.{_≡_, refl, sym, ap, ap₂, _∙_}
+use mathlib.Core.Path.{_≡_, refl, sym, ap, ap₂, _∙_, subst}
 use mathlib.Core.Bool.{Bool, true}
 use mathlib.Core.Logic.{_≢_}
 use mathlib.Core.List.{List, [], _∷_, _++_, append-assoc, append-nil}
-use Prim.Native.Nat.{ℕ, suc, _+_, _-_, _*_, _/_, _%_, _^_, _<_, _≤_}
-use native.Mathlib.Nat.{add-zero, mod-eq-of-lt}
+use Prim.Native.Nat.{ℕ, suc, _+_, _-_, _*_, _^_, _<_, _≤_}
+use native.Mathlib.Nat.{add-zero}
 use native.Mathlib.Omega.{arith}
-use lib.ListN.{length, getD, take, drop, length-append, take-append-drop}
-use lib.Seq.{take-at, drop-at, drop-drop, getD-take, getD-drop, getD-append-add}
+use lib.ListN.{length, getD, take, drop}
+use lib.Seq.{take-at, drop-at, getD-take, getD-drop, getD-append-add}
 use Rattle.lists.specs.Pick.{pick}
 use Rattle.lists.specs.All.{allOf, all-of}
-use Rattle.lists.specs.Over.{tab, cat, length-tab, getD-tab, length-cat, in-chunks}
-use Rattle.lists.specs.Rows.{chunk, chunk-cat, cat-ext, tab-ext}
+use Rattle.lists.specs.Over.{tab, cat, length-tab, getD-tab, length-cat}
+use Rattle.lists.specs.Rows.{cat-ext, tab-ext}
 use Rattle.lists.specs.Bytes.{Bytes, bytes-append, bytes-cat}
 use Rattle.algebra.specs.Group.{bits, addb, addb-comm, sel, odd, num, odd-num}
 use Rattle.algebra.specs.Sum.{sum, others, others-ext, others-all}
@@ -23,17 +23,14 @@ use Rattle.block.specs.Group.{blocks, eq-block}
 use Rattle.block.specs.Trip.{length-le8, length-bytesOf, block-bytesOf, block-drop, block-take}
 use Rattle.share.specs.Record.{recordLen}
 use Rattle.share.specs.Share.{Share, shares, recordOf}
-use Rattle.share.specs.ShareLaws.{SmallShare, small-share-op, Agree, length-recordOf, bytes-recordOf, read-here}
+use Rattle.share.specs.ShareLaws.{SmallShare, small-share-op, Agree, bytes-recordOf}
 use Rattle.share.specs.Parties.{shareOf, share-of-op}
-use Rattle.permutation.specs.PermutationLaws.{perm-below}
 use Rattle.message.specs.declared.Kind.the-variants.{Dvalues}
-use Rattle.message.specs.Format.{formOf}
 use Rattle.encode.specs.Encode.{encode, dvalueItem}
 use Rattle.encode.specs.Coded.{ds, macs, length-ds, length-dvalue, coded-dvalue, length-encode}
 use Rattle.encode.specs.RoundTrip.{trip-whole, even-item}
 use Rattle.plan.specs.Plan.{kindOf, countDue, listLen, msgLen, leaky, bucketSize, bitsCount}
-use Rattle.plan.specs.PlanLaws.{leaky-most, bucket-low, bucket-high}
-use Rattle.engine.specs.declared.Frame.{Frame}
+use Rattle.plan.specs.PlanLaws.{bucket-high}
 use Rattle.engine.specs.Step.{frame}
 use Rattle.engine.specs.StepLaws.{by-none}
 use Rattle.engine.specs.Area.{mem}
@@ -45,36 +42,17 @@ use Rattle.rounds.specs.Opening.{Args}
 use Rattle.rounds.specs.Table.{judge, kept, held, written}
 use Rattle.honest.specs.Subject.{subject}
 use Rattle.rounds.specs.Haand.{x, y}
-use Rattle.rounds.specs.Buckets.{le4, word4, permBytes, entry, later, d, dvalueMsg, bucketAt, dTold, dMacTold, dFaults, dOpened, leakyAnd, abc, tripleRow, tripleRows}
+use Rattle.rounds.specs.Buckets.{entry, later, d, dvalueMsg, bucketAt, dTold, dMacTold, dFaults, dOpened, leakyAnd, abc, tripleRow, tripleRows}
 use Rattle.rounds.specs.Buckets as B
 use Rattle.rounds.specs.Beaver as Beaver
+use Rattle.alone.specs.Cells.{row-byte, row-block}
+use Rattle.alone.specs.BucketsLaws.{Ordered, length-perm, first-in, later-in, all-in, place-below, entry-read, combine-ext, SmallTriple}
+use Rattle.alone.specs.BucketsLaws as A
 use Rattle.honest.specs.Script as S
 use Rattle.honest.specs.Inputs.{Boxes, Inputs, deltas, small-bits}
-use Rattle.honest.specs.Base.{list-form, Fit, delta-is, bits-at, perm-at, keep-one}
-use Rattle.honest.specs.Haand.{row-byte, row-block}
+use Rattle.honest.specs.Base.{list-form, Fit, delta-is, bits-at, perm-at, keep-one, Reads}
 use Rattle.honest.specs.Values.{xOf, yOf, zOf, share-x, share-y, share-z, small-z, LeakyTriples}
-use Rattle.honest.specs.Combining.{sumX, sumZ, sum-triple, tripleOf, combined, small-sumX, small-sumZ, combine-ext}
-
--- ---- the permutation in bytes
-module _ (f : Frame) (p : List ℕ) (t : ℕ) (lt : t < leaky (f .l)) where
-  perm-byte : (o : ℕ) → o < 4 → getD (permBytes f p) (t * 4 + o) 0 ≡ getD (le4 (getD p t 0)) o 0
-  unfolding permBytes le4
-  perm-byte o w = row-byte 4 (leaky (f .l)) (λ t. le4 (getD p t 0)) (λ t l. refl) t o lt w
-
-  word-read : getD p t 0 < 2 ^ 32 → word4 (permBytes f p) (t * 4) ≡ getD p t 0
-  unfolding word4 le4
-  word-read small =
-      let v : ℕ = getD p t 0 in
-      let e0 : getD (permBytes f p) (t * 4) 0 ≡ v % 256 =
-      ap (λ a. getD (permBytes f p) a 0) (sym (add-zero (t * 4))) ∙ perm-byte 0 (omega arith) in
-      let s2 : v / 0x100_0000 % 256 * 256 + v / 0x1_0000 % 256 ≡ v / 0x1_0000 = omega arith in
-      let s1 : v / 0x1_0000 * 256 + v / 0x100 % 256 ≡ v / 0x100 = omega arith in
-      let s0 : v / 0x100 * 256 + v % 256 ≡ v = omega arith in
-      rw (perm-byte 3 (omega arith), perm-byte 2 (omega arith), perm-byte 1 (omega arith), e0, s2, s1, s0)
-
-pub length-perm : (f : Frame) (p : List ℕ) → length (permBytes f p) ≡ leaky (f .l) * 4
-unfolding permBytes le4
-length-perm f p = length-cat (leaky (f .l)) 4 (λ t. le4 (getD p t 0)) (λ t l. refl)
+use Rattle.honest.specs.Combining.{sumX, sumZ, sum-triple, tripleOf, combined, small-sumX, small-sumZ}
 
 -- ---- what is read of an item that stands at a place in a message
 module _ (m g : List ℕ) (at size : ℕ) (here : take size (drop at m) ≡ g) where
@@ -147,16 +125,6 @@ module _ (l c : ℕ) (b : ℕ → ℕ → Bool) (x : ℕ → ℕ → Block) (sma
       ap (blockAt msg) (split-mac (8 + j * size)) ∙ item-block msg _ (8 + j * size) size item (8 + c + (8 + e * 16)) (omega arith)
       ∙ dvalue-mac c (b j) (x j) e le s
 
--- ---- what stands in a row behind p
-part-in : (s p q r : List ℕ) (a m o k : ℕ) → take m (drop a s) ≡ p ++ (q ++ r) → length p ≡ o → length q ≡ k → take k (drop (a + o) s) ≡ q
-part-in s p q r a m o k h lp lq =
-    let rest : List ℕ = drop m (drop a s) in
-    ap (take k)
-    (sym (drop-drop o a s)
-    ∙ ap (drop o) (sym (take-append-drop m (drop a s)) ∙ ap (λ (x : List ℕ). x ++ rest) h ∙ append-assoc p (q ++ r) rest)
-    ∙ drop-at p ((q ++ r) ++ rest) o lp ∙ append-assoc q r rest)
-    ∙ take-at q (r ++ rest) k lq
-
 -- ---- the values
 -- entry e of bucket j
 abbrev pub place : ℕ → List ℕ → ℕ → ℕ → ℕ
@@ -211,48 +179,30 @@ module _ (n l : ℕ) (args : ℕ → Args) (strings order : List ℕ) (I : Input
   perm i = S.perms n l args strings order i
 
   -- ---- the entries
-  inside : (j e : ℕ) → j < l → e < bucketSize l → j * bucketSize l + e < leaky l
-  unfolding leaky
-  inside j e lj le = omega (arith, in-chunks j l (bucketSize l) lj)
-
-  pub place-below : (j e : ℕ) → j < l → e < bucketSize l → place l order j e < leaky l
-  place-below j e lj le =
-      rw (← I .order-len) (perm-below order (I .order-perm) (j * bucketSize l + e) (rw (I .order-len) (inside j e lj le)))
+  ordered : Ordered l order
+  ordered = record { most = X .range .most; len = I .order-len; perm = I .order-perm }
 
   pub entry-is : (i j e : ℕ) → j < l → e < bucketSize l → entry (frame n l i) (perm i) j e ≡ place l order j e
-  unfolding entry S.perms
-  entry-is i j e lj le =
-      ap (λ v. v % leaky l) (word-read (frame n l i) order (j * bucketSize l + e) (inside j e lj le)
-      (omega (arith, place-below j e lj le, leaky-most l (X .range .most))))
-      ∙ mod-eq-of-lt (place-below j e lj le)
-
-  -- an entry, by the number of later ones
-  pub first-in : 0 < bucketSize l
-  first-in = omega (arith, bucket-low l)
-
-  later-in : (e : ℕ) → e < more l → suc e < bucketSize l
-  later-in e le = omega arith
-
-  all-in : (e : ℕ) → e < suc (more l) → e < bucketSize l
-  all-in e le = omega (arith, bucket-low l)
+  unfolding S.perms
+  entry-is i j e lj le = entry-read (frame n l i) order ordered j e lj le
 
   -- ---- d
   d-share : (i j e : ℕ) → j < l → e < more l → d (frame n l i) (args i .bits) (perm i) j e ≡ shareOf i (dOf n l args strings order j e)
   unfolding d
   d-share i j e lj le =
       ap₂ (λ a b. shares .op (y (frame n l i) (args i .bits) a) (y (frame n l i) (args i .bits) b))
-      (entry-is i j 0 lj first-in) (entry-is i j (suc e) lj (later-in e le))
+      (entry-is i j 0 lj (first-in l)) (entry-is i j (suc e) lj (later-in l e le))
       ∙ sym (ap₂ (shares .op) (share-y n l args i (place l order j 0)) (share-y n l args i (place l order j (suc e))))
       ∙ sym (share-of-op i (yIn n l args strings order j 0) (yIn n l args strings order j (suc e)))
 
   pub good-y : (j e : ℕ) → j < l → e < bucketSize l → Good blocks n (deltas args) (yIn n l args strings order j e)
   unfolding bitsCount
-  good-y j e lj le = X .bits-mac (leaky l + place l order j e) (omega (arith, place-below j e lj le))
+  good-y j e lj le = X .bits-mac (leaky l + place l order j e) (omega (arith, place-below (frame n l 0) order ordered j e lj le))
 
   good-d : (j e : ℕ) → j < l → e < more l → Good blocks n (deltas args) (dOf n l args strings order j e)
   good-d j e lj le =
       good-op blocks n (deltas args) (yIn n l args strings order j 0) (yIn n l args strings order j (suc e))
-      (good-y j 0 lj first-in) (good-y j (suc e) lj (later-in e le))
+      (good-y j 0 lj (first-in l)) (good-y j (suc e) lj (later-in l e le))
 
   small-d : (i j e : ℕ) → i < n → SmallShare n (d (frame n l i) (args i .bits) (perm i) j e)
   unfolding d y
@@ -271,7 +221,7 @@ module _ (n l : ℕ) (args : ℕ → Args) (strings order : List ℕ) (I : Input
       length-encode (8 + more l + (8 + 16 * more l)) l _
       (λ t i. length-dvalue (more l) _ _ ∙ (let q : 16 + more l * 17 ≡ 8 + more l + (8 + 16 * more l) = omega arith in q))
 
-  dvalue-form : (j r : ℕ) → formOf (kindOf l 21) (countDue n l 21) (S.sent21 n l args strings order j r) ≡ 0
+  dvalue-form : (j r : ℕ) → Reads (kindOf l 21) (countDue n l 21) (S.sent21 n l args strings order j r)
   unfolding S.sent21 dvalueMsg later kindOf countDue
   dvalue-form j r = list-form (Dvalues (more l)) l _ l-small (λ t i. coded-dvalue (more l) _ _ more-small)
 
@@ -361,7 +311,8 @@ module _ (n l : ℕ) (args : ℕ → Args) (strings order : List ℕ) (I : Input
   recv-21 = record {
     heard = record {
       lens = λ j r lj lr ne. dvalue-len j r;
-      formed = λ i j li lj ne. dvalue-form j i;
+      formed = λ i j li lj ne. dvalue-form j i .form-is;
+      whole = λ i j li lj ne. dvalue-form j i .list-is;
       judged = λ i li w K m M.
           (λ q. dFaults (frame n l i) (delta-is n l args strings order K q) (bits-at n l args strings order K q)
           (perm-at n l args strings order K refl q) m .code)
@@ -413,53 +364,21 @@ module _ (n l : ℕ) (args : ℕ → Args) (strings order : List ℕ) (I : Input
           → leakyAnd (frame n l i) (deltas args i) (args i .bits) (S.zRows n l args strings order i) (S.es n l args strings order i) (perm i) j e
           ≡ tripleOf (xs j) (ys j) (zs j) (opened j) i e
       entry-triple e le =
-          ap at-place (entry-is i j e lj (all-in e le))
+          ap at-place (entry-is i j e lj (all-in l e le))
           ∙ (λ q. record {
             tx = sym (share-x n l args i (place l order j e)) q;
             ty = sym (share-y n l args i (place l order j e)) q;
             tz = sym (share-z n l args strings order i (place l order j e)) q;
           })
 
-  row-len : (i j : ℕ) → length (tripleRow (frame n l i) (own i j)) ≡ 2 * recordLen n
-  unfolding tripleRow
-  row-len i j =
-      length-append (recordOf n i (own i j .tx)) (recordOf n i (own i j .tz))
-      ∙ ap₂ _+_ (length-recordOf n i (own i j .tx)) (length-recordOf n i (own i j .tz))
-      ∙ (let q : recordLen n + recordLen n ≡ 2 * recordLen n = omega arith in q)
-
   pub length-triples : (i : ℕ) → length (S.tripleRows n l args strings order i) ≡ l * (2 * recordLen n)
-  unfolding S.tripleRows tripleRows
-  length-triples i = length-cat l (2 * recordLen n) _ (λ j lj. row-len i j)
+  unfolding S.tripleRows B.tripleRows
+  length-triples i = A.length-triples (frame n l i) (own i)
 
   pub bytes-triples : (i : ℕ) → Bytes (S.tripleRows n l args strings order i)
   unfolding S.tripleRows tripleRows tripleRow
   bytes-triples i = bytes-cat l _ (λ j lj.
       bytes-append (recordOf n i (own i j .tx)) (recordOf n i (own i j .tz)) (bytes-recordOf n i (own i j .tx)) (bytes-recordOf n i (own i j .tz)))
-
-  row-is : (i j : ℕ) → j < l
-      → take (2 * recordLen n) (drop (j * (2 * recordLen n)) (S.tripleRows n l args strings order i))
-      ≡ recordOf n i (own i j .tx) ++ recordOf n i (own i j .tz)
-  unfolding S.tripleRows tripleRows tripleRow chunk
-  row-is i j lj = chunk-cat (2 * recordLen n) l (λ j. tripleRow (frame n l i) (own i j)) (λ j lj. row-len i j) j lj
-
-  a-here : (i j : ℕ) → i < n → j < l
-      → take (recordLen n) (drop (j * (2 * recordLen n)) (S.tripleRows n l args strings order i))
-      ≡ recordOf n i (shareOf i (aOf n l args strings order j))
-  a-here i j li lj =
-      ap (λ k. take (recordLen n) (drop k (S.tripleRows n l args strings order i))) (sym (add-zero (j * (2 * recordLen n))))
-      ∙ part-in (S.tripleRows n l args strings order i) [] (recordOf n i (own i j .tx)) (recordOf n i (own i j .tz)) (j * (2 * recordLen n))
-      (2 * recordLen n) 0 (recordLen n) (row-is i j lj) refl (length-recordOf n i (own i j .tx))
-      ∙ ap (λ (g : B.Triple). recordOf n i (g .tx)) (abc-is i j li lj)
-
-  c-here : (i j : ℕ) → i < n → j < l
-      → take (recordLen n) (drop (j * (2 * recordLen n) + recordLen n) (S.tripleRows n l args strings order i))
-      ≡ recordOf n i (shareOf i (cOf n l args strings order j))
-  c-here i j li lj =
-      let tx : List ℕ = recordOf n i (own i j .tx) in
-      part-in (S.tripleRows n l args strings order i) tx (recordOf n i (own i j .tz)) [] (j * (2 * recordLen n)) (2 * recordLen n) (recordLen n)
-      (recordLen n) (row-is i j lj ∙ ap (λ (s : List ℕ). tx ++ s) (sym (append-nil (recordOf n i (own i j .tz)))))
-      (length-recordOf n i (own i j .tx)) (length-recordOf n i (own i j .tz))
-      ∙ ap (λ (g : B.Triple). recordOf n i (g .tz)) (abc-is i j li lj)
 
   small-x : (i j e : ℕ) → i < n → SmallShare n (shareOf i (xs j e))
   unfolding x
@@ -474,20 +393,27 @@ module _ (n l : ℕ) (args : ℕ → Args) (strings order : List ℕ) (I : Input
       (λ e le. small-z n l args strings order X i li (place l order j e))
 
   -- read back
+  small-own : (i j : ℕ) → i < n → j < l → SmallTriple n (own i j)
+  small-own i j li lj =
+      subst (SmallTriple n) (sym (abc-is i j li lj)) (record { tx = small-a i j li; tz = small-c i j li })
+
   pub a-read : (i j : ℕ) → i < n → j < l
       → Agree n i (Beaver.a (frame n l i) (S.tripleRows n l args strings order i) j) (shareOf i (aOf n l args strings order j))
-  unfolding Beaver.a
-  a-read i j li lj = read-here n i _ (S.tripleRows n l args strings order i) (j * (2 * recordLen n)) (a-here i j li lj) (small-a i j li)
+  unfolding S.tripleRows tripleRows
+  a-read i j li lj =
+      subst (λ (g : B.Triple). Agree n i (Beaver.a (frame n l i) (S.tripleRows n l args strings order i) j) (g .tx)) (abc-is i j li lj)
+      (A.a-read (frame n l i) (own i) j lj (small-own i j li lj))
 
   pub c-read : (i j : ℕ) → i < n → j < l
       → Agree n i (Beaver.c (frame n l i) (S.tripleRows n l args strings order i) j) (shareOf i (cOf n l args strings order j))
-  unfolding Beaver.c
+  unfolding S.tripleRows tripleRows
   c-read i j li lj =
-      read-here n i _ (S.tripleRows n l args strings order i) (j * (2 * recordLen n) + recordLen n) (c-here i j li lj) (small-c i j li)
+      subst (λ (g : B.Triple). Agree n i (Beaver.c (frame n l i) (S.tripleRows n l args strings order i) j) (g .tz)) (abc-is i j li lj)
+      (A.c-read (frame n l i) (own i) j lj (small-own i j li lj))
 
   -- c is the AND of a and b
   pub abc-triple : LeakyTriples n l args strings order → (j : ℕ) → j < l
       → Triple blocks n (deltas args) (aOf n l args strings order j) (bOf n l args strings order j) (cOf n l args strings order j)
   abc-triple L j lj =
-      sum-triple (xs j) (ys j) (zs j) (opened j) n (deltas args) (more l) (λ e le. L (place l order j e) (place-below j e lj (all-in e le)))
+      sum-triple (xs j) (ys j) (zs j) (opened j) n (deltas args) (more l) (λ e le. L (place l order j e) (place-below (frame n l 0) order ordered j e lj (all-in l e le)))
       (λ e le. refl)

@@ -101,12 +101,3 @@ module _ (x y z : ℕ → Shared Block) (d : ℕ → Bool) where
         (small-share-op n _ _
         (small-share-op n _ _ (small-sumZ c (λ e l. h e (omega arith)) (λ e l. g e (omega arith))) (g (suc c) last))
         (small-share-sel n (d c) _ (h (suc c) last)))
-
--- what is combined, and what was opened, may be given by rules that agree
-pub combine-ext : (g h : ℕ → Buckets.Triple) (d b : ℕ → Bool) (c : ℕ) → ((e : ℕ) → e < suc c → g e ≡ h e) → ((e : ℕ) → e < c → d e ≡ b e)
-    → combine g d c ≡ combine h b c
-unfolding combine
-combine-ext g h d b zero p q = p 0 (omega arith)
-combine-ext g h d b (suc c) p q =
-    (λ k. two (combine-ext g h d b c (λ e l. p e (omega arith)) (λ e l. q e (omega arith)) k) (p (suc c) (le-refl (suc (suc c))) k)
-    (q c (le-refl (suc c)) k))

@@ -18,7 +18,7 @@ use Rattle.block.specs.Trip.{length-bytesOf, block-here, small-sum, small-sel}
 use Rattle.share.specs.Record.{recordLen}
 use Rattle.share.specs.Parties.{sharedAt}
 use Rattle.share.specs.RecordLaws.{small-mac, small-key}
-use Rattle.message.specs.Format.{formOf}
+use Rattle.message.specs.declared.Kind.the-variants.{Items}
 use Rattle.encode.specs.Coded.{length-bitBlock}
 use Rattle.plan.specs.Plan.{kindOf, countDue, msgLen, bitsCount}
 use Rattle.engine.specs.Step.{frame}
@@ -32,10 +32,11 @@ use Rattle.rounds.specs.Opening.{Args}
 use Rattle.rounds.specs.Table.{judge, kept, held, written}
 use Rattle.honest.specs.Subject.{subject}
 use Rattle.rounds.specs.Fabitn.{picks, bitSum, macSum, keySum, abitMsg, keySums, abitFault, abits}
+use Rattle.rounds.specs.EchoLaws.{length-hashVec}
 use Rattle.honest.specs.Script as S
 use Rattle.honest.specs.Inputs.{Boxes, deltas, bitsOf}
-use Rattle.honest.specs.Base.{first-none, length-hashVec, list-len, Fit, delta-is, bits-at, key-sums-at, keep-none, keep-one}
-use Rattle.honest.specs.Cells.{length-cells, cell}
+use Rattle.honest.specs.Base.{first-none, list-len, Fit, delta-is, bits-at, key-sums-at, keep-none, keep-one, Reads, reads}
+use Rattle.alone.specs.Cells.{length-cells, cell}
 use Rattle.honest.specs.Firsts.{pairs-trip, bit-read, block-read, hash-bits}
 
 module _ (n l : ℕ) (args : ℕ → Args) (strings order : List ℕ) (X : Boxes n l args) where
@@ -74,9 +75,9 @@ module _ (n l : ℕ) (args : ℕ → Args) (strings order : List ℕ) (X : Boxes
   unfolding abitMsg msgLen kindOf countDue
   abit-len j r = list-len n 17 1 120 _ (λ t i. length-bitBlock (bitOf j t) (macOf j r t))
 
-  abit-form : (j r : ℕ) → formOf (kindOf l 6) (countDue n l 6) (abitMsg (frame n l j) strings (args j .bits) r) ≡ 0
+  abit-form : (j r : ℕ) → Reads (kindOf l 6) (countDue n l 6) (abitMsg (frame n l j) strings (args j .bits) r)
   unfolding abitMsg kindOf countDue
-  abit-form j r = pairs-trip 120 (bitOf j) (macOf j r) (omega arith) .form-is
+  abit-form j r = reads (Items 17 1) 120 _ (pairs-trip 120 (bitOf j) (macOf j r) (omega arith))
 
   -- ---- the sums of keys
   fit-key-sums : Fit n l args strings order KEY-SUMS
@@ -119,7 +120,8 @@ module _ (n l : ℕ) (args : ℕ → Args) (strings order : List ℕ) (X : Boxes
   recv-6 = record {
     heard = record {
       lens = λ j r lj lr ne. abit-len j r;
-      formed = λ i j li lj ne. abit-form j i;
+      formed = λ i j li lj ne. abit-form j i .form-is;
+      whole = λ i j li lj ne. abit-form j i .list-is;
       judged = λ i li w K m M.
           ap₂ (λ (d : Block) (x : List ℕ). abits (frame n l i) d x m .code) (delta-is n l args strings order K) (key-sums-at n l args strings order K refl)
           ∙ first-none 120 _ (λ j lj. by-none (frame n l i) _ (λ k lk ne. abit-passes i j m li lj k lk ne (M k lk ne)));
@@ -131,8 +133,8 @@ module _ (n l : ℕ) (args : ℕ → Args) (strings order : List ℕ) (X : Boxes
   pub list-6 : ListAt subject run n l 6
   unfolding S.hashed S.sent S.sent6 abitMsg kindOf
   list-6 = record {
-    size = λ j lj. length-hashVec l 6 _;
+    size = λ j lj. length-hashVec 6 _;
     hashes = λ i j li lj ne.
-        hash-bits 120 (bitOf j) (macOf j i) (omega arith) l 6 refl refl
-        ∙ sym (hash-bits 120 (bitOf j) (macOf j (pick (eqb j 0) 1 0)) (omega arith) l 6 refl refl);
+        hash-bits 120 (bitOf j) (macOf j i) (omega arith) 6 refl
+        ∙ sym (hash-bits 120 (bitOf j) (macOf j (pick (eqb j 0) 1 0)) (omega arith) 6 refl);
   }

@@ -29,7 +29,7 @@ use Rattle.share.specs.RecordLaws.{small-mac}
 use Rattle.share.specs.Share.{shareAt}
 use Rattle.share.specs.Parties.{sharedAt}
 use Rattle.message.specs.declared.Kind.the-variants.{Items, Dms}
-use Rattle.message.specs.Format.{itemAt, formOf}
+use Rattle.message.specs.Format.{itemAt}
 use Rattle.encode.specs.Encode.{threeHashes, dmItem}
 use Rattle.encode.specs.Coded.{length-threeHashes, coded-threeHashes, length-encode, length-dm, coded-dm, coded-block, num-le}
 use Rattle.encode.specs.RoundTrip.{Trip, trip-whole, even-item}
@@ -47,10 +47,14 @@ use Rattle.rounds.specs.Opening.{Args}
 use Rattle.rounds.specs.Table.{judge, kept, held, written}
 use Rattle.honest.specs.Subject.{subject}
 use Rattle.rounds.specs.Fashare.{own, d0, d1, dm, dmMac, commMsg, commRows, verMsg, dmAt, dmFault, dmFaults, dmRows, dmRow, others1, dibiMsg, macsFor, dibiFault, dibiFaults}
+use Rattle.alone.specs.Base.{rows-ext}
+use Rattle.alone.specs.FashareLaws.{dm-some}
+use Rattle.rounds.specs.FashareLaws.{length-hash}
+use Rattle.rounds.specs.EchoLaws.{length-hashVec}
 use Rattle.honest.specs.Script as S
 use Rattle.honest.specs.Inputs.{Boxes, deltas, bitsOf}
-use Rattle.honest.specs.Base.{rows-ext, first-none, length-hash, length-hashVec, list-form, list-len, Fit, delta-is, bits-at, share-comms-at, dms-at, keep-none, keep-one}
-use Rattle.honest.specs.Cells.{head-part, items-row, length-cells, cell}
+use Rattle.honest.specs.Base.{first-none, list-form, list-len, Fit, delta-is, bits-at, share-comms-at, dms-at, keep-none, keep-one, Reads, reads}
+use Rattle.alone.specs.Cells.{head-part, items-row, length-cells, cell}
 
 -- ---- the commitments
 module _ (f : Frame) (delta : Block) (recs : List ℕ) where
@@ -65,7 +69,7 @@ module _ (f : Frame) (delta : Block) (recs : List ℕ) where
   unfolding commMsg msgLen kindOf countDue
   comm-len n l = list-len n 96 0 40 hashes (λ q i. length-hashes q)
 
-  comm-form : (n l : ℕ) → formOf (kindOf l 8) (countDue n l 8) (commMsg f delta recs) ≡ 0
+  comm-form : (n l : ℕ) → Reads (kindOf l 8) (countDue n l 8) (commMsg f delta recs)
   unfolding commMsg kindOf countDue threeHashes
   comm-form n l =
       list-form (Items 96 0) 40 hashes (omega arith)
@@ -76,10 +80,6 @@ module _ (f : Frame) (delta : Block) (recs : List ℕ) where
   comm-row = items-row 40 96 hashes (λ q i. length-hashes q)
 
 -- ---- the dms
-dm-some : (n : ℕ) → 0 < dmLen n
-unfolding dmLen
-dm-some n = omega arith
-
 length-own-dm : (f : Frame) (recs : List ℕ) (q : ℕ) → length (dm f recs q) ≡ dmLen (f .n)
 unfolding dm dmLen
 length-own-dm f recs q =
@@ -124,9 +124,9 @@ module _ (f : Frame) (recs : List ℕ) (most : f .n ≤ 8) where
   unfolding verMsg msgLen kindOf countDue listLen
   ver-len l = length-encode (8 + dmLen (f .n)) 40 items (λ q i. length-dm (dm f recs q) ∙ ap (λ k. 8 + k) (length-own-dm f recs q))
 
-  ver-form : (l : ℕ) → formOf (kindOf l 10) (countDue (f .n) l 10) (verMsg f recs) ≡ 0
-  unfolding kindOf countDue
-  ver-form l = ver-trip .form-is
+  ver-form : (l : ℕ) → Reads (kindOf l 10) (countDue (f .n) l 10) (verMsg f recs)
+  unfolding kindOf countDue verMsg
+  ver-form l = reads Dms 40 _ ver-trip
 
   ver-word : (q : ℕ) → q < 40 → wordAt (verMsg f recs) (itemAt Dms (verMsg f recs) q) ≡ dmLen (f .n)
   ver-word q l = dm-word 40 (dm f recs) (verMsg f recs) ver-trip q l (small-dm q) ∙ length-own-dm f recs q
@@ -242,7 +242,8 @@ module _ (n l : ℕ) (args : ℕ → Args) (strings order : List ℕ) (X : Boxes
   recv-8 = record {
     heard = record {
       lens = λ j r lj lr ne. comm-len (frame n l j) (deltas args j) (args j .bits) n l;
-      formed = λ i j li lj ne. comm-form (frame n l j) (deltas args j) (args j .bits) n l;
+      formed = λ i j li lj ne. comm-form (frame n l j) (deltas args j) (args j .bits) n l .form-is;
+      whole = λ i j li lj ne. comm-form (frame n l j) (deltas args j) (args j .bits) n l .list-is;
       judged = λ i li w K m M. refl;
     };
     keeps = λ i li w K m M. keep-one n l args strings order (due 8) (before 10) i li K SHARE-COMMS _ refl fit-share-comms
@@ -252,7 +253,7 @@ module _ (n l : ℕ) (args : ℕ → Args) (strings order : List ℕ) (X : Boxes
   pub list-8 : ListAt subject run n l 8
   unfolding S.hashed S.sent S.sent8
   list-8 = record {
-    size = λ j lj. length-hashVec l 8 _;
+    size = λ j lj. length-hashVec 8 _;
     hashes = λ i j li lj ne. refl;
   }
 
@@ -302,7 +303,8 @@ module _ (n l : ℕ) (args : ℕ → Args) (strings order : List ℕ) (X : Boxes
   recv-10 = record {
     heard = record {
       lens = λ j r lj lr ne. ver-len (frame n l j) (args j .bits) (X .range .eight) l;
-      formed = λ i j li lj ne. ver-form (frame n l j) (args j .bits) (X .range .eight) l;
+      formed = λ i j li lj ne. ver-form (frame n l j) (args j .bits) (X .range .eight) l .form-is;
+      whole = λ i j li lj ne. ver-form (frame n l j) (args j .bits) (X .range .eight) l .list-is;
       judged = λ i li w K m M. first-none 40 _ (λ q lq. by-none (frame n l i) _ (λ k lk ne. dm-passes i q m lq k (M k lk ne)));
     };
     keeps = λ i li w K m M. keep-one n l args strings order (due 10) (before 12) i li K DMS _ refl fit-dms
@@ -312,7 +314,7 @@ module _ (n l : ℕ) (args : ℕ → Args) (strings order : List ℕ) (X : Boxes
   pub list-10 : ListAt subject run n l 10
   unfolding S.hashed S.sent S.sent10
   list-10 = record {
-    size = λ j lj. length-hashVec l 10 _;
+    size = λ j lj. length-hashVec 10 _;
     hashes = λ i j li lj ne. refl;
   }
 
@@ -390,7 +392,7 @@ module _ (n l : ℕ) (args : ℕ → Args) (strings order : List ℕ) (X : Boxes
   unfolding dibiMsg msgLen kindOf countDue
   dibi-len k = list-len n 16 0 40 _ (λ q i. length-bytesOf (opens k q))
 
-  dibi-form : (k : ℕ) → formOf (kindOf l 12) (countDue n l 12) (dibi k) ≡ 0
+  dibi-form : (k : ℕ) → Reads (kindOf l 12) (countDue n l 12) (dibi k)
   unfolding dibiMsg kindOf countDue
   dibi-form k = list-form (Items 16 0) 40 _ (omega arith) (λ q i. coded-block (opens k q))
 
@@ -452,7 +454,8 @@ module _ (n l : ℕ) (args : ℕ → Args) (strings order : List ℕ) (X : Boxes
   recv-12 = record {
     heard = record {
       lens = λ j r lj lr ne. dibi-len j;
-      formed = λ i j li lj ne. dibi-form j;
+      formed = λ i j li lj ne. dibi-form j .form-is;
+      whole = λ i j li lj ne. dibi-form j .list-is;
       judged = λ i li w K m M.
           (λ t. dibiFaults (frame n l i) (bits-at n l args strings order K t) (share-comms-at n l args strings order K refl t)
           (dms-at n l args strings order K refl t) m .code)
@@ -464,6 +467,6 @@ module _ (n l : ℕ) (args : ℕ → Args) (strings order : List ℕ) (X : Boxes
   pub list-12 : ListAt subject run n l 12
   unfolding S.hashed S.sent S.sent12
   list-12 = record {
-    size = λ j lj. length-hashVec l 12 _;
+    size = λ j lj. length-hashVec 12 _;
     hashes = λ i j li lj ne. refl;
   }

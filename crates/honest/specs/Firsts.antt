@@ -26,7 +26,7 @@ use Rattle.encode.specs.RoundTrip.{Trip, trip-whole, even-item}
 use Rattle.plan.specs.Plan.{kindOf}
 use Rattle.rounds.specs.Echo.{hashVec}
 use Rattle.honest.specs.Toss.{cat-tab}
-use Rattle.honest.specs.Cells.{head-part}
+use Rattle.alone.specs.Cells.{head-part}
 
 module _ (c : ℕ) (b : ℕ → Bool) (x : ℕ → Block) (small : c < 2 ^ 64) where
   abbrev msg : List ℕ
@@ -63,9 +63,8 @@ module _ (c : ℕ) (b : ℕ → Bool) (x : ℕ → Block) (small : c < 2 ^ 64) w
       ∙ sym (cat-tab c (λ t. num (b t))))
 
   -- so the bits alone are hashed
-  pub hash-bits : (l k : ℕ) → kindOf l k ≡ Items 17 1 → (eqb k 6 || eqb k 15) ≡ true
-      → hashVec l k (encode c (λ t. bitBlock (b t) (x t))) ≡ take 16 (hash (encode c (λ t. num (b t) ∷ [])))
+  pub hash-bits : (k : ℕ) → (eqb k 6 || eqb k 15) ≡ true
+      → hashVec k (encode c (λ t. bitBlock (b t) (x t))) ≡ take 16 (hash (encode c (λ t. num (b t) ∷ [])))
   unfolding hashVec
-  hash-bits l k e f =
-      ap₂ (λ (K : Kind) (q : Bool). take 16 (hash (pick q (firsts 17 (listOf K msg)) (listOf K msg)))) e f
-      ∙ ap (λ (s : List ℕ). take 16 (hash (firsts 17 s))) (pairs-trip .list-is) ∙ ap (λ (s : List ℕ). take 16 (hash s)) firsts-bits
+  hash-bits k f =
+      ap (λ (q : Bool). take 16 (hash (pick q (firsts 17 msg) msg))) f ∙ ap (λ (s : List ℕ). take 16 (hash s)) firsts-bits

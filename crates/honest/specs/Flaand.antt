@@ -2,29 +2,27 @@
 use mathlib.Core.Path.{_≡_, refl, sym, ap, ap₂, _∙_}
 use mathlib.Core.Bool.{Bool, true}
 use mathlib.Core.Logic.{_≢_}
-use mathlib.Core.List.{List, [], append-nil}
+use mathlib.Core.List.{List}
 use Prim.Native.Nat.{ℕ, _+_, _*_, _^_, _<_}
-use native.Mathlib.Nat.{add-zero}
 use native.Mathlib.Omega.{arith}
 use lib.ListN.{length, getD, take, drop}
 use Rattle.lists.specs.Pick.{pick}
 use Rattle.lists.specs.All.{allOf, all-of}
-use Rattle.lists.specs.Over.{tab, cat, length-cat, length-tab, getD-tab}
-use Rattle.lists.specs.Rows.{getD-chunk, cat-ext}
+use Rattle.lists.specs.Over.{tab, cat, length-cat}
+use Rattle.lists.specs.Rows.{cat-ext}
 use Rattle.lists.specs.Same.{same-eq}
-use Rattle.algebra.specs.Group.{XorGroup, bits, sel, odd, num, odd-num, ac}
-use Rattle.algebra.specs.Sum.{sum, others, others-ext, others-op, others-all}
+use Rattle.algebra.specs.Group.{bits, sel, odd, num}
+use Rattle.algebra.specs.Sum.{sum, others, others-ext, others-all}
 use Rattle.algebra.specs.Share.{Shared, Good}
 use Rattle.algebra.specs.Leaky as Leaky
 use Rattle.block.specs.declared.Block.{Block}
 use Rattle.block.specs.Block.{blockAt, bytesOf, Small}
 use Rattle.block.specs.Group.{blocks, eq-block}
-use Rattle.block.specs.Trip.{small-xor, small-sel, small-others, length-bytesOf, block-bytesOf, block-here}
+use Rattle.block.specs.Trip.{small-xor, small-sel, small-others, length-bytesOf, block-here}
 use Rattle.blake3.specs.Tree.{hash}
 use Rattle.share.specs.Share.{shareAt}
 use Rattle.share.specs.Parties.{sharedAt, shareOf}
 use Rattle.message.specs.declared.Kind.the-variants.{Items}
-use Rattle.message.specs.Format.{formOf}
 use Rattle.encode.specs.Coded.{length-bitBlock, coded-hash, coded-block}
 use Rattle.encode.specs.RoundTrip.{trip-whole, even-item}
 use Rattle.plan.specs.Plan.{kindOf, countDue, msgLen, leaky, bitsCount}
@@ -41,29 +39,18 @@ use Rattle.rounds.specs.Table.{judge, kept, held, written}
 use Rattle.honest.specs.Subject.{subject}
 use Rattle.rounds.specs.Haand.{x, y, r, G, phi, u, phiAt, keyHash, uAt, zAt, macHash}
 use Rattle.rounds.specs.Flaand.{e, flaandMsg, eTold, uTold, eRows, zKey, h, hs, commMsg, commRows, hashMsg, hTold, opening, zeroSum, hFaults}
+use Rattle.alone.specs.Base.{rows-ext}
+use Rattle.alone.specs.HaandLaws.{small-G, small-phi, small-u, phi-read, key-hash-read, u-read, mac-hash-read}
+use Rattle.alone.specs.FlaandLaws.{h-alg, block-row, length-es, e-read}
+use Rattle.rounds.specs.FashareLaws.{length-hash}
+use Rattle.rounds.specs.EchoLaws.{length-hashVec}
 use Rattle.honest.specs.Script as S
 use Rattle.honest.specs.Inputs.{Boxes, deltas, small-delta}
-use Rattle.honest.specs.Base.{rows-ext, length-rows, chunk-rows, length-hash, length-hashVec, list-form, list-len, Fit, delta-is, bits-at, leaky-at, zs-at, hs-at, h-comms-at, keep-none, keep-one, keep-two}
-use Rattle.honest.specs.Cells.{items-row, length-cells, cell}
+use Rattle.honest.specs.Base.{list-form, list-len, Fit, delta-is, bits-at, leaky-at, zs-at, hs-at, h-comms-at, keep-none, keep-one, keep-two, Reads, reads}
+use Rattle.alone.specs.Cells.{items-row, length-cells, cell}
 use Rattle.honest.specs.Firsts.{pairs-trip, bit-read, block-read, hash-bits}
-use Rattle.honest.specs.Haand.{leaky-small, row-block, small-G, small-phi, small-u, phi-read, key-hash-read, u-read, mac-hash-read, and-z}
+use Rattle.honest.specs.Haand.{leaky-small, and-z}
 use Rattle.honest.specs.Values.{xOf, yOf, rOf, zOf, small-z, LeakyTriples}
-
--- ---- h, as it is computed and as the algebra has it
-h-sort : {A : Type 0} (G : XorGroup A) (a b c d p q : A)
-    → G .op (G .op (G .op a d) (G .op b c)) (G .op p q) ≡ G .op (G .op (G .op (G .op (G .op a b) c) d) p) q
-h-sort G a b c d p q = simp ac
-
-h-alg : {A : Type 0} (G : XorGroup A) (i n : ℕ) (a b c d : ℕ → A) (p q : A)
-    → G .op (G .op (others G i n (λ j. G .op (a j) (d j))) (G .op (others G i n b) (others G i n c))) (G .op p q)
-    ≡ G .op (G .op (others G i n (λ j. G .op (G .op (G .op (a j) (b j)) (c j)) (d j))) p) q
-h-alg {A} G i n a b c d p q =
-    ap (λ (s : A). G .op (G .op s (G .op (others G i n b) (others G i n c))) (G .op p q)) (others-op G i n a d)
-    ∙ h-sort G (others G i n a) (others G i n b) (others G i n c) (others G i n d) p q
-    ∙ sym (ap (λ (s : A). G .op (G .op s p) q)
-    (others-op G i n (λ j. G .op (G .op (a j) (b j)) (c j)) d
-    ∙ ap (λ (s : A). G .op s (others G i n d))
-    (others-op G i n (λ j. G .op (a j) (b j)) c ∙ ap (λ (s : A). G .op s (others G i n c)) (others-op G i n a b))))
 
 -- ---- what is kept depends on the others' messages alone
 module _ (f : Frame) where
@@ -121,19 +108,9 @@ module _ (n l : ℕ) (args : ℕ → Args) (strings order : List ℕ) (X : Boxes
       ∙ u-at i j t li lj (λ p. ne (sym p)) lt
 
   -- the e that box i keeps
-  e-row : (m : ℕ → List ℕ) (j : ℕ) → length (tab (leaky l) (λ t. num (eTold m j t))) ≡ leaky l
-  e-row m j = length-tab (leaky l) _
-
   e-at : (i j t : ℕ) → j < n → i ≢ j → t < leaky l → odd (getD (S.es n l args strings order i) (j * leaky l + t) 0) ≡ eOf j t
-  unfolding S.es eRows
-  e-at i j t lj ne lt =
-      let m : ℕ → List ℕ = λ j. S.sent15 n l args strings order j i in
-      ap odd
-      (sym (getD-chunk (leaky l) j (rows (frame n l i) (leaky l) (λ j. tab (leaky l) (λ t. num (eTold m j t)))) t 0 lt)
-      ∙ ap (λ (s : List ℕ). getD s t 0)
-      (chunk-rows (frame n l i) (leaky l) (λ j. tab (leaky l) (λ t. num (eTold m j t))) (λ k lk ne′. e-row m k) j lj ne)
-      ∙ getD-tab (leaky l) t (λ t. num (eTold m j t)) 0 lt)
-      ∙ odd-num (eTold m j t) ∙ e-told i j t lt
+  unfolding S.es
+  e-at i j t lj ne lt = e-read (frame n l i) (λ j. S.sent15 n l args strings order j i) j t lj ne lt ∙ e-told i j t lt
 
   -- ---- z keeps the MAC rule
   z-key : (i j t : ℕ) → j < n → i ≢ j → t < leaky l
@@ -217,32 +194,26 @@ module _ (n l : ℕ) (args : ℕ → Args) (strings order : List ℕ) (X : Boxes
       (small-sel (z .bit i) (deltas args i) (sd i li))
 
   -- ---- what HS holds
-  h-row : (m : ℕ → Block) → (t : ℕ) → t < leaky l → Small (m t) → blockAt (cat (leaky l) (λ t. bytesOf (m t))) (t * 16) ≡ m t
-  h-row m t lt s =
-      ap (blockAt (cat (leaky l) (λ t. bytesOf (m t)))) (sym (add-zero (t * 16)))
-      ∙ row-block 16 (leaky l) (λ t. bytesOf (m t)) (λ t l. length-bytesOf (m t)) t 0 lt (omega arith)
-      ∙ ap (λ (s : List ℕ). blockAt s 0) (sym (append-nil (bytesOf (m t)))) ∙ block-bytesOf (m t) [] s
-
   h-at : (i t : ℕ) → i < n → t < leaky l → blockAt (S.hs n l args strings order i) (t * 16) ≡ hOf t i
   unfolding S.hs hs
-  h-at i t li lt = h-row _ t lt (rw (h-is i t li lt) (small-h i t li)) ∙ h-is i t li lt
+  h-at i t li lt = block-row (leaky l) _ t lt (rw (h-is i t li lt) (small-h i t li)) ∙ h-is i t li lt
 
   fit-hs : Fit n l args strings order HS
   unfolding S.holds S.hs hs sizeOf sizes
   fit-hs = (omega arith, λ i li. length-cat (leaky l) 16 _ (λ t lt. length-bytesOf _))
 
   fit-es : Fit n l args strings order ES
-  unfolding S.holds S.es eRows sizeOf sizes
-  fit-es = (omega arith, λ i li. length-rows (frame n l i) (leaky l) _ (λ k lk ne. e-row (λ j. S.sent15 n l args strings order j i) k))
+  unfolding S.holds S.es sizeOf sizes
+  fit-es = (omega arith, λ i li. length-es (frame n l i) (λ j. S.sent15 n l args strings order j i))
 
   -- ---- round 15
   flaand-len : (j r : ℕ) → length (S.sent15 n l args strings order j r) ≡ msgLen n l 15
   unfolding S.sent15 flaandMsg msgLen kindOf countDue
   flaand-len j r = list-len n 17 1 (leaky l) _ (λ t i. length-bitBlock _ _)
 
-  flaand-form : (j r : ℕ) → formOf (kindOf l 15) (countDue n l 15) (S.sent15 n l args strings order j r) ≡ 0
+  flaand-form : (j r : ℕ) → Reads (kindOf l 15) (countDue n l 15) (S.sent15 n l args strings order j r)
   unfolding S.sent15 flaandMsg kindOf countDue
-  flaand-form j r = pairs-trip (leaky l) (eOf j) _ small .form-is
+  flaand-form j r = reads (Items 17 1) (leaky l) _ (pairs-trip (leaky l) (eOf j) _ small)
 
   pub send-15 : SendAt subject run n l 15
   unfolding staysTest allOf mem S.since S.sent S.sent15 held written
@@ -258,7 +229,8 @@ module _ (n l : ℕ) (args : ℕ → Args) (strings order : List ℕ) (X : Boxes
   recv-15 = record {
     heard = record {
       lens = λ j r lj lr ne. flaand-len j r;
-      formed = λ i j li lj ne. flaand-form j i;
+      formed = λ i j li lj ne. flaand-form j i .form-is;
+      whole = λ i j li lj ne. flaand-form j i .list-is;
       judged = λ i li w K m M. refl;
     };
     keeps = λ i li w K m M. keep-two n l args strings order (due 15) (before 17) i li K HS ES _ _ refl fit-hs fit-es
@@ -271,9 +243,9 @@ module _ (n l : ℕ) (args : ℕ → Args) (strings order : List ℕ) (X : Boxes
   pub list-15 : ListAt subject run n l 15
   unfolding S.hashed S.sent S.sent15 flaandMsg kindOf
   list-15 = record {
-    size = λ j lj. length-hashVec l 15 _;
+    size = λ j lj. length-hashVec 15 _;
     hashes = λ i j li lj ne.
-        hash-bits (leaky l) (eOf j) _ small l 15 refl refl ∙ sym (hash-bits (leaky l) (eOf j) _ small l 15 refl refl);
+        hash-bits (leaky l) (eOf j) _ small 15 refl ∙ sym (hash-bits (leaky l) (eOf j) _ small 15 refl);
   }
 
   -- ---- round 17
@@ -288,7 +260,7 @@ module _ (n l : ℕ) (args : ℕ → Args) (strings order : List ℕ) (X : Boxes
   unfolding S.sent17 commMsg msgLen kindOf countDue
   comm-len j r = list-len n 32 0 (leaky l) (comm j) (λ t i. length-hash _)
 
-  comm-form : (j r : ℕ) → formOf (kindOf l 17) (countDue n l 17) (S.sent17 n l args strings order j r) ≡ 0
+  comm-form : (j r : ℕ) → Reads (kindOf l 17) (countDue n l 17) (S.sent17 n l args strings order j r)
   unfolding S.sent17 commMsg kindOf countDue
   comm-form j r = list-form (Items 32 0) (leaky l) (comm j) small (λ t i. coded-hash (comm j t) (length-hash _))
 
@@ -319,7 +291,8 @@ module _ (n l : ℕ) (args : ℕ → Args) (strings order : List ℕ) (X : Boxes
   recv-17 = record {
     heard = record {
       lens = λ j r lj lr ne. comm-len j r;
-      formed = λ i j li lj ne. comm-form j i;
+      formed = λ i j li lj ne. comm-form j i .form-is;
+      whole = λ i j li lj ne. comm-form j i .list-is;
       judged = λ i li w K m M. refl;
     };
     keeps = λ i li w K m M. keep-one n l args strings order (due 17) (before 19) i li K H-COMMS _ refl fit-comms
@@ -329,7 +302,7 @@ module _ (n l : ℕ) (args : ℕ → Args) (strings order : List ℕ) (X : Boxes
   pub list-17 : ListAt subject run n l 17
   unfolding S.hashed S.sent S.sent17
   list-17 = record {
-    size = λ j lj. length-hashVec l 17 _;
+    size = λ j lj. length-hashVec 17 _;
     hashes = λ i j li lj ne. refl;
   }
 
@@ -338,7 +311,7 @@ module _ (n l : ℕ) (args : ℕ → Args) (strings order : List ℕ) (X : Boxes
   unfolding S.sent19 hashMsg msgLen kindOf countDue
   hash-len j r = list-len n 16 0 (leaky l) (λ t. bytesOf (own j t)) (λ t i. length-bytesOf _)
 
-  hash-form : (j r : ℕ) → formOf (kindOf l 19) (countDue n l 19) (S.sent19 n l args strings order j r) ≡ 0
+  hash-form : (j r : ℕ) → Reads (kindOf l 19) (countDue n l 19) (S.sent19 n l args strings order j r)
   unfolding S.sent19 hashMsg kindOf countDue
   hash-form j r = list-form (Items 16 0) (leaky l) (λ t. bytesOf (own j t)) small (λ t i. coded-block (own j t))
 
@@ -386,7 +359,8 @@ module _ (n l : ℕ) (args : ℕ → Args) (strings order : List ℕ) (X : Boxes
   recv-19 = record {
     heard = record {
       lens = λ j r lj lr ne. hash-len j r;
-      formed = λ i j li lj ne. hash-form j i;
+      formed = λ i j li lj ne. hash-form j i .form-is;
+      whole = λ i j li lj ne. hash-form j i .list-is;
       judged = λ i li w K m M.
           ap₂ (λ (o c : List ℕ). hFaults (frame n l i) o c m .code) (hs-at n l args strings order K refl) (h-comms-at n l args strings order K refl)
           ∙ ap (λ (x : Fault). x .code)
@@ -399,6 +373,6 @@ module _ (n l : ℕ) (args : ℕ → Args) (strings order : List ℕ) (X : Boxes
   pub list-19 : ListAt subject run n l 19
   unfolding S.hashed S.sent S.sent19
   list-19 = record {
-    size = λ j lj. length-hashVec l 19 _;
+    size = λ j lj. length-hashVec 19 _;
     hashes = λ i j li lj ne. refl;
   }

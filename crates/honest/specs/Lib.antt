@@ -1,13 +1,12 @@
 pub mod Subject
+pub mod Course
 pub mod Script
 pub mod Inputs
 pub mod Base
 pub mod Toss
-pub mod Echo
 pub mod Opening
 pub mod Supply
 pub mod Firsts
-pub mod Cells
 pub mod Fabitn
 pub mod Values
 pub mod Haand

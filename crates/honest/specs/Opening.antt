@@ -4,13 +4,13 @@ use mathlib.Core.Path.{_≡_, refl, sym, ap, ap₂, _∙_, subst}
 use mathlib.Core.Bool.{Bool, true, false, _&&_}
 use mathlib.Core.Logic.{_≢_}
 use mathlib.Core.List.{List, [], _∷_}
-use Prim.Native.Nat.{ℕ, suc, _+_, _-_, _*_, _<_, _≤_}
+use Prim.Native.Nat.{ℕ, suc, _+_, _-_, _*_, _<_}
 use native.Mathlib.Omega.{arith}
-use lib.ListN.{length, getD, replicate, length-replicate}
-use lib.Dec.{ltb, leb, eqb}
-use borrow.Author.Tests.{ltb-true, ltb-false, lt-ltb, le-leb, eq-eqb, ne-eqb, eqb-true}
+use lib.ListN.{length, getD}
+use lib.Dec.{leb, eqb}
+use borrow.Author.Tests.{lt-ltb, le-leb, eq-eqb, ne-eqb, eqb-true}
 use Rattle.lists.specs.Pick.{pick}
-use Rattle.lists.specs.All.{allOf, all-of, of-all}
+use Rattle.lists.specs.All.{allOf, all-of}
 use Rattle.lists.specs.Over.{tab, length-tab, getD-tab}
 use Rattle.algebra.specs.Sum.{neq, Same, apart, apart?}
 use Rattle.share.specs.RecordLaws.{valid-faults}
@@ -18,26 +18,27 @@ use Rattle.permutation.specs.Permutation.{isPerm}
 use Rattle.permutation.specs.PermutationLaws.{perm-of}
 use Rattle.plan.specs.Plan.{InRange, leaky, bitsCount, rLen, msgLen}
 use Rattle.engine.specs.declared.Frame.{Frame}
-use Rattle.engine.specs.declared.Verdict.the-variants.{Accepted, Refused}
-use Rattle.engine.specs.Step.{frame, Loan, Outcome, outcome}
+use Rattle.engine.specs.Step.{frame, Loan, Accepted, Refused, outcome}
 use Rattle.engine.specs.World.{sessionOf}
-use Rattle.engine.specs.Area.{toOthers, mem, Every, every-mem}
-use Rattle.engine.specs.Sheet.{Known, known-lay}
+use Rattle.engine.specs.Area.{toOthers}
+use Rattle.engine.specs.Sheet.{Known}
 use Rattle.engine.specs.Plain.{noLoan}
 use Rattle.engine.specs.Honest.{Lawful, due}
 use Rattle.engine.specs.PlainSession.{none-lent, HonestOpening}
-use Rattle.rounds.specs.Area.{DELTA, SEED, PAIRS, MASKS, BITS, ALPHA, BETA, ROUNDS-OWN, sizes, sizeOf, workLen}
-use Rattle.rounds.specs.Opening.{Args, listsDue, buffersDue, masksFault, orFault, bytesFault, reason, section, area, spec}
+use Rattle.rounds.specs.Area.{workLen}
+use Rattle.rounds.specs.Opening.{Args, listsDue, buffersDue, masksFault, orFault, bytesFault, lengthsFault, reason, section, area, spec, opening}
 use Rattle.rounds.specs.Table.{lent}
-use Rattle.honest.specs.Subject.{opener, subject}
 use Rattle.rounds.specs.Toss as Toss
+use Rattle.alone.specs.Opening.{Lens, first-seven, spec-takes}
+use Rattle.alone.specs.Opening as A
+use Rattle.honest.specs.Subject.{opener, subject}
 use Rattle.honest.specs.Script as S
 use Rattle.honest.specs.Inputs.{Own, Boxes, Inputs}
 use Rattle.honest.specs.Base.{Run}
 
 -- ---- no reason to refuse
 module _ (a : Args) (r : InRange (a .party .n) (a .party .l)) (li : a .party .i < a .party .n) (o : Own (a .party .n) (a .party .l) (a .party .i) a) where
-  lists-due : listsDue a ≡ true
+  lists-due : listsDue (a .party) (length (a .bits)) (length (a .alpha)) (length (a .beta)) ≡ true
   unfolding listsDue
   lists-due = rw (eq-eqb _ _ (o .bits-len), eq-eqb _ _ (o .alpha-len), eq-eqb _ _ (o .beta-len)) refl
 
@@ -75,7 +76,7 @@ module _ (a : Args) (r : InRange (a .party .n) (a .party .l)) (li : a .party .i 
 
   pub no-reason : length (a .work) ≡ workLen (a .party) → length (a .out) ≡ (a .party .n - 1) * msgLen (a .party .n) (a .party .l) 1
       → reason a ≡ 0
-  unfolding reason
+  unfolding reason lengthsFault orFault
   no-reason hw ho =
       rw (
         le-leb 2 (a .party .n) (r .two),
@@ -88,63 +89,28 @@ module _ (a : Args) (r : InRange (a .party .n) (a .party .l)) (li : a .party .i 
       ) bytes-none
 
 -- ---- the work area that it lays out
-abbrev inputs : List ℕ
-inputs = DELTA ∷ SEED ∷ PAIRS ∷ MASKS ∷ BITS ∷ ALPHA ∷ BETA ∷ []
-
--- a claim on the sections that hold inputs
-first-seven : (Q : ℕ → Type 0) → Every Q inputs → (s : ℕ) → s < 7 → Q s
-unfolding allOf mem
-first-seven Q h s l = every-mem Q inputs h s (of-all 7 (λ s. mem s inputs) refl s l)
-
--- all else is zero
-section-zero : (a : Args) (s : ℕ) → 7 ≤ s → section a s ≡ replicate (sizeOf (a .party) s) 0
-unfolding section
-section-zero a s h =
-    rw (
-      ne-eqb s 0 (omega arith),
-      ne-eqb s 1 (omega arith),
-      ne-eqb s 2 (omega arith),
-      ne-eqb s 3 (omega arith),
-      ne-eqb s 4 (omega arith),
-      ne-eqb s 5 (omega arith),
-      ne-eqb s 6 (omega arith),
-    ) refl
-
-section-len : (a : Args) → Own (a .party .n) (a .party .l) (a .party .i) a → (s : ℕ) → length (section a s) ≡ sizeOf (a .party) s
-unfolding section sizeOf sizes
-section-len a o s = go (ltb s 7) refl
-  where
-    go : (b : Bool) → ltb s 7 ≡ b → length (section a s) ≡ sizeOf (a .party) s
-    go true e =
-        first-seven (λ s. length (section a s) ≡ sizeOf (a .party) s)
-        (o .delta-len, (o .seed-len, (o .pairs-len, (o .masks-len, (o .bits-len, (o .alpha-len, (o .beta-len, tt)))))))
-        s (ltb-true s 7 e)
-    go false e = ap length (section-zero a s (ltb-false s 7 e)) ∙ length-replicate {A = ℕ} (sizeOf (a .party) s) 0
+lens-of : (a : Args) → Own (a .party .n) (a .party .l) (a .party .i) a → Lens a
+lens-of a o = record {
+  delta-len = o .delta-len;
+  seed-len = o .seed-len;
+  pairs-len = o .pairs-len;
+  masks-len = o .masks-len;
+  bits-len = o .bits-len;
+  alpha-len = o .alpha-len;
+  beta-len = o .beta-len;
+}
 
 -- in the words of its frame
 pub own-frame : (n l b : ℕ) (a : Args) → Own n l b a → Own (a .party .n) (a .party .l) (a .party .i) a
 own-frame n l b a o = subst (λ (f : Frame). Own (f .n) (f .l) (f .i) a) (sym (o .party)) o
 
 module _ (n l : ℕ) (args : ℕ → Args) (strings order : List ℕ) (X : Boxes n l args) where
-  -- what is ready when round 1 is due is an input
-  early : allOf ROUNDS-OWN (λ s. pick (leb (S.since n l args strings order s) 3) (ltb s 7) true) ≡ true
-  unfolding allOf S.since
-  early = refl
-
-  val-first : (i : ℕ) → i < n → (s : ℕ) → s < ROUNDS-OWN → leb (S.since n l args strings order s) 3 ≡ true
-      → section (args i) s ≡ S.holds n l args strings order i s
-  unfolding section S.holds
-  val-first i li s ls r =
-      first-seven (λ s. section (args i) s ≡ S.holds n l args strings order i s)
-      (refl, (refl, (refl, (refl, (refl, (refl, (refl, tt)))))))
-      s (ltb-true s 7 (sym (ap (λ b. pick b (ltb s 7) true) r) ∙ of-all ROUNDS-OWN _ early s ls))
-
   pub known-opened : (i : ℕ) → i < n → Known n l (Run n l args strings order) (due 1) i (area (args i))
-  unfolding area
+  unfolding section S.holds
   known-opened i li =
-      known-lay n l (Run n l args strings order) (omega arith) (due 1) i (section (args i))
-      (λ s ls. section-len (args i) (own-frame n l i (args i) (X .own i li)) s ∙ ap (λ (f : Frame). sizeOf f s) (X .own i li .party))
-      (val-first i li)
+      A.known-opened (frame n l i) (S.holds n l args strings order) (args i) (X .own i li .party)
+      (lens-of (args i) (own-frame n l i (args i) (X .own i li)))
+      (first-seven (λ s. section (args i) s ≡ S.holds n l args strings order i s) (refl, (refl, (refl, (refl, (refl, (refl, (refl, tt))))))))
 
 -- ---- what demand 3 asks of a call of opening, and of the r Blocks and the permutation
 -- "work areas and buffers hold anything": the inputs of a with another work area and outgoing buffer
@@ -251,15 +217,6 @@ module _ (l : ℕ) (strings order : List ℕ) (q : Loan) where
       go false ea false eb h = none-lent q h
 
 -- ---- what opening owes
--- accepted
-spec-takes : (a : Args) (f : Frame) → a .party ≡ f → reason a ≡ 0
-    → spec a ≡ outcome (record { party = f; due = 1 }) Accepted (area a) (toOthers (f .n) (f .i) (λ r. Toss.commMsg (a .seed) (f .i)))
-unfolding spec
-spec-takes a f p z =
-    let left : Frame → Outcome = λ f.
-    outcome (record { party = f; due = 1 }) Accepted (area a) (toOthers (f .n) (f .i) (λ r. Toss.commMsg (a .seed) (f .i))) in
-    rw (eq-eqb (reason a) 0 z) (ap left p)
-
 spec-refuses : (a : Args) → reason a ≢ 0
     → spec a ≡ outcome (spec a .session) (Refused (reason a) (a .party .i)) (a .work) (a .out)
 unfolding spec

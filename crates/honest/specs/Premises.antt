@@ -20,9 +20,9 @@ use Rattle.plan.specs.Plan.{InRange, leaky, bitsCount, msgLen}
 use Rattle.engine.specs.declared.Frame.{Frame}
 use Rattle.engine.specs.Step.{frame}
 use Rattle.rounds.specs.Area.{workLen}
-use Rattle.rounds.specs.Opening.{Args, listsDue, buffersDue, masksFault, orFault, bytesFault, reason}
+use Rattle.rounds.specs.Opening.{Args, listsDue, buffersDue, masksFault, orFault, bytesFault, lengthsFault, reason}
 use Rattle.honest.specs.Inputs.{Own, Boxes, deltas, bitsOf, alphasOf, betasOf}
-use Rattle.honest.specs.Echo.{lawful}
+use Rattle.honest.specs.Course.{lawful}
 use Rattle.honest.specs.Opening.{lend, Given, honest-opening}
 use Rattle.honest.specs.Supply.{zeroArgs, zero-boxes}
 
@@ -66,19 +66,20 @@ neither x y = go (eqb x 0) refl
 
 -- what is left of the reasons, one after another
 record Passed (a : Args) : Type 0 where
-  lists : listsDue a ≡ true
+  lists : listsDue (a .party) (length (a .bits)) (length (a .alpha)) (length (a .beta)) ≡ true
   buffers : buffersDue a ≡ true
   bytes : bytesFault a ≡ 0
 
 passed : (a : Args) → reason a ≡ 0 → Passed a
-unfolding reason
+unfolding reason lengthsFault
 passed a h =
-    let e15 = pick-then (leb 2 (a .party .n) && leb (a .party .n) 8 && ltb (a .party .i) (a .party .n)) _ _ _ (not-zero 14) h in
+    let e = neither (lengthsFault (a .party) (length (a .bits)) (length (a .alpha)) (length (a .beta)) (buffersDue a)) (bytesFault a) h in
+    let e15 = pick-then (leb 2 (a .party .n) && leb (a .party .n) 8 && ltb (a .party .i) (a .party .n)) _ _ _ (not-zero 14) (e .0) in
     let e16 = pick-then (leb (a .party .l) 300000) _ _ _ (not-zero 15) (e15 .1) in
     let e3 = pick-else (eqb (a .party .l) 0) _ _ _ (not-zero 2) (e16 .1) in
-    let e6 = pick-then (listsDue a) _ _ _ (not-zero 5) (e3 .1) in
+    let e6 = pick-then (listsDue (a .party) (length (a .bits)) (length (a .alpha)) (length (a .beta))) _ _ _ (not-zero 5) (e3 .1) in
     let e17 = pick-then (buffersDue a) _ _ _ (not-zero 16) (e6 .1) in
-    record { lists = e6 .0; buffers = e17 .0; bytes = e17 .1 }
+    record { lists = e6 .0; buffers = e17 .0; bytes = e .1 }
 
 mask-bit : (a : Args) → masksFault a ≡ 0 → (k t : ℕ) → k < a .party .n → a .party .i ≢ k → t < leaky (a .party .l)
     → getD (a .masks) (k * leaky (a .party .l) + t) 0 ≤ 1
@@ -96,7 +97,7 @@ record Lists (a : Args) : Type 0 where
   alpha : length (a .alpha) ≡ a .party .l * recordLen (a .party .n)
   beta : length (a .beta) ≡ a .party .l * recordLen (a .party .n)
 
-lists-of : (a : Args) → listsDue a ≡ true → Lists a
+lists-of : (a : Args) → listsDue (a .party) (length (a .bits)) (length (a .alpha)) (length (a .beta)) ≡ true → Lists a
 unfolding listsDue
 lists-of a h =
     let p = both _ (eqb (length (a .beta)) (a .party .l * recordLen (a .party .n))) h in

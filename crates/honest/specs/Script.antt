@@ -1,16 +1,15 @@
 -- An honest run, round by round: what each box holds and sends, in terms of what the boxes were opened with. `mail k i` is what box i receives.
-use mathlib.Core.Bool.{Bool}
 use mathlib.Core.List.{List, []}
-use Prim.Native.Nat.{ℕ, _+_, _*_}
-use lib.ListN.{getD, replicate}
+use Prim.Native.Nat.{ℕ}
+use lib.ListN.{replicate}
 use lib.Dec.{leb, eqb}
 use Rattle.lists.specs.Pick.{pick}
 use Rattle.lists.specs.Rows.{chunk}
 use Rattle.block.specs.declared.Block.{Block}
 use Rattle.block.specs.Block.{blockAt}
 use Rattle.engine.specs.declared.Frame.{Frame}
-use Rattle.engine.specs.Step.{Loan, frame}
-use Rattle.engine.specs.Honest.{Script, before, due}
+use Rattle.engine.specs.Step.{frame}
+use Rattle.engine.specs.Honest.{Script}
 use Rattle.rounds.specs.Area.{DELTA, SEED, PAIRS, MASKS, BITS, ALPHA, BETA, COMMS, JOINT, PAIR-COMMS, PAIRWISE, KEY-SUMS, SHARE-COMMS, DMS, LEAKY, ZS, ES, HS, H-COMMS, PERM, DS, TRIPLES, sizeOf}
 use Rattle.rounds.specs.Opening.{Args}
 use Rattle.rounds.specs.Echo.{hashVec}
@@ -21,6 +20,7 @@ use Rattle.rounds.specs.Haand as Haand
 use Rattle.rounds.specs.Flaand as Flaand
 use Rattle.rounds.specs.Buckets as Buckets
 use Rattle.rounds.specs.Beaver as Beaver
+unfoldable pub use Rattle.alone.specs.Holds.{since}
 
 module _ (n l : ℕ) (args : ℕ → Args) (strings order : List ℕ) where
   abbrev fr : ℕ → Frame
@@ -131,18 +131,7 @@ module _ (n l : ℕ) (args : ℕ → Args) (strings order : List ℕ) where
   resultOf i = Beaver.results (fr i) (recs i) (perms i) (tripleRows i) (args i .alpha) (args i .beta) (λ j. sent22 j i)
 
   -- ---- the script
-  -- the round at which a section comes to hold its value: before its messages are made for what is received with the round before, and when it is due
-  -- for what is kept with the messages' making; what opening keeps is there from the start
-  unfoldable pub since : ℕ → ℕ
-  since s =
-      pick (eqb s COMMS) (before 3) (pick (eqb s JOINT) (before 4) (pick (eqb s PAIR-COMMS) (before 5) (pick (eqb s PAIRWISE) (before 6)
-      (pick (eqb s KEY-SUMS) (due 6) (pick (eqb s SHARE-COMMS) (before 10) (pick (eqb s DMS) (before 12)
-      (pick (eqb s LEAKY) (due 14) (pick (eqb s ZS) (before 15)
-      (pick (eqb s ES) (before 17) (pick (eqb s HS) (before 17)
-      (pick (eqb s H-COMMS) (before 19) (pick (eqb s PERM) (due 21) (pick (eqb s DS) (before 22) (pick (eqb s TRIPLES) (due 22)
-      0))))))))))))))
-
-  -- what section s of box i holds from then on
+  -- what section s of box i holds since `since s`
   unfoldable pub holds : ℕ → ℕ → List ℕ
   holds i s =
       pick (eqb s DELTA) (args i .delta) (pick (eqb s SEED) (args i .seed) (pick (eqb s PAIRS) (args i .pairs) (pick (eqb s MASKS) (args i .masks)
@@ -164,7 +153,7 @@ module _ (n l : ℕ) (args : ℕ → Args) (strings order : List ℕ) where
 
   -- the hash of j's list, as its next party gets it
   unfoldable pub hashed : ℕ → ℕ → List ℕ
-  hashed k j = hashVec l k (sent k j (pick (eqb j 0) 1 0))
+  hashed k j = hashVec k (sent k j (pick (eqb j 0) 1 0))
 
   abbrev pub script : Script
   script = record {

@@ -22,7 +22,7 @@ use Rattle.engine.specs.Step.{frame, Protocol}
 use Rattle.engine.specs.World.{Box, Call, Scene, start, runs, FairList, AllRight, Done}
 use Rattle.engine.specs.Engine.{Duty, every-call, every-done, every-long}
 use Rattle.engine.specs.Live.{Cast, robin, fair-robin, robin-done}
-use Rattle.engine.specs.Area.{mem}
+use Rattle.engine.specs.Area.{mem, also}
 use Rattle.engine.specs.Plain.{isEcho, stepsOf, protocolOf}
 use Rattle.engine.specs.Honest.{Lawful, plainAfter, Honest}
 use Rattle.engine.specs.PlainSession.{HonestOpening, sceneOf, dutyOf, every-written, castOf}
@@ -31,7 +31,7 @@ use Rattle.rounds.specs.Opening.{Args}
 use Rattle.honest.specs.Subject.{opener, subject}
 use Rattle.honest.specs.Script as S
 use Rattle.honest.specs.Inputs.{Boxes, Inputs, deltas, alphasOf, betasOf}
-use Rattle.honest.specs.Echo.{lawful}
+use Rattle.honest.specs.Course.{lawful}
 use Rattle.honest.specs.Opening.{Given, Agree, orderFor, inputs-for, honest-opening}
 use Rattle.honest.specs.Supply.{supply}
 use Rattle.honest.specs.Premises.{Premises, boxes-of, zeroInputs, zero-premises}
@@ -88,10 +88,6 @@ module _ (n l : ℕ) (args : ℕ → Args) (strings order : List ℕ) (P : Premi
         ≡ (sum bits n (λ b. bitAt (args b .alpha) (t * recordLen n)) && sum bits n (λ b. bitAt (args b .beta) (t * recordLen n)))
 
 -- ---- all rounds are honest
--- the records of the rounds, one after another
-also : {A C : Type 0} → A → C → A × C
-also a c = (a, c)
-
 module _ (n l : ℕ) (args : ℕ → Args) (strings order : List ℕ) (I : Inputs n l args order) where
   abbrev B : Boxes n l args
   B = I .boxes

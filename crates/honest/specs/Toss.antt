@@ -19,7 +19,6 @@ use Rattle.algebra.specs.Sum.{others-ext}
 use Rattle.block.specs.Block.{le8, xorInplace}
 use Rattle.block.specs.Trip.{length-le8}
 use Rattle.message.specs.declared.Kind.the-variants.{Items}
-use Rattle.message.specs.Format.{formOf}
 use Rattle.encode.specs.Encode.{encode}
 use Rattle.encode.specs.Coded.{coded-hash, coded-byte}
 use Rattle.encode.specs.RoundTrip.{trip-whole, even-item}
@@ -36,9 +35,12 @@ use Rattle.rounds.specs.Opening.{Args}
 use Rattle.rounds.specs.Table.{judge, kept, held, written}
 use Rattle.honest.specs.Subject.{subject}
 use Rattle.rounds.specs.Toss.{commitment, commMsg, verMsg, told, toldRows, opening, jointSeed, pairwiseSeeds}
+use Rattle.alone.specs.Base.{rows-ext, length-rows, chunk-rows}
+use Rattle.rounds.specs.FashareLaws.{length-hash}
+use Rattle.rounds.specs.EchoLaws.{length-hashVec}
 use Rattle.honest.specs.Script as S
 use Rattle.honest.specs.Inputs.{Boxes}
-use Rattle.honest.specs.Base.{rows-ext, length-rows, chunk-rows, length-hash, length-hashVec, list-form, list-len, Fit, seed-at, pairs-at, comms-at, pair-comms-at, keep-none, keep-one}
+use Rattle.honest.specs.Base.{list-form, list-len, Fit, seed-at, pairs-at, comms-at, pair-comms-at, keep-none, keep-one, Reads}
 
 -- ---- a message with a commitment, and one with a seed
 pub length-commitment : (seed : List ℕ) (j : ℕ) → length (commitment seed j) ≡ 32
@@ -53,7 +55,7 @@ module _ (seed : List ℕ) (j : ℕ) where
   unfolding commMsg msgLen kindOf countDue
   comm-len n l = list-len n 32 0 1 comm (λ t i. length-commitment seed j)
 
-  comm-form : (n l : ℕ) → formOf (kindOf l 1) (countDue n l 1) (commMsg seed j) ≡ 0
+  comm-form : (n l : ℕ) → Reads (kindOf l 1) (countDue n l 1) (commMsg seed j)
   unfolding commMsg kindOf countDue
   comm-form n l = list-form (Items 32 0) 1 comm (omega arith) (λ t i. coded-hash (commitment seed j) (length-commitment seed j))
 
@@ -76,7 +78,7 @@ module _ (seed : List ℕ) where
   unfolding verMsg msgLen kindOf countDue
   ver-len n l = list-len n 1 0 32 byte (λ t i. refl)
 
-  ver-form : (n l : ℕ) → formOf (kindOf l 3) (countDue n l 3) (verMsg seed) ≡ 0
+  ver-form : (n l : ℕ) → Reads (kindOf l 3) (countDue n l 3) (verMsg seed)
   unfolding verMsg kindOf countDue
   ver-form n l = list-form (Items 1 0) 32 byte (omega arith) (λ t i. coded-byte (getD seed t 0))
 
@@ -149,7 +151,8 @@ module _ (n l : ℕ) (args : ℕ → Args) (strings order : List ℕ) (X : Boxes
   recv-1 = record {
     heard = record {
       lens = λ j r lj lr ne. comm-len (args j .seed) j n l;
-      formed = λ i j li lj ne. comm-form (args j .seed) j n l;
+      formed = λ i j li lj ne. comm-form (args j .seed) j n l .form-is;
+      whole = λ i j li lj ne. comm-form (args j .seed) j n l .list-is;
       judged = λ i li w K m M. refl;
     };
     keeps = λ i li w K m M. keep-one n l args strings order (due 1) (before 3) i li K COMMS _ refl fit-comms (told-ext (frame n l i) _ _ M);
@@ -158,7 +161,7 @@ module _ (n l : ℕ) (args : ℕ → Args) (strings order : List ℕ) (X : Boxes
   pub list-1 : ListAt subject run n l 1
   unfolding S.hashed S.sent S.sent1
   list-1 = record {
-    size = λ j lj. length-hashVec l 1 _;
+    size = λ j lj. length-hashVec 1 _;
     hashes = λ i j li lj ne. refl;
   }
 
@@ -182,7 +185,8 @@ module _ (n l : ℕ) (args : ℕ → Args) (strings order : List ℕ) (X : Boxes
   recv-3 = record {
     heard = record {
       lens = λ j r lj lr ne. ver-len (args j .seed) n l;
-      formed = λ i j li lj ne. ver-form (args j .seed) n l;
+      formed = λ i j li lj ne. ver-form (args j .seed) n l .form-is;
+      whole = λ i j li lj ne. ver-form (args j .seed) n l .list-is;
       judged = λ i li w K m M.
           ap (λ (c : List ℕ). opening (frame n l i) c m .code) (comms-at n l args strings order K refl)
           ∙ told-opens (frame n l i) _ (λ k. args k .seed) (λ k lk ne. refl) m (λ k lk ne. told-seed k lk (m k) (M k lk ne));
@@ -215,7 +219,8 @@ module _ (n l : ℕ) (args : ℕ → Args) (strings order : List ℕ) (X : Boxes
   recv-4 = record {
     heard = record {
       lens = λ j r lj lr ne. comm-len (pair j r) j n l;
-      formed = λ i j li lj ne. comm-form (pair j i) j n l;
+      formed = λ i j li lj ne. comm-form (pair j i) j n l .form-is;
+      whole = λ i j li lj ne. comm-form (pair j i) j n l .list-is;
       judged = λ i li w K m M. refl;
     };
     keeps = λ i li w K m M.
@@ -243,7 +248,8 @@ module _ (n l : ℕ) (args : ℕ → Args) (strings order : List ℕ) (X : Boxes
   recv-5 = record {
     heard = record {
       lens = λ j r lj lr ne. ver-len (pair j r) n l;
-      formed = λ i j li lj ne. ver-form (pair j i) n l;
+      formed = λ i j li lj ne. ver-form (pair j i) n l .form-is;
+      whole = λ i j li lj ne. ver-form (pair j i) n l .list-is;
       judged = λ i li w K m M.
           ap (λ (c : List ℕ). opening (frame n l i) c m .code) (pair-comms-at n l args strings order K refl)
           ∙ told-opens (frame n l i) _ (λ k. pair k i) (λ k lk ne. refl) m (λ k lk ne. told-pair i k li lk (m k) (M k lk ne));

@@ -1,18 +1,17 @@
 -- The loops from item to item: a position and an index.
-use mathlib.Core.Path.{_≡_, refl, sym, ap, _∙_, subst}
+use mathlib.Core.Path.{_≡_, refl, sym, ap, ap₂, _∙_, subst}
 use mathlib.Core.Bool.{Bool, true, false, _&&_}
 use mathlib.Core.List.{List}
-use Prim.Native.Nat.{ℕ, _+_, _*_, _<_, _≤_}
+use Prim.Native.Nat.{ℕ, _+_, _<_, _≤_}
 use native.Mathlib.Omega.{arith}
 use lib.ListN.{length, drop, length-drop}
 use lib.Dec.{ltb, eqb}
 use borrow.Author.Tests.{ltb-true, ltb-false, eqb-true}
-use Rattle.lists.specs.All.{all-zero, all-turn, all-false}
-use Rattle.block.specs.Block.{wordAt}
+use Rattle.lists.specs.Pick.{pick}
+use Rattle.lists.specs.All.{all-zero, all-turn}
 use Rattle.message.specs.declared.Kind.{Kind}
-use Rattle.message.specs.declared.Kind.the-variants.{Dvalues}
-use Rattle.message.specs.Format.{itemLen, itemAt, countOf, decodes, listLen, innerDue, innersDue}
-use Rattle.message.specs.FormatLaws.{word-at, and-true, and-first, and-second, item-le, at-zero, at-next, decoded, decodes-of, decodes-short, decodes-bad, list-some, list-none, bucket-held, bucket-bytes}
+use Rattle.message.specs.Format.{itemLen, itemAt, countOf, decodes, listLen, innerDue, innersDue, formOf}
+use Rattle.message.specs.FormatLaws.{item-le, at-zero, at-next, decoded, decodes-of, decodes-bad, list-some, list-none, form-bad}
 
 -- the first t items decode, and item t begins at pos
 pub record Walked (K : Kind) (m : List ℕ) (t pos : ℕ) : Type 0 where
@@ -23,9 +22,6 @@ pub record Walked (K : Kind) (m : List ℕ) (t pos : ℕ) : Type 0 where
 module _ (K : Kind) (m : List ℕ) where
   pub walked-start : 8 ≤ length m → Walked K m 0 8
   walked-start h = record { here = sym (at-zero K m); fits = h; items = λ j l. absurd (omega arith) }
-
-  pub walked-short : length m < 8 → 0 ≡ listLen K m
-  walked-short h = sym (list-none K m (decodes-short K m h))
 
   module _ (t pos n : ℕ) (w : Walked K m t pos) (e : n ≡ itemLen K (drop pos m)) where
     here-len : itemLen K (drop (itemAt K m t) m) ≡ n
@@ -47,48 +43,41 @@ module _ (K : Kind) (m : List ℕ) where
             subst (λ i. 0 < itemLen K (drop (itemAt K m i) m)) p (omega (arith, here-len))
 
     -- an item that isn't there
-    pub walked-stop : t < countOf m → n ≡ 0 → 0 ≡ listLen K m
-    walked-stop l z = sym (list-none K m (decodes-bad K m t l (here-len ∙ z)))
-
-  -- the last item is passed
-  pub walked-end : (t pos : ℕ) → Walked K m t pos → 8 ≤ length m → t ≡ countOf m → pos ≡ listLen K m
-  walked-end t pos w h e =
-      let d : decodes K m ≡ true = decodes-of K m (record { head = h; item = λ j l. w .items j (omega arith) }) in
-      w .here ∙ ap (itemAt K m) e ∙ sym (list-some K m d)
+    pub walked-stop : t < countOf m → n ≡ 0 → decodes K m ≡ false
+    walked-stop l z = decodes-bad K m t l (here-len ∙ z)
 
   -- in a message that decodes there is an item
   pub walked-item : (t pos : ℕ) → Walked K m t pos → decodes K m ≡ true → t < countOf m → 0 < itemLen K (drop pos m)
   walked-item t pos w d l = rw (w .here) (decoded K m d .item t l)
 
--- ---- the inner counts of buckets
-module _ (m : List ℕ) (due : ℕ) where
-  pub inners-none : innersDue (Dvalues due) 0 m ≡ true
+-- ---- the inner counts
+module _ (K : Kind) (m : List ℕ) where
+  pub inners-none : true ≡ innersDue K 0 m
   unfolding innersDue
-  inners-none = all-zero (λ t. innerDue (Dvalues due) (drop (itemAt (Dvalues due) m t) m))
+  inners-none = sym (all-zero (λ t. innerDue K (drop (itemAt K m t) m)))
 
-  module _ (k pos : ℕ) (w : Walked (Dvalues due) m k pos) (b : Bool) (e : b ≡ innerDue (Dvalues due) (drop pos m)) where
-    here-due : innerDue (Dvalues due) (drop (itemAt (Dvalues due) m k) m) ≡ b
-    here-due = ap (λ a. innerDue (Dvalues due) (drop a m)) (sym (w .here)) ∙ sym e
+  pub inners-turn : (t pos : ℕ) → Walked K m t pos → (a b : Bool) → a ≡ innersDue K t m → b ≡ innerDue K (drop pos m) → (a && b) ≡ innersDue K (t + 1) m
+  unfolding innersDue
+  inners-turn t pos w a b ea eb =
+      ap₂ _&&_ ea (eb ∙ ap (λ x. innerDue K (drop x m)) (w .here)) ∙ sym (all-turn t (λ t. innerDue K (drop (itemAt K m t) m)))
 
-    pub inners-turn : innersDue (Dvalues due) k m ≡ true → b ≡ true → innersDue (Dvalues due) (k + 1) m ≡ true
-    unfolding innersDue
-    inners-turn h q =
-        all-turn k (λ t. innerDue (Dvalues due) (drop (itemAt (Dvalues due) m t) m)) ∙ and-true _ _ h (here-due ∙ q)
+-- ---- what the reader tells
+module _ (K : Kind) (count : ℕ) (m : List ℕ) where
+  pub read-bad : decodes K m ≡ false → (13 ≡ formOf K count m) × (0 ≡ listLen K m)
+  read-bad e = (sym (form-bad K count m e), sym (list-none K m e))
 
-    pub inners-stop : (count : ℕ) → k < count → b ≡ false → false ≡ innersDue (Dvalues due) count m
-    unfolding innersDue
-    inners-stop count l q =
-        sym (all-false count (λ t. innerDue (Dvalues due) (drop (itemAt (Dvalues due) m t) m)) k l (here-due ∙ q))
+  pub read-end : (t pos found code : ℕ) (inner : Bool) → Walked K m t pos → 8 ≤ length m → t ≡ found → found ≡ countOf m
+      → inner ≡ innersDue K t m → code ≡ pick (eqb found count && inner) 0 6 → (code ≡ formOf K count m) × (pos ≡ listLen K m)
+  unfolding formOf
+  read-end t pos found code inner w h e f i c = (
+    c ∙ go (eqb found count) refl ∙ ap (λ n. pick (eqb n count && innersDue K count m) 0 6) f
+        ∙ sym (ap (λ b. pick b (pick (eqb (countOf m) count && innersDue K count m) 0 6) 13) d),
+    w .here ∙ ap (itemAt K m) (e ∙ f) ∙ sym (list-some K m d),
+  )
+    where
+      d : decodes K m ≡ true
+      d = decodes-of K m (record { head = h; item = λ j l. w .items j (omega arith) })
 
-    -- a bucket whose counts are due
-    pub bucket-is : 0 < itemLen (Dvalues due) (drop pos m) → b ≡ true → 16 + due + due * 16 ≡ itemLen (Dvalues due) (drop pos m)
-    unfolding innerDue
-    bucket-is h q =
-        let s = drop pos m in
-        let p : (eqb (wordAt s 0) due && eqb (wordAt s (8 + wordAt s 0)) due) ≡ true = sym e ∙ q in
-        let x = eqb (wordAt s 0) due in
-        let y = eqb (wordAt s (8 + wordAt s 0)) due in
-        let d : wordAt s 0 ≡ due = eqb-true (wordAt s 0) due (and-first x y p) in
-        let v : wordAt s (8 + wordAt s 0) ≡ due = eqb-true (wordAt s (8 + wordAt s 0)) due (and-second x y p) in
-        let u : wordAt (drop (8 + wordAt s 0) s) 0 ≡ due = word-at s (8 + wordAt s 0) ∙ v in
-        omega (arith, bucket-bytes due s (bucket-held due s h), d, u)
+      go : (b : Bool) → eqb found count ≡ b → _≡_ {A = ℕ} (pick (eqb found count && inner) 0 6) (pick (eqb found count && innersDue K count m) 0 6)
+      go true q = ap (λ x. pick (eqb found count && x) 0 6) (i ∙ ap (λ n. innersDue K n m) (e ∙ eqb-true found count q))
+      go false q = rw q refl

@@ -1,4 +1,5 @@
 pub mod Format
 pub mod FormatLaws
+pub mod PrefixLaws
 pub mod Read
 pub mod Examples

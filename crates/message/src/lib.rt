@@ -1,10 +1,12 @@
-// Messages read: bincode legacy lists (document 01, "Messages"), where they lie in the incoming buffer. One reader for every kind of list; it
-// answers 13, 6 or nothing wrong, and hands back the part that holds the list. The crate encode writes them. From src/channel.rs (list checks)
-// and src/utils/serde.rs of polytune.
+// Messages read: bincode legacy lists (document 01, "Messages"), where they lie in the incoming buffer. One reader for every kind of list, and one
+// walk over a message: it answers 13, 6 or nothing wrong, and how long the list is; `part` hands back the part of the buffer that holds it. The
+// crate encode writes them. From src/channel.rs (list checks) and src/utils/serde.rs of polytune.
 ghost use mathlib.Core.Path.{_≡_};
-ghost use mathlib.Core.Bool.{true};
+ghost use mathlib.Core.Bool.{true, _&&_};
 ghost use Prim.Native.Nat.{ℕ, _+_, _<_, _≤_, min};
 ghost use lib.ListN.{length, drop};
+ghost use lib.Dec.{eqb};
+ghost use Rattle.lists.specs.Pick.{pick};
 ghost use Rattle.message.specs.Format as F;
 ghost use Rattle.message.specs.Read as R;
 
@@ -124,28 +126,6 @@ fn item_len(kind: Kind, s: &[u8], at: usize) -> usize
     }
 }
 
-// The bytes of the list that m begins with, its count included; 0 if m doesn't decode. Every item takes at least a byte, so the work is
-// bounded by m's length, whatever the count says.
-pub fn list_len(kind: Kind, m: &[u8]) -> usize
-    ensures { λ r. ⌜ r ≡ F.listLen kind (now (m .entry)) ⌝ }
-{
-    if m.len() < 8 {
-        return 0;
-    }
-    let count = block::load64(m, 0);
-    let mut t: u64 = 0;
-    let mut pos = 8;
-    while t < count {
-        let len = item_len(kind, m, pos);
-        if len == 0 {
-            return 0;
-        }
-        pos += len;
-        t += 1;
-    }
-    pos
-}
-
 // Where item t begins.
 pub fn item_at(kind: Kind, m: &[u8], t: usize) -> usize
     requires { ⌜ (F.decodes kind (now m) ≡ true) × (t ≤ F.countOf (now m)) ⌝ }
@@ -172,48 +152,61 @@ fn bucket_due(s: &[u8], at: usize, due: usize) -> bool
     block::load64(s, at + 8 + due) == due as u64
 }
 
-// Both lists of each of the `count` buckets have `due` elements.
-fn buckets_due(m: &[u8], count: usize, due: usize) -> bool
-    requires { ⌜ (F.decodes (Kind.Dvalues due) (now m) ≡ true) × (count ≡ F.countOf (now m)) ⌝ }
-    ensures { λ r. ⌜ r ≡ F.innersDue (Kind.Dvalues due) count (now (m .entry)) ⌝ }
+// The inner lists of the item at `at` have the counts that are due.
+fn inner_due(kind: Kind, s: &[u8], at: usize) -> bool
+    requires { ⌜ (at ≤ length (now s)) × (0 < F.itemLen kind (drop at (now s))) ⌝ }
+    ensures { λ r. ⌜ r ≡ F.innerDue kind (drop at (now (s .entry))) ⌝ }
 {
-    let mut k = 0;
-    let mut pos = 8;
-    while k < count {
-        if !bucket_due(m, pos, due) {
-            return false;
-        }
-        pos += 16 + due + due * 16;
-        k += 1;
+    match kind {
+        Kind::Items(_, _) => true,
+        Kind::Dms => true,
+        Kind::Dvalues(due) => bucket_due(s, at, due),
+        Kind::Options => true,
     }
-    true
 }
 
-// 13 if m doesn't decode, 6 if a count isn't the one due, else 0.
-pub fn check(kind: Kind, count: usize, m: &[u8]) -> u8
-    ensures { λ r. ⌜ r ≡ F.formOf kind count (now (m .entry)) ⌝ }
+// What is read of a message: 13 if it doesn't decode, 6 if a count isn't the one due, else 0; and the bytes of the list that it begins with, its
+// count included, 0 if it doesn't decode.
+pub struct Reading {
+    pub code: u8,
+    pub used: usize,
+}
+
+// 6 if the list or an inner list has another count than the one due, else 0.
+fn count_code(found: u64, count: usize, inner: bool) -> u8
+    ensures { λ r. ⌜ r ≡ pick (eqb found count && inner) 0 6 ⌝ }
 {
-    if list_len(kind, m) == 0 {
-        return 13;
+    if (found == count as u64) & inner {
+        0
+    } else {
+        6
+    }
+}
+
+// The reader. Every item takes at least a byte, so the work is bounded by m's length, whatever the count says.
+pub fn read(kind: Kind, count: usize, m: &[u8]) -> Reading
+    ensures { λ r. ⌜ (r .code ≡ F.formOf kind count (now (m .entry))) × (r .used ≡ F.listLen kind (now (m .entry))) ⌝ }
+{
+    if m.len() < 8 {
+        return Reading { code: 13, used: 0 };
     }
     let found = block::load64(m, 0);
-    if found != count as u64 {
-        return 6;
+    let mut inner = true;
+    let mut t: u64 = 0;
+    let mut pos = 8;
+    while t < found {
+        let len = item_len(kind, m, pos);
+        if len == 0 {
+            return Reading { code: 13, used: 0 };
+        }
+        inner = inner & inner_due(kind, m, pos);
+        pos += len;
+        t += 1;
     }
-    match kind {
-        Kind::Items(_, _) => 0,
-        Kind::Dms => 0,
-        Kind::Dvalues(due) => { if buckets_due(m, count, due) { 0 } else { 6 } }
-        Kind::Options => 0,
+    Reading {
+        code: count_code(found, count, inner),
+        used: pos,
     }
-}
-
-// The part of m that holds the list; nothing if m doesn't decode.
-pub fn list(kind: Kind, m: &[u8]) -> &[u8]
-    ensures { λ r. ⌜ now r ≡ F.listOf kind (now (m .entry)) ⌝ }
-{
-    let end = list_len(kind, m);
-    &m[..end]
 }
 
 // A part of `len` bytes from `start` lies within a buffer of `total` bytes.
@@ -233,43 +226,4 @@ pub fn part(incoming: &[u8], start: usize, len: usize) -> &[u8]
 {
     let end = start + len;
     &incoming[start..end]
-}
-
-// Document 01's reader: the part of the incoming buffer that holds the list, after its start, length and counts are checked; nothing where
-// it is refused.
-pub fn read_list(kind: Kind, count: usize, incoming: &[u8], start: usize, len: usize) -> &[u8]
-    ensures { λ r. ⌜ now r ≡ R.readList kind count (now (incoming .entry)) start len ⌝ }
-{
-    if inside(incoming.len(), start, len) {
-        let m = part(incoming, start, len);
-        if check(kind, count, m) == 0 {
-            list(kind, m)
-        } else {
-            &incoming[..0]
-        }
-    } else {
-        &incoming[..0]
-    }
-}
-
-// What is wrong with a message: 14 if it is marked missing, else 17 if it lies outside of the buffer, 13 if it doesn't decode, 6 if a count
-// isn't the one due, else 0. Any mark but 0 says missing.
-pub fn verdict(
-    kind: Kind,
-    count: usize,
-    incoming: &[u8],
-    start: usize,
-    len: usize,
-    missing: u8,
-) -> u8
-    ensures { λ r. ⌜ r ≡ R.verdictOf kind count (now (incoming .entry)) start len missing ⌝ }
-{
-    if missing != 0 {
-        return 14;
-    }
-    if inside(incoming.len(), start, len) {
-        check(kind, count, part(incoming, start, len))
-    } else {
-        17
-    }
 }

@@ -14,8 +14,7 @@ use Rattle.lists.specs.Sect.{get, put, length-get}
 use Rattle.share.specs.Record.{recordLen}
 use Rattle.plan.specs.Plan.{leaky, bitsCount, kindOf, countDue, listLen, msgLen}
 use Rattle.engine.specs.declared.Frame.{Frame}
-use Rattle.engine.specs.declared.Verdict.the-variants.{Accepted}
-use Rattle.engine.specs.Step.{frame, outcome}
+use Rattle.engine.specs.Step.{frame, Accepted, outcome}
 use Rattle.engine.specs.Area.{off, putSec, toOthers}
 use Rattle.rounds.specs.Area.{BITS, SECTIONS, sizes, sizeOf, workLen, keep}
 use Rattle.rounds.specs.AreaLaws.{section-in}

@@ -1,5 +1,5 @@
 -- What opening is given, and what its functions answer of it. The definition of the whole stands in crates/rounds (Opening).
-use mathlib.Core.Bool.{Bool, true, not, _&&_}
+use mathlib.Core.Bool.{Bool, true, _&&_}
 use mathlib.Core.List.{List, _++_}
 use mathlib.Core.Path.{_≡_}
 use Prim.Native.Nat.{ℕ, _+_, _-_, _*_, _<_}
@@ -14,7 +14,7 @@ use Rattle.engine.specs.declared.Frame.{Frame}
 use Rattle.engine.specs.Step.{frame}
 use Rattle.engine.specs.Area.{off}
 use Rattle.rounds.specs.Area.{DELTA, SEED, PAIRS, MASKS, BITS, ALPHA, BETA, SECTIONS, sizeOf, workLen, keep}
-use Rattle.rounds.specs.Opening.{Args, orFault}
+use Rattle.rounds.specs.Opening.{Args, orFault, lengthsFault}
 pub use Rattle.opening.specs.declared.Lens.{Lens}
 
 abbrev pub args : ℕ → ℕ → ℕ → List ℕ → List ℕ → List ℕ → List ℕ → List ℕ → List ℕ → List ℕ → List ℕ → List ℕ → Args
@@ -47,22 +47,13 @@ lens a =
     }
 
 -- ---- by the numbers and the lengths. Where n or l is refused, the lengths due are 0; then 15, 16 or 3 stands before what they say.
-unfoldable pub lists? : ℕ → ℕ → Lens → Bool
-lists? n l v = eqb (v .bits) (bitsLen n l) && eqb (v .alpha) (sharesLen n l) && eqb (v .beta) (sharesLen n l)
+unfoldable pub lists? : ℕ → ℕ → ℕ → ℕ → ℕ → Bool
+lists? n l bits alpha beta = eqb bits (bitsLen n l) && eqb alpha (sharesLen n l) && eqb beta (sharesLen n l)
 
 unfoldable pub buffers? : ℕ → ℕ → Lens → Bool
 buffers? n l v =
     eqb (v .delta) 16 && eqb (v .seed) 32 && eqb (v .pairs) (pairsLen n) && eqb (v .masks) (masksLen n l)
     && eqb (v .work) (pick (inRange n l) (workLen (frame n l 0)) 0) && eqb (v .out) (outLen n l 0)
-
--- 15, 16, 3, 6 or 17
-unfoldable pub lengthsFault : ℕ → ℕ → ℕ → Lens → ℕ
-lengthsFault n i l v =
-    orFault (pick (parties? n && ltb i n) 0 15)
-    (orFault (pick (leb l 300000) 0 16)
-    (orFault (pick (not (eqb l 0)) 0 3)
-    (orFault (pick (lists? n l v) 0 6)
-    (pick (buffers? n l v) 0 17))))
 
 -- ---- by the bytes
 -- no byte of row k of the masks is above 1; the own row isn't looked at
@@ -131,5 +122,5 @@ pub record Asked (n i l b x y m : ℕ) : Type 0 where
 -- the first reason, as the code finds it
 abbrev pub found : Args → ℕ
 found a =
-    orFault (lengthsFault (a .party .n) (a .party .i) (a .party .l) (lens a))
+    orFault (lengthsFault (a .party) (length (a .bits)) (length (a .alpha)) (length (a .beta)) (buffers? (a .party .n) (a .party .l) (lens a)))
     (bytesOf (a .party .n) (a .party .i) (a .party .l) (a .bits) (a .alpha) (a .beta) (a .masks))

@@ -5,23 +5,22 @@ use mathlib.Core.Logic.{_≢_}
 use mathlib.Core.List.{List}
 use Prim.Native.Nat.{ℕ, zero, suc, _+_, _-_, _*_, _<_}
 use native.Mathlib.Omega.{arith}
-use lib.ListN.{getD}
+use lib.ListN.{length, getD}
 use lib.Dec.{ltb, leb, eqb}
 use borrow.Author.Tests.{eq-eqb, ne-eqb, eqb-true, eqb-false, leb-true, ltb-true}
-use Rattle.lists.specs.Pick.{pick, pick-then}
+use Rattle.lists.specs.Pick.{pick, pick-then, pick-else}
 use Rattle.lists.specs.All.{allOf, true-false, all-turn}
 use Rattle.algebra.specs.Sum.{neq-true, neq-self}
 use Rattle.share.specs.Record.{recordLen}
 use Rattle.plan.specs.Plan.{InRange, parties?, inRange, leaky, bitsCount, outLen, msgLen}
-use Rattle.plan.specs.PlanLaws.{in-range, parties-true, bits-len, shares-len, masks-len, pairs-len, out-len, order-first}
-use Rattle.engine.specs.Step.{frame, outcome}
+use Rattle.plan.specs.PlanLaws.{in-range, bits-len, shares-len, masks-len, pairs-len, out-len, order-first}
+use Rattle.engine.specs.Step.{frame, Accepted, Refused, outcome}
 use Rattle.engine.specs.Area.{toOthers}
-use Rattle.engine.specs.declared.Verdict.the-variants.{Accepted, Refused}
 use Rattle.rounds.specs.Area.{workLen}
-use Rattle.rounds.specs.Opening.{Args, orFault, listsDue, buffersDue, masksFault, bytesFault, reason, area, spec}
+use Rattle.rounds.specs.Opening.{Args, orFault, listsDue, buffersDue, masksFault, bytesFault, lengthsFault, reason, area, spec}
 use Rattle.rounds.specs.Toss as Toss
 use Rattle.area.specs.AreaLaws.{work-any}
-use Rattle.opening.specs.Given.{Lens, lens, found, lists?, buffers?, lengthsFault, row?, masks?, bytesOf, Asked}
+use Rattle.opening.specs.Given.{Lens, lens, found, lists?, buffers?, row?, masks?, bytesOf, Asked}
 
 -- ---- a chain of reasons
 or-none : (x y : ℕ) → orFault x y ≡ 0 → (x ≡ 0) × (y ≡ 0)
@@ -40,8 +39,8 @@ pub or-right : (x y : ℕ) → x ≡ 0 → orFault x y ≡ y
 unfolding orFault
 or-right x y h = rw (eq-eqb x 0 h) refl
 
-unless-none : (b : Bool) (c : ℕ) → pick b 0 (suc c) ≡ 0 → b ≡ true
-unless-none b c h = pick-then b 0 (suc c) 0 (λ z. absurd (omega arith)) h .0
+not-zero : (k : ℕ) → _≡_ {A = ℕ} (suc k) 0 → ⊥
+not-zero k e = omega arith
 
 and-left : (p q : Bool) → (p && q) ≡ true → p ≡ true
 and-left true q e = refl
@@ -64,10 +63,6 @@ and-6 p q r s t u e =
     let a = and-3 (p && q && r && s) t u e in
     let b = and-3 (p && q) r s (a .0) in
     (and-left p q (b .0), and-right p q (b .0), b .1, b .2, a .1, a .2)
-
-not-zero : (l : ℕ) → not (eqb l 0) ≡ true → l ≢ 0
-not-zero zero e = absurd (true-false (sym e))
-not-zero (suc l) e = λ z. omega arith
 
 -- one test more, all looked at
 pub all-more : (f : ℕ → Bool) (t : ℕ) (good b : Bool) → good ≡ allOf t f → b ≡ f t → (good && b) ≡ allOf (t + 1) f
@@ -109,25 +104,25 @@ module _ (n i l : ℕ) (v : Lens) where
   work-due : InRange n l → pick (inRange n l) (workLen (frame n l 0)) 0 ≡ workLen (frame n l 0)
   work-due r = rw (in-range n l r) refl
 
-  pub due-of : lengthsFault n i l v ≡ 0 → Due
-  unfolding lengthsFault lists? buffers?
+  pub due-of : lengthsFault (frame n l i) (v .bits) (v .alpha) (v .beta) (buffers? n l v) ≡ 0 → Due
+  unfolding lengthsFault listsDue buffers?
   due-of h =
-      let e1 = or-none (pick (parties? n && ltb i n) 0 15) _ h in
-      let e2 = or-none (pick (leb l 300000) 0 16) _ (e1 .1) in
-      let e3 = or-none (pick (not (eqb l 0)) 0 3) _ (e2 .1) in
-      let e4 = or-none (pick (lists? n l v) 0 6) _ (e3 .1) in
-      let p = unless-none (parties? n && ltb i n) 14 (e1 .0) in
-      let q = parties-true n (and-left (parties? n) (ltb i n) p) in
-      let some = not-zero l (unless-none (not (eqb l 0)) 2 (e3 .0)) in
-      let r : InRange n l = record { two = q .0; eight = q .1; one = omega (arith, some); most = leb-true l 300000 (unless-none (leb l 300000) 15 (e2 .0)) } in
-      let s = and-3 _ _ _ (unless-none (lists? n l v) 5 (e4 .0)) in
-      let b = and-6 _ _ _ _ _ _ (unless-none (buffers? n l v) 16 (e4 .1)) in
+      let e15 = pick-then (leb 2 n && leb n 8 && ltb i n) _ _ _ (not-zero 14) h in
+      let e16 = pick-then (leb l 300000) _ _ _ (not-zero 15) (e15 .1) in
+      let e3 = pick-else (eqb l 0) _ _ _ (not-zero 2) (e16 .1) in
+      let e6 = pick-then (listsDue (frame n l i) (v .bits) (v .alpha) (v .beta)) _ _ _ (not-zero 5) (e3 .1) in
+      let e17 = pick-then (buffers? n l v) _ _ _ (not-zero 16) (e6 .1) in
+      let p = and-3 (leb 2 n) (leb n 8) (ltb i n) (e15 .0) in
+      let r : InRange n l =
+      record { two = leb-true 2 n (p .0); eight = leb-true n 8 (p .1); one = omega (arith, eqb-false l 0 (e3 .0)); most = leb-true l 300000 (e16 .0) } in
+      let s = and-3 _ _ _ (e6 .0) in
+      let b = and-6 _ _ _ _ _ _ (e17 .0) in
       record {
         range = r;
-        own = ltb-true i n (and-right (parties? n) (ltb i n) p);
-        bits = eqb-true _ _ (s .0) ∙ bits-len n l r;
-        alpha = eqb-true _ _ (s .1) ∙ shares-len n l r;
-        beta = eqb-true _ _ (s .2) ∙ shares-len n l r;
+        own = ltb-true i n (p .2);
+        bits = eqb-true _ _ (s .0);
+        alpha = eqb-true _ _ (s .1);
+        beta = eqb-true _ _ (s .2);
         delta = eqb-true _ _ (b .0);
         seed = eqb-true _ _ (b .1);
         pairs = eqb-true _ _ (b .2) ∙ pairs-len n l r;
@@ -148,22 +143,41 @@ module _ (n i l : ℕ) (v : Lens) where
       }
 
 -- ---- the chain of the definition
--- p: n and i are in range; m: l is at most 300000; z: l is 0; lists and buffers: as the definition has them, and as the code tests them
-chain : (p m z lists lists′ buffers buffers′ : Bool) (y : ℕ) → (p ≡ true → m ≡ true → z ≡ false → (lists ≡ lists′) × (buffers ≡ buffers′))
-    → pick p (pick m (pick z 3 (pick lists (pick buffers y 17) 6)) 16) 15
-    ≡ orFault (orFault (pick p 0 15) (orFault (pick m 0 16) (orFault (pick (not z) 0 3) (orFault (pick lists′ 0 6) (pick buffers′ 0 17))))) y
+-- p: n and i are in range; m: l is at most 300000; z: l is 0. What stands behind these tests may lean on them.
+in-chain : (n i l : ℕ) → (leb 2 n && leb n 8 && ltb i n) ≡ true → leb l 300000 ≡ true → eqb l 0 ≡ false → InRange n l
+in-chain n i l p m z =
+    let q = and-3 (leb 2 n) (leb n 8) (ltb i n) p in
+    record { two = leb-true 2 n (q .0); eight = leb-true n 8 (q .1); one = omega (arith, eqb-false l 0 z); most = leb-true l 300000 m }
+
+abbrev chain? : Bool → Bool → Bool → Bool → Bool → ℕ
+chain? p m z lists rest = pick p (pick m (pick z 3 (pick lists (pick rest 0 17) 6)) 16) 15
+
+chain : (p m z lists lists′ rest rest′ : Bool) → (p ≡ true → m ≡ true → z ≡ false → (lists ≡ lists′) × (rest ≡ rest′))
+    → chain? p m z lists rest ≡ chain? p m z lists′ rest′
+chain false m z lists lists′ rest rest′ h = refl
+chain true false z lists lists′ rest rest′ h = refl
+chain true true true lists lists′ rest rest′ h = refl
+chain true true false lists lists′ rest rest′ h = let e = h refl refl refl in rw (e .0, e .1) refl
+
+chained : (p m z lists rest : Bool)
+    → orFault (pick p 0 15) (orFault (pick m 0 16) (orFault (pick (not z) 0 3) (orFault (pick lists 0 6) (pick rest 0 17))))
+    ≡ chain? p m z lists rest
 unfolding orFault
-chain false m z lists lists′ buffers buffers′ y h = refl
-chain true false z lists lists′ buffers buffers′ y h = refl
-chain true true true lists lists′ buffers buffers′ y h = refl
-chain true true false lists lists′ buffers buffers′ y h =
-    let e = h refl refl refl in
-    rw (e .0, e .1) (last lists′ buffers′)
-  where
-    last : (a b : Bool) → pick a (pick b y 17) 6 ≡ orFault (orFault (pick a 0 6) (pick b 0 17)) y
-    last false b = refl
-    last true false = refl
-    last true true = refl
+chained false m z lists rest = refl
+chained true false z lists rest = refl
+chained true true true lists rest = refl
+chained true true false false rest = refl
+chained true true false true rest = refl
+
+-- the tests of the numbers and of the lengths, one after another
+pub tested : (n i l bits alpha beta : ℕ) (rest : Bool)
+    → orFault (pick (parties? n && ltb i n) 0 15) (orFault (pick (leb l 300000) 0 16) (orFault (pick (not (eqb l 0)) 0 3)
+    (orFault (pick (lists? n l bits alpha beta) 0 6) (pick rest 0 17)))) ≡ lengthsFault (frame n l i) bits alpha beta rest
+unfolding lengthsFault listsDue lists? parties?
+tested n i l bits alpha beta rest =
+    chained (leb 2 n && leb n 8 && ltb i n) (leb l 300000) (eqb l 0) (lists? n l bits alpha beta) rest
+    ∙ chain (leb 2 n && leb n 8 && ltb i n) (leb l 300000) (eqb l 0) (lists? n l bits alpha beta) (listsDue (frame n l i) bits alpha beta) rest rest
+    (λ p m z. let r = in-chain n i l p m z in (rw (bits-len n l r, shares-len n l r) refl, refl))
 
 module _ (a : Args) where
   abbrev n : ℕ
@@ -175,10 +189,6 @@ module _ (a : Args) where
   abbrev l : ℕ
   l = a .party .l
 
-  lists-same : InRange n l → listsDue a ≡ lists? n l (lens a)
-  unfolding listsDue lists?
-  lists-same r = rw (bits-len n l r, shares-len n l r) refl
-
   buffers-same : InRange n l → buffersDue a ≡ buffers? n l (lens a)
   unfolding buffersDue buffers?
   buffers-same r = rw (pairs-len n l r, masks-len n l r, work-due n i l (lens a) r, out-due n i l (lens a) r, work-any n l 0 i) refl
@@ -188,14 +198,12 @@ module _ (a : Args) where
   bytes-same = refl
 
   pub reason-found : reason a ≡ found a
-  unfolding reason lengthsFault parties?
+  unfolding reason lengthsFault
   reason-found =
-      chain (leb 2 n && leb n 8 && ltb i n) (leb l 300000) (eqb l 0) (listsDue a) (lists? n l (lens a)) (buffersDue a) (buffers? n l (lens a)) (bytesFault a)
-      (λ p m z.
-      let q = and-3 (leb 2 n) (leb n 8) (ltb i n) p in
-      let r : InRange n l = record { two = leb-true 2 n (q .0); eight = leb-true n 8 (q .1); one = omega (arith, eqb-false l 0 z); most = leb-true l 300000 m } in
-      (lists-same r, buffers-same r))
-      ∙ ap (orFault (lengthsFault n i l (lens a))) bytes-same
+      ap₂ orFault
+      (chain (leb 2 n && leb n 8 && ltb i n) (leb l 300000) (eqb l 0) (listsDue (a .party) (length (a .bits)) (length (a .alpha)) (length (a .beta))) _
+      (buffersDue a) (buffers? n l (lens a)) (λ p m z. (refl, buffers-same (in-chain n i l p m z))))
+      bytes-same
 
   -- it is refused
   pub refuses : (code : ℕ) → code ≡ found a → code ≢ 0

@@ -8,11 +8,11 @@ ghost use Rattle.lists.specs.All.{allOf};
 ghost use Rattle.lists.specs.Pick.{pick};
 ghost use Rattle.plan.specs.Plan as Plan;
 ghost use Rattle.plan.specs.Plan.{InRange};
-ghost use Rattle.engine.specs.Step.{frame, outcome};
+ghost use Rattle.engine.specs.Step.{frame, replyOf, outcome};
 ghost use Rattle.rounds.specs.Area.{workLen, keep};
 ghost use Rattle.rounds.specs.Opening as Opening;
-ghost use Rattle.rounds.specs.Opening.{orFault};
-ghost use Rattle.opening.specs.Given.{args, lists?, buffers?, lengthsFault, masks?, bytesOf, cleared, withSeeds, withLists, Room, Seeds, Lists, Asked};
+ghost use Rattle.rounds.specs.Opening.{orFault, lengthsFault};
+ghost use Rattle.opening.specs.Given.{args, lists?, buffers?, masks?, bytesOf, cleared, withSeeds, withLists, Room, Seeds, Lists, Asked};
 use engine::Answer;
 use engine::Frame;
 use engine::Session;
@@ -65,11 +65,11 @@ fn first(a: u8, b: u8) -> u8
 }
 
 // Whether the share lists are as long as they should.
-fn lists_due(n: usize, l: usize, v: Lens) -> bool
-    ensures { λ r. ⌜ r ≡ lists? n l v ⌝ }
+fn lists_due(n: usize, l: usize, bits: usize, alpha: usize, beta: usize) -> bool
+    ensures { λ r. ⌜ r ≡ lists? n l bits alpha beta ⌝ }
 {
     let shares = plan::shares_len(n, l);
-    (v.bits == plan::bits_len(n, l)) & (v.alpha == shares) & (v.beta == shares)
+    (bits == plan::bits_len(n, l)) & (alpha == shares) & (beta == shares)
 }
 
 // Whether all else that is lent is.
@@ -84,15 +84,24 @@ fn buffers_due(n: usize, l: usize, v: Lens) -> bool
         & (v.out == plan::out_len(n, l, 0))
 }
 
-// The first reason that the numbers and the lengths give: 15, 16, 3, 6, 17. Where n or l is refused, lists and buffers mean nothing.
-fn lengths_fault(n: usize, i: usize, l: usize, v: Lens) -> u8
-    ensures { λ r. ⌜ r ≡ lengthsFault n i l v ⌝ }
+// The first reason that the numbers and the lengths give, 15, 16, 3, 6, 17, by the lengths of the share lists and whether the rest is as long as it should.
+// Where n or l is refused, the lengths due mean nothing.
+pub fn lengths_fault(
+    n: usize,
+    i: usize,
+    l: usize,
+    bits: usize,
+    alpha: usize,
+    beta: usize,
+    rest: bool,
+) -> u8
+    ensures { λ r. ⌜ r ≡ lengthsFault (frame n l i) bits alpha beta rest ⌝ }
 {
     let party = unless(plan::parties(n) & (i < n), 15);
     let most = unless(l <= 300000, 16);
     let some = unless(l != 0, 3);
-    let lists = unless(lists_due(n, l, v), 6);
-    let buffers = unless(buffers_due(n, l, v), 17);
+    let lists = unless(lists_due(n, l, bits, alpha, beta), 6);
+    let buffers = unless(rest, 17);
     first(party, first(most, first(some, first(lists, buffers))))
 }
 
@@ -159,10 +168,10 @@ fn reason(
     masks: &[u8],
 ) -> u8
     requires { ⌜ (v .bits ≡ length (now bits)) × (v .alpha ≡ length (now alpha)) × (v .beta ≡ length (now beta)) × (v .masks ≡ length (now masks)) ⌝ }
-    ensures { λ r. ⌜ r ≡ orFault (lengthsFault n i l v)
+    ensures { λ r. ⌜ r ≡ orFault (lengthsFault (frame n l i) (v .bits) (v .alpha) (v .beta) (buffers? n l v))
         (bytesOf n i l (now (bits .entry)) (now (alpha .entry)) (now (beta .entry)) (now (masks .entry))) ⌝ }
 {
-    let code = lengths_fault(n, i, l, v);
+    let code = lengths_fault(n, i, l, v.bits, v.alpha, v.beta, buffers_due(n, l, v));
     if code != 0 {
         return code;
     }
@@ -257,7 +266,7 @@ pub fn open(
     work: &mut [u8],
     out: &mut [u8],
 ) -> Answer
-    ensures { λ r. ⌜ outcome (r .session) (r .verdict) (now (work .exit)) (now (out .exit)) ≡ Opening.spec
+    ensures { λ r. ⌜ outcome (r .session) (replyOf (r .verdict)) (now (work .exit)) (now (out .exit)) ≡ Opening.spec
         (args n i l (now (delta .entry)) (now (seed .entry)) (now (pairs .entry)) (now (bits .entry)) (now (alpha .entry)) (now (beta .entry))
         (now (masks .entry)) (now (work .entry)) (now (out .entry))) ⌝ }
 {

@@ -10,8 +10,7 @@ use Rattle.lists.specs.All.{allOf}
 use Rattle.algebra.specs.Group.{odd}
 use Rattle.share.specs.Record.{recordLen, recordsFault}
 use Rattle.share.specs.Share.{shareAt, recordOf}
-use Rattle.engine.specs.declared.Verdict.{Verdict}
-use Rattle.engine.specs.declared.Verdict.the-variants.{Accepted, Refused}
+use Rattle.engine.specs.Step.{Reply, Accepted, Refused}
 use Rattle.rounds.specs.Buckets.{Triple}
 use Rattle.rounds.specs.Buckets as Buckets
 use Rattle.rounds.specs.Opening.{orFault}
@@ -30,11 +29,11 @@ args n i count triples d out = record { n = n; i = i; count = count; triples = t
 
 -- what it answers, and what its output is then
 pub record Outcome : Type 0 where
-  pub verdict : Verdict
+  pub reply : Reply
   pub out : List ℕ
 
-abbrev pub outcome : Verdict → List ℕ → Outcome
-outcome verdict out = record { verdict = verdict; out = out }
+abbrev pub outcome : Reply → List ℕ → Outcome
+outcome reply out = record { reply = reply; out = out }
 
 -- ---- what it refuses
 -- "then lent bytes": the records in order (1 before 4), then the d bytes

@@ -11,7 +11,7 @@ use borrow.Author.Tests.{lt-ltb, le-leb, eq-eqb, ne-eqb, eqb-true, eqb-false, le
 use Rattle.lists.specs.Pick.{pick, pick-then, pick-else}
 use Rattle.lists.specs.All.{allOf, true-false}
 use Rattle.share.specs.Record.{recordLen, recordsFault}
-use Rattle.engine.specs.declared.Verdict.the-variants.{Accepted, Refused}
+use Rattle.engine.specs.Step.{Accepted, Refused}
 use Rattle.rounds.specs.Opening.{orFault}
 use Rattle.rounds.specs.Combine.{Args, Outcome, outcome, reason, bytesFault, records, combined, spec}
 

@@ -1,6 +1,5 @@
 -- Laws of the dms (round 10): what the form of a message says of each dm, the fault of one, and what no fault says.
-use mathlib.Core.Path.{_≡_, refl, sym, ap, ap₂, _∙_, subst}
-use mathlib.Core.Bool.{Bool, true, false}
+use mathlib.Core.Path.{_≡_, refl, sym, ap, ap₂, _∙_}
 use mathlib.Core.Logic.{_≢_}
 use mathlib.Core.List.{List, [], _∷_, _++_}
 use Prim.Native.Nat.{ℕ, zero, suc, _+_, _-_, _*_, _<_, _≤_}
@@ -9,13 +8,12 @@ use native.Mathlib.Numerals.{add-one}
 use native.Mathlib.Omega.{arith}
 use lib.ListN.{length, getD, take, drop, set, length-take, length-set, length-append}
 use lib.Seq.{take-all, drop-at}
-use lib.Dec.{ltb, leb, eqb}
-use borrow.Author.Tests.{ltb-true, ltb-false, eqb-true, eqb-false, eq-eqb, ne-eqb, le-leb, lt-leb}
+use lib.Dec.{leb, eqb}
+use borrow.Author.Tests.{eqb-true, eq-eqb, ne-eqb, le-leb, lt-leb}
 use Rattle.lists.specs.Pick.{pick, pick-then}
 use borrow.Rule.Slice.PartMut.{putMid}
 use Rattle.lists.specs.Over.{cat, length-cat, over-set, over-next, over-full, Written}
 use Rattle.algebra.specs.Group.{num}
-use Rattle.algebra.specs.Sum.{neq-true}
 use Rattle.block.specs.Block.{wordAt, le8, bytesOf}
 use Rattle.block.specs.Trip.{length-le8, length-bytesOf}
 use Rattle.share.specs.Record.{recordLen, bitAt, macAt}
@@ -28,10 +26,10 @@ use Rattle.encode.specs.Coded.{length-encode}
 use Rattle.plan.specs.Plan.{leaky, dmLen, msgLen, kindOf, countDue}
 use Rattle.plan.specs.Plan as Plan
 use Rattle.engine.specs.declared.Frame.{Frame}
-use Rattle.engine.specs.Step.{Fault, frame, other, orElse, scan, byParty}
+use Rattle.engine.specs.Step.{Fault, frame, other, byParty}
+use Rattle.engine.specs.StepLaws.{or-zero, last-or, by-clean}
 use Rattle.rounds.specs.Area.{firstOf}
 use Rattle.rounds.specs.Mail.{letter, Arrived}
-use Rattle.rounds.specs.SentLaws.{other-neq}
 use Rattle.rounds.specs.EchoLaws.{Received}
 use Rattle.rounds.specs.Fashare.{own, dm, verMsg, dmAt, dmFault, dmFaults}
 
@@ -59,39 +57,12 @@ module _ (f : Frame) (m : List ℕ) (q k a : ℕ) (at : a ≡ itemAt Dms m q) wh
   dm-clean e h = dm-bit 0 e (ap (λ b. pick b 0 1) (sym (le-leb (getD m (a + 8) 0) 1 h)))
 
 -- ---- what no fault says
-or-zero : (a b : Fault) → orElse a b .code ≡ 0 → (a .code ≡ 0) × (b .code ≡ 0)
-unfolding orElse
-or-zero a b h = go (eqb (a .code) 0) refl h
-  where
-    go : (t : Bool) → eqb (a .code) 0 ≡ t → pick t b a .code ≡ 0 → (a .code ≡ 0) × (b .code ≡ 0)
-    go true e z = (eqb-true (a .code) 0 e, z)
-    go false e z = absurd (eqb-false (a .code) 0 e z)
-
-last-or : (q n : ℕ) (P : ℕ → Type 0) → q < suc n → (q < n → P q) → P n → P q
-last-or q n P h before last = go (ltb q n) refl
-  where
-    go : (b : Bool) → ltb q n ≡ b → P q
-    go true e = before (ltb-true q n e)
-    go false e = subst P (let w : n ≡ q = omega (arith, ltb-false q n e) in w) last
-
 pub first-clean : (c : ℕ) (g : ℕ → Fault) → firstOf c g .code ≡ 0 → (q : ℕ) → q < c → g q .code ≡ 0
 unfolding firstOf
 first-clean zero g z q h = absurd (omega arith)
 first-clean (suc c) g z q h =
     let w = or-zero (firstOf c g) (g c) z in
     last-or q c (λ j. g j .code ≡ 0) h (first-clean c g (w .0) q) (w .1)
-
-scan-clean : (n : ℕ) (c : ℕ → ℕ) → scan n c .code ≡ 0 → (k : ℕ) → k < n → c k ≡ 0
-unfolding scan
-scan-clean zero c z k h = absurd (omega arith)
-scan-clean (suc n) c z k h =
-    let w = or-zero (scan n c) (record { code = c n; party = n }) z in
-    last-or k n (λ j. c j ≡ 0) h (scan-clean n c (w .0) k) (w .1)
-
-pub party-clean : (f : Frame) (c : ℕ → ℕ) → byParty f c .code ≡ 0 → (k : ℕ) → k < f .n → f .i ≢ k → c k ≡ 0
-unfolding byParty
-party-clean f c z k h ne =
-    sym (ap (λ b. pick b (c k) 0) (other-neq f k h ∙ neq-true (f .i) k ne)) ∙ scan-clean (f .n) (λ k. pick (other f k) (c k) 0) z k h
 
 -- every dm of a message has the length that is due
 pub record Dues (n : ℕ) (m : List ℕ) : Type 0 where
@@ -103,7 +74,7 @@ pub record Checked (n i : ℕ) (incoming starts lens : List ℕ) : Type 0 where
   pub arrived : Arrived n i 0 incoming starts lens
   pub dues : (k : ℕ) → k < n → i ≢ k → Dues n (letter incoming starts lens k)
 
-dm-due : (f : Frame) (m : ℕ → List ℕ) (q k : ℕ) → dmFault f m q k ≡ 0 → wordAt (m k) (itemAt Dms (m k) q) ≡ dmLen (f .n)
+pub dm-due : (f : Frame) (m : ℕ → List ℕ) (q k : ℕ) → dmFault f m q k ≡ 0 → wordAt (m k) (itemAt Dms (m k) q) ≡ dmLen (f .n)
 unfolding dmFault
 dm-due f m q k z =
     eqb-true (wordAt (m k) (itemAt Dms (m k) q)) (dmLen (f .n))
@@ -117,7 +88,7 @@ checked n l i incoming starts lens r z = record {
   arrived = r .arrived;
   dues = λ k h ne. record {
     formed-is = r .formed-is k h ne;
-    due = λ q v. dm-due f m q k (party-clean f (dmFault f m q) (first-clean 40 (λ q. byParty f (dmFault f m q)) z q v) k h ne);
+    due = λ q v. dm-due f m q k (by-clean f (dmFault f m q) (first-clean 40 (λ q. byParty f (dmFault f m q)) z q v) k h ne);
   };
 }
   where

@@ -10,21 +10,17 @@ use Rattle.lists.specs.Same.{same?}
 use Rattle.algebra.specs.Sum.{neq}
 use Rattle.blake3.specs.Tree.{hash}
 use Rattle.blake3.specs.Firsts.{firsts}
-use Rattle.message.specs.declared.Kind.{Kind}
 use Rattle.message.specs.declared.Kind.the-variants.{Options}
 use Rattle.message.specs.Format.{listOf, itemAt, formOf}
 use Rattle.encode.specs.Encode.{encode}
-use Rattle.plan.specs.Plan.{kindOf, countDue, msgLen}
-use Rattle.engine.specs.declared.Frame.{Frame}
+use Rattle.plan.specs.Plan.{msgLen}
 use Rattle.engine.specs.Step.{scan}
 use Rattle.engine.specs.Plain.{Echo}
 
 -- "`hash_vec` (first 16 bytes of BLAKE3 of the encoded list, count included)". "In 7 and 16 the list hashed is that of the first elements, the
 -- bits, alone": rounds 6 and 15 have a bit and a Block, 17 bytes.
-unfoldable pub hashVec : ℕ → ℕ → List ℕ → List ℕ
-hashVec l k m =
-    let list = listOf (kindOf l k) m in
-    take 16 (hash (pick (eqb k 6 || eqb k 15) (firsts 17 list) list))
+unfoldable pub hashVec : ℕ → List ℕ → List ℕ
+hashVec k list = take 16 (hash (pick (eqb k 6 || eqb k 15) (firsts 17 list) list))
 
 -- "a list of n options, absent for the box itself and for the receiver"; row k of `rows` is the hash of k's list
 unfoldable pub echoMsg : ℕ → ℕ → List ℕ → ℕ → List ℕ
@@ -41,4 +37,4 @@ unfoldable pub echoFault : ℕ → ℕ → ℕ → List ℕ → List ℕ → ℕ
 echoFault n i j rows m = scan n (λ k. pick (neq i k && neq j k) (entryFault rows m k) 0) .code
 
 unfoldable pub echo : Echo
-echo = record { len = λ n. msgLen n 1 2; form = formOf Options; write = echoMsg; fault = echoFault }
+echo = record { len = λ n. msgLen n 1 2; form = formOf Options; list = listOf Options; write = echoMsg; fault = echoFault }

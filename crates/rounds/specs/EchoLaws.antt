@@ -7,8 +7,7 @@ use Prim.Native.Nat.{ℕ, zero, suc, _+_, _-_, _*_, _<_, _≤_}
 use native.Mathlib.Nat.{le-refl}
 use native.Mathlib.Numerals.{add-one}
 use native.Mathlib.Omega.{arith}
-use lib.ListN.{length, getD, take, drop, replicate, length-append}
-use lib.Seq.{length-take-le}
+use lib.ListN.{length, getD, take, drop, replicate, length-append, length-take}
 use lib.Dec.{ltb, eqb}
 use borrow.Author.Tests.{ltb-true, ltb-false, lt-ltb, le-ltb, eq-eqb, ne-eqb}
 use Rattle.lists.specs.Pick.{pick}
@@ -44,21 +43,19 @@ pub record Received (K : Kind) (count n i : ℕ) (incoming starts lens : List �
   pub formed-is : (k : ℕ) → k < n → i ≢ k → formOf K count (letter incoming starts lens k) ≡ 0
 
 -- ---- the hash of a list
--- a list that decodes has a count
-pub list-long : (K : Kind) (m : List ℕ) → decodes K m ≡ true → 8 ≤ length (listOf K m)
-unfolding listOf
-list-long K m e = omega (arith, length-take-le (listLen K m) m (list-le K m), list-pos K m e)
-
 first-half : (x : List ℕ) → bytesOf (blockAt (hash x) 0) ≡ take 16 (hash x)
 unfolding hash
 first-half x = bytesOf-at (bytes (digest x)) (bytes-bytes (digest x)) 0 (omega (arith, length-bytes (digest x)))
 
 -- t says whether the first elements alone are hashed
-pub hash-of : (l k : ℕ) (m : List ℕ) (t : Bool) (b : Block) → (eqb k 6 || eqb k 15) ≡ t
-    → b ≡ blockAt (hash (pick t (firsts 17 (listOf (kindOf l k) m)) (listOf (kindOf l k) m))) 0 → bytesOf b ≡ hashVec l k m
+pub hash-of : (k : ℕ) (m : List ℕ) (t : Bool) (b : Block) → (eqb k 6 || eqb k 15) ≡ t → b ≡ blockAt (hash (pick t (firsts 17 m) m)) 0
+    → bytesOf b ≡ hashVec k m
 unfolding hashVec
-hash-of l k m t b h e =
-    ap bytesOf e ∙ first-half _ ∙ ap (λ u. take 16 (hash (pick u (firsts 17 (listOf (kindOf l k) m)) (listOf (kindOf l k) m)))) (sym h)
+hash-of k m t b h e = ap bytesOf e ∙ first-half _ ∙ ap (λ u. take 16 (hash (pick u (firsts 17 m) m))) (sym h)
+
+pub length-hashVec : (k : ℕ) (m : List ℕ) → length (hashVec k m) ≡ 16
+unfolding hashVec hash
+length-hashVec k m = length-take 16 (hash _) ∙ rw (length-bytes (digest _)) refl
 
 -- zero for the own row
 pub zero-bytes : bytesOf (blocks .nil) ≡ replicate 16 0

@@ -29,3 +29,4 @@ pub mod EchoLaws
 pub mod DibiLaws
 pub mod DmLaws
 pub mod FashareLaws
+pub mod JudgeLaws

@@ -11,8 +11,7 @@ use Rattle.algebra.specs.Sum.{neq}
 use Rattle.share.specs.Record.{recordLen, recordsFault}
 use Rattle.plan.specs.Plan.{leaky, bitsCount, msgLen}
 use Rattle.engine.specs.declared.Frame.{Frame}
-use Rattle.engine.specs.declared.Verdict.the-variants.{Accepted, Refused}
-use Rattle.engine.specs.Step.{Outcome, outcome}
+use Rattle.engine.specs.Step.{Accepted, Refused, Outcome, outcome}
 use Rattle.engine.specs.World.{Opening}
 use Rattle.engine.specs.Area.{toOthers}
 use Rattle.rounds.specs.Area.{DELTA, SEED, PAIRS, MASKS, BITS, ALPHA, BETA, SECTIONS, sizeOf, workLen}
@@ -32,11 +31,10 @@ pub record Args : Type 0 where
   pub out : List ℕ
 
 -- ---- what opening refuses
--- the share lists are as long as they should
-unfoldable pub listsDue : Args → Bool
-listsDue a =
-    eqb (length (a .bits)) (bitsCount (a .party .l) * recordLen (a .party .n))
-    && eqb (length (a .alpha)) (a .party .l * recordLen (a .party .n)) && eqb (length (a .beta)) (a .party .l * recordLen (a .party .n))
+-- the share lists are as long as they should, by their lengths
+unfoldable pub listsDue : Frame → ℕ → ℕ → ℕ → Bool
+listsDue f bits alpha beta =
+    eqb bits (bitsCount (f .l) * recordLen (f .n)) && eqb alpha (f .l * recordLen (f .n)) && eqb beta (f .l * recordLen (f .n))
 
 -- and all else that is lent
 unfoldable pub buffersDue : Args → Bool
@@ -63,18 +61,22 @@ bytesFault a =
     (orFault (recordsFault (a .party .n) (a .party .i) (a .beta) (a .party .l))
     (masksFault a)))
 
--- "Opening: 15, 16, 3 for l = 0, 6, 17, then lent bytes in order": the first that it has, or 0
-unfoldable pub reason : Args → ℕ
-reason a =
-    pick (leb 2 (a .party .n) && leb (a .party .n) 8 && ltb (a .party .i) (a .party .n))
-    (pick (leb (a .party .l) 300000)
-    (pick (eqb (a .party .l) 0) 3
-    (pick (listsDue a)
-    (pick (buffersDue a) (bytesFault a)
+-- "15, 16, 3 for l = 0, 6, 17": the first that the numbers and the lengths give, or 0; the rest: whether all but the share lists is as long as it should
+unfoldable pub lengthsFault : Frame → ℕ → ℕ → ℕ → Bool → ℕ
+lengthsFault f bits alpha beta rest =
+    pick (leb 2 (f .n) && leb (f .n) 8 && ltb (f .i) (f .n))
+    (pick (leb (f .l) 300000)
+    (pick (eqb (f .l) 0) 3
+    (pick (listsDue f bits alpha beta)
+    (pick rest 0
     17)
     6))
     16)
     15
+
+-- "Opening: 15, 16, 3 for l = 0, 6, 17, then lent bytes in order": the first that it has, or 0
+unfoldable pub reason : Args → ℕ
+reason a = orFault (lengthsFault (a .party) (length (a .bits)) (length (a .alpha)) (length (a .beta)) (buffersDue a)) (bytesFault a)
 
 -- ---- what it leaves
 -- "It keeps the inputs in the work area"; all else is zero

@@ -10,7 +10,7 @@ use Rattle.block.specs.declared.Block.{Block}
 use Rattle.block.specs.Block.{blockAt}
 use Rattle.share.specs.Record.{recordLen}
 use Rattle.permutation.specs.Permutation.{isPerm}
-use Rattle.message.specs.Format.{formOf}
+use Rattle.message.specs.Format.{listOf, formOf}
 use Rattle.plan.specs.Plan.{kindOf, countDue, msgLen, leaky, rLen}
 use Rattle.engine.specs.declared.Frame.{Frame}
 use Rattle.engine.specs.Step.{Fault, none?, Loan}
@@ -65,12 +65,27 @@ kept k f w m =
     (pick (eqb k 21) (keep f DS (Buckets.ds f (at f BITS w) (at f PERM w) m) w)
     w)))))))))
 
+-- the numbers that the content check can find
+unfoldable pub faults : ℕ → List ℕ
+faults k =
+    pick (eqb k 3) (2 ∷ [])
+    (pick (eqb k 5) (2 ∷ [])
+    (pick (eqb k 6) (8 ∷ [])
+    (pick (eqb k 10) (4 ∷ 1 ∷ [])
+    (pick (eqb k 12) (2 ∷ 9 ∷ [])
+    (pick (eqb k 19) (2 ∷ 10 ∷ [])
+    (pick (eqb k 21) (11 ∷ [])
+    (pick (eqb k 22) (12 ∷ [])
+    [])))))))
+
 abbrev pub recv : ℕ → Recv
 recv k = record {
   form = λ f m. formOf (kindOf (f .l) k) (countDue (f .n) (f .l) k) m;
+  list = λ f m. listOf (kindOf (f .l) k) m;
   judge = judge k;
+  faults = faults k;
   keep = kept k;
-  digest = λ f m. hashVec (f .l) k m;
+  digest = λ f m. hashVec k m;
 }
 
 -- ---- how the messages of each round are made

@@ -1,33 +1,20 @@
 -- The three ways that a round call ends, against `roundSpec`.
-use mathlib.Core.Path.{_≡_, refl, sym, ap, ap₂, _∙_}
-use mathlib.Core.Bool.{Bool, true, false}
+use mathlib.Core.Path.{_≡_, sym, ap, ap₂, _∙_}
 use mathlib.Core.Logic.{_≢_}
 use mathlib.Core.List.{List}
 use Prim.Native.Nat.{ℕ, _≤_}
 use lib.ListN.{length, replicate}
 use lib.Dec.{eqb}
-use borrow.Author.Tests.{eqb-true, eqb-false}
-use Rattle.lists.specs.Pick.{pick}
 use Rattle.plan.specs.Plan.{nextRound}
 use Rattle.engine.specs.declared.Session.{Session}
-use Rattle.engine.specs.declared.Verdict.{Verdict}
 use Rattle.engine.specs.declared.Verdict.the-variants.{Accepted, Refused}
-use Rattle.engine.specs.Step.{Lent, Outcome, outcome, Fault, part, mask, orElse, reasonOf, faultOf, ended, refused, faulted, accepted, roundSpec}
+use Rattle.engine.specs.Step.{Lent, outcome, part, mask, reasonOf, faultOf, ended, refused, faulted, accepted, roundSpec}
 use Rattle.engine.specs.StepLaws.{round-refuses, round-faults, round-accepts}
 use Rattle.engine.specs.Plain.{nextOf, ruleOf, protocolOf, keepOf, writeOf}
 use Rattle.rounds.specs.Mail.{letter}
 use Rattle.rounds.specs.FaultLaws.{Finds}
 use Rattle.rounds.specs.Table.{table}
 use Rattle.admit.specs.AdmitLaws.{next-is}
-
--- no fault, so neither of the two
-pub or-zero : (a b : Fault) → orElse a b .code ≡ 0 → (a .code ≡ 0) × (b .code ≡ 0)
-unfolding orElse
-or-zero a b h = go (eqb (a .code) 0) refl h
-  where
-    go : (t : Bool) → eqb (a .code) 0 ≡ t → pick t b a .code ≡ 0 → (a .code ≡ 0) × (b .code ≡ 0)
-    go true e z = (eqb-true (a .code) 0 e, z)
-    go false e z = absurd (eqb-false (a .code) 0 e z)
 
 module _ (s : Session) (k : ℕ) (q : Lent) (w : List ℕ) where
   -- refused, and all as it was

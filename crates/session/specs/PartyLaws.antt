@@ -7,7 +7,8 @@ use native.Mathlib.Omega.{arith}
 use lib.Dec.{eqb}
 use Rattle.lists.specs.Pick.{pick}
 use Rattle.engine.specs.declared.Frame.{Frame}
-use Rattle.engine.specs.Step.{Fault, none?, orElse, scan, byParty}
+use Rattle.engine.specs.Step.{Lent, Fault, none?, mask, part, orElse, scan, byParty, formFault, faultOf}
+use Rattle.engine.specs.Plain.{isEcho, toEcho, hashes, pending, echoCheck, checkOf, ruleOf}
 use Rattle.rounds.specs.Area.{firstOf}
 use Rattle.rounds.specs.Toss as Toss
 use Rattle.rounds.specs.Fabitn as Fabitn
@@ -60,3 +61,15 @@ module _ (f : Frame) (h : f .i < f .n) where
 
   pub judge-party : f .n ≤ 8 → (k : ℕ) (w : List ℕ) (m : ℕ → List ℕ) → Table.judge k f w m .party < 256
   judge-party n8 k w m = omega (arith, judge-names k w m)
+
+  -- what a round call finds in what was received names a party of the session, or the one that waited for the echo
+  pub fault-names : (k : ℕ) (q : Lent) (w : List ℕ) (b : ℕ) → f .n ≤ b → pending Table.table f w .party ≤ b
+      → faultOf (ruleOf Table.table k) f q w .party ≤ b
+  unfolding faultOf checkOf echoCheck
+  fault-names k q w b nb pb =
+      or-party b _ _ (omega (arith, by-party (formFault (ruleOf Table.table k) f q)))
+      (pick-party b (isEcho Table.table k) _ _ (or-party b _ _ (omega (arith, by-party heard)) pb)
+      (pick-party b (toEcho Table.table (eqb (f .n) 2) k) _ _ (omega arith) (omega (arith, judge-names k w (mask f (part q))))))
+    where
+      heard : ℕ → ℕ
+      heard j = Table.table .echo .fault (f .n) (f .i) j (hashes Table.table f w) (mask f (part q) j)

@@ -8,11 +8,11 @@ mod c {
     #[link(name = "nuzsdike", kind = "static", modifiers = "-bundle")]
     unsafe extern "C" {
         pub fn nuzsdike_open(
-            session: *mut usize,
+            session: *mut u32,
             session_len: usize,
-            n: usize,
-            i: usize,
-            l: usize,
+            n: u32,
+            i: u32,
+            l: u32,
             delta: *const u8,
             delta_len: usize,
             seed: *const u8,
@@ -33,9 +33,9 @@ mod c {
             out_len: usize,
         ) -> u64;
         pub fn nuzsdike_round(
-            session: *mut usize,
+            session: *mut u32,
             session_len: usize,
-            round: usize,
+            round: u32,
             incoming: *const u8,
             incoming_len: usize,
             starts: *const usize,
@@ -54,9 +54,9 @@ mod c {
             out_len: usize,
         ) -> u64;
         pub fn nuzsdike_combine(
-            n: usize,
-            i: usize,
-            count: usize,
+            n: u32,
+            i: u32,
+            count: u32,
             triples: *const u8,
             triples_len: usize,
             d: *const u8,
@@ -64,22 +64,31 @@ mod c {
             out: *mut u8,
             out_len: usize,
         ) -> u64;
-        pub fn nuzsdike_work_len(n: usize, l: usize) -> usize;
-        pub fn nuzsdike_out_len(n: usize, l: usize, round: usize) -> usize;
-        pub fn nuzsdike_message_len(n: usize, l: usize, round: usize) -> usize;
-        pub fn nuzsdike_bits_len(n: usize, l: usize) -> usize;
-        pub fn nuzsdike_shares_len(n: usize, l: usize) -> usize;
-        pub fn nuzsdike_masks_len(n: usize, l: usize) -> usize;
-        pub fn nuzsdike_pairs_len(n: usize) -> usize;
-        pub fn nuzsdike_r_len(n: usize, l: usize, round: usize) -> usize;
-        pub fn nuzsdike_perm_len(n: usize, l: usize, round: usize) -> usize;
-        pub fn nuzsdike_next_round(n: usize, round: usize) -> usize;
-        pub fn nuzsdike_due(session: *const usize, session_len: usize) -> usize;
+        pub fn nuzsdike_work_len(n: u32, l: u32) -> usize;
+        pub fn nuzsdike_out_len(n: u32, l: u32, round: u32) -> usize;
+        pub fn nuzsdike_message_len(n: u32, l: u32, round: u32) -> usize;
+        pub fn nuzsdike_bits_len(n: u32, l: u32) -> usize;
+        pub fn nuzsdike_shares_len(n: u32, l: u32) -> usize;
+        pub fn nuzsdike_masks_len(n: u32, l: u32) -> usize;
+        pub fn nuzsdike_pairs_len(n: u32) -> usize;
+        pub fn nuzsdike_r_len(n: u32, l: u32, round: u32) -> usize;
+        pub fn nuzsdike_perm_len(n: u32, l: u32, round: u32) -> usize;
+        pub fn nuzsdike_record_len(n: u32) -> usize;
+        pub fn nuzsdike_bucket_size(l: u32) -> u32;
+        pub fn nuzsdike_joint_seed_at(n: u32, l: u32) -> usize;
+        pub fn nuzsdike_pairwise_seeds_at(n: u32, l: u32) -> usize;
+        pub fn nuzsdike_next_round(n: u32, round: u32) -> u32;
+        pub fn nuzsdike_due(session: *const u32, session_len: usize) -> u32;
     }
 }
 
+/// What 32 bits do not hold is above every limit, and so is the largest that they hold.
+fn number(x: usize) -> u32 {
+    u32::try_from(x).unwrap_or(u32::MAX)
+}
+
 pub fn open(
-    session: &mut [usize],
+    session: &mut [u32],
     n: usize,
     i: usize,
     l: usize,
@@ -92,9 +101,9 @@ pub fn open(
         c::nuzsdike_open(
             session.as_mut_ptr(),
             session.len(),
-            n,
-            i,
-            l,
+            number(n),
+            number(i),
+            number(l),
             p.delta.as_ptr(),
             p.delta.len(),
             p.joint_seed.as_ptr(),
@@ -119,7 +128,7 @@ pub fn open(
 
 #[allow(clippy::too_many_arguments)]
 pub fn round(
-    session: &mut [usize],
+    session: &mut [u32],
     round: usize,
     incoming: &[u8],
     starts: &[usize],
@@ -135,7 +144,7 @@ pub fn round(
         c::nuzsdike_round(
             session.as_mut_ptr(),
             session.len(),
-            round,
+            number(round),
             incoming.as_ptr(),
             incoming.len(),
             starts.as_ptr(),
@@ -160,9 +169,9 @@ pub fn combine(n: usize, i: usize, count: usize, triples: &[u8], d: &[u8], out: 
     // SAFETY: as above.
     unsafe {
         c::nuzsdike_combine(
-            n,
-            i,
-            count,
+            number(n),
+            number(i),
+            number(count),
             triples.as_ptr(),
             triples.len(),
             d.as_ptr(),
@@ -173,16 +182,16 @@ pub fn combine(n: usize, i: usize, count: usize, triples: &[u8], d: &[u8], out: 
     }
 }
 
-pub fn due(session: &[usize]) -> usize {
+pub fn due(session: &[u32]) -> usize {
     // SAFETY: as above.
-    unsafe { c::nuzsdike_due(session.as_ptr(), session.len()) }
+    unsafe { c::nuzsdike_due(session.as_ptr(), session.len()) as usize }
 }
 
 macro_rules! numbers {
     ($($name:ident = $of:ident($($arg:ident),*);)*) => {
         $(pub fn $name($($arg: usize),*) -> usize {
             // SAFETY: numbers alone.
-            unsafe { c::$of($($arg),*) }
+            unsafe { c::$of($(number($arg)),*) as usize }
         })*
     };
 }
@@ -198,4 +207,8 @@ numbers! {
     r_len = nuzsdike_r_len(n, l, round);
     perm_len = nuzsdike_perm_len(n, l, round);
     next_round = nuzsdike_next_round(n, round);
+    record_bytes = nuzsdike_record_len(n);
+    bucket_size = nuzsdike_bucket_size(l);
+    joint_seed_at = nuzsdike_joint_seed_at(n, l);
+    pairwise_seeds_at = nuzsdike_pairwise_seeds_at(n, l);
 }

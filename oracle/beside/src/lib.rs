@@ -65,6 +65,10 @@ pub fn lengths(s: &Session) -> Vec<String> {
     is("shares", ffi::shares_len(n, l), l * record_len(n));
     is("masks", ffi::masks_len(n, l), n * l * s.b());
     is("pairs", ffi::pairs_len(n), 32 * n);
+    is("record", ffi::record_bytes(n), record_len(n));
+    is("bucket", ffi::bucket_size(l), s.b());
+    is("joint seed", ffi::joint_seed_at(n, l), section(s, 8).start);
+    is("pairwise seeds", ffi::pairwise_seeds_at(n, l), section(s, 10).start);
     let all: Vec<u8> = rounds(n).collect();
     let (r_due, perm_due) = (5, if n == 2 { 19 } else { 20 });
     let mut before = 0;
@@ -88,7 +92,7 @@ pub fn lengths(s: &Session) -> Vec<String> {
 struct Host<'a> {
     s: &'a Session,
     i: usize,
-    session: [usize; 4],
+    session: [u32; 4],
     work: Vec<u8>,
     out: Vec<u8>,
 }
@@ -254,7 +258,7 @@ fn spoil_opening(g: &mut SplitMix, s: &Session, i: usize) -> Wrong {
             w.number = 15;
         }
         1 => {
-            w.i = [n, 8, usize::MAX >> 8][g.below(3)].max(n);
+            w.i = [n, 8, u32::MAX as usize][g.below(3)].max(n);
             w.number = 15;
         }
         2 => {
@@ -331,7 +335,7 @@ pub fn run(
         .map(|i| Host {
             s,
             i,
-            session: [g.word() as usize; 4],
+            session: [g.word() as u32; 4],
             work: dirt(g, work_len),
             out: dirt(g, ffi::out_len(n, l, 0)),
         })
@@ -363,19 +367,24 @@ pub fn run(
             let (work_len, out_len) = (by(h.work.len(), w.work), by(h.out.len(), w.out));
             let (mut work, mut out) = (g.bytes(work_len), g.bytes(out_len));
             let before = (work.clone(), out.clone());
-            let mut session = [7; 4];
+            // The session's length is one more 17, before the lent bytes.
+            let mut session = vec![7; [4, 4, 4, 3, 5, 0][g.below(6)]];
             let a = ffi::open(&mut session, w.n, w.i, w.l, &w.lent, &mut work, &mut out);
-            let (due, number) = ((w.number, w.i), w.number);
+            let number = match w.number {
+                1 | 4 if session.len() != 4 => 17,
+                number => number,
+            };
+            let due = (number, w.i);
             if answer(a) != due {
                 let a = answer(a);
                 broken.push(format!("party {i}: opening answers {a:?} and not {due:?}"));
             }
-            if before != (work, out) || ffi::due(&session) != 0 {
+            if before != (work, out) || session.iter().any(|x| *x != 7) {
                 broken.push(format!("party {i}: opening, {number} changed memory"));
             }
             probes += 1;
         }
-        let before = (care != Care::Time).then(|| (h.work.clone(), h.out.clone()));
+        let before = (care != Care::Time).then(|| (h.session, h.work.clone(), h.out.clone()));
         let start = cpu_time();
         let (number, party) = h.open();
         nanoseconds[i] += cpu_time() - start;
@@ -385,10 +394,9 @@ pub fn run(
                 round: 0,
                 party,
             });
-            if before.is_some_and(|b| b != (h.work.clone(), h.out.clone())) {
+            if before.is_some_and(|b| b != (h.session, h.work.clone(), h.out.clone())) {
                 broken.push(format!("party {i}: a refused opening wrote"));
             }
-            over(h, g, &mut broken);
             continue;
         }
         if care == Care::All {

@@ -7,7 +7,7 @@ use denote.Ref.{now}
 use lib.ListN.{length, getD}
 use Rattle.algebra.specs.Group.{odd}
 use Rattle.share.specs.Record.{recordLen}
-use Rattle.engine.specs.declared.Verdict.the-variants.{Accepted, Refused}
+use Rattle.engine.specs.Step.{Accepted, Refused, replyOf}
 use Rattle.rounds.specs.Buckets as B
 use Rattle.rounds.specs.Combine as C
 use Rattle.rounds.specs.CombineLaws.{Due, due-of, spec-refuses, spec-accepts}
@@ -18,6 +18,7 @@ abbrev given : tie.Start → C.Args
 given s = C.args (s .args .n) (s .args .i) (s .args .count) (now (s .args .triples)) (now (s .args .d)) (now (s .args .out))
 
 returns : tie.Need-returns
+unfolding replyOf
 returns c =
     let g = given (c .before .before .before .before .before .before) in
     let e = c .before .reason .ensures in
@@ -44,7 +45,7 @@ combine-all-requires c κs =
     ((d .ranged .eight, d .out, omega (arith, d .d, d .ranged .five)), d .triples ∙ ap (λ k. 3 * k * recordLen (a .n)) (sym (more (c .before))))
 
 returns-2 : tie.Need-returns-2
-unfolding C.combined
+unfolding C.combined replyOf
 returns-2 c =
     let e = c .before .before .before .before in
     let a = g e in

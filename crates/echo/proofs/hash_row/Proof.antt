@@ -1,11 +1,11 @@
 use mathlib.Core.Path.{sym, ap, _∙_}
-use lib.ListN.{replicate}
+use native.Mathlib.Omega.{arith}
+use lib.ListN.{length, replicate}
 use denote.Ref.{now}
 use Rattle.lists.specs.Pick.{pick}
 use Rattle.algebra.specs.Sum.{neq-true}
 use Rattle.block.specs.Block.{bytesOf}
-use Rattle.message.specs.Format.{decodes}
-use Rattle.message.specs.FormatLaws.{formed}
+use Rattle.message.specs.FormatLaws.{decoded, formed}
 use Rattle.plan.specs.Plan.{kindOf, countDue}
 use Rattle.rounds.specs.Mail.{letter}
 use Rattle.rounds.specs.MailLaws.{neq-same, letter-fits}
@@ -19,7 +19,7 @@ returns : tie.Need-returns
 returns c =
     let a = c .before .before .before .before .before .args in
     ap bytesOf (c .zero .ensures) ∙ zero-bytes
-    ∙ ap (λ b. pick b (hashVec (a .l) (a .k) (letter (now (a .incoming)) (now (a .starts)) (now (a .lens)) (a .j))) (replicate 16 0)) (sym (neq-same (a .i) (a .j) (c .before .if1 .taken)))
+    ∙ ap (λ b. pick b (hashVec (a .k) (letter (now (a .incoming)) (now (a .starts)) (now (a .lens)) (a .j))) (replicate 16 0)) (sym (neq-same (a .i) (a .j) (c .before .if1 .taken)))
 
 letter-requires : tie.Need-letter-requires
 letter-requires c κs =
@@ -31,15 +31,19 @@ hash-list-requires : tie.Need-hash-list-requires
 hash-list-requires c κs =
     let s = c .before .before .before .before .before in
     let a = s .args in
-    ap (decodes (kindOf (a .l) (a .k))) (c .letter .ensures)
-    ∙ formed (kindOf (a .l) (a .k)) (countDue (a .n) (a .l) (a .k)) (letter (now (a .incoming)) (now (a .starts)) (now (a .lens)) (a .j))
-    (s .pre .1 .formed-is (a .j) (s .pre .0) (λ e. c .before .if1 .left (sym e))) .decodes-is
+    let m = letter (now (a .incoming)) (now (a .starts)) (now (a .lens)) (a .j) in
+    let K = kindOf (a .l) (a .k) in
+    omega (
+      arith,
+      ap length (c .letter .ensures),
+      decoded K m (formed K (countDue (a .n) (a .l) (a .k)) m (s .pre .1 .formed-is (a .j) (s .pre .0) (λ e. c .before .if1 .left (sym e))) .decodes-is) .head,
+    )
 
 returns-2 : tie.Need-returns-2
 returns-2 c =
     let a = c .before .before .before .before .before .before .args in
-    c .hash-list .ensures ∙ ap (hashVec (a .l) (a .k)) (c .before .letter .ensures)
-    ∙ ap (λ b. pick b (hashVec (a .l) (a .k) (letter (now (a .incoming)) (now (a .starts)) (now (a .lens)) (a .j))) (replicate 16 0)) (sym (neq-true (a .i) (a .j) (λ e. c .before .before .if1 .left (sym e))))
+    c .hash-list .ensures ∙ ap (hashVec (a .k)) (c .before .letter .ensures)
+    ∙ ap (λ b. pick b (hashVec (a .k) (letter (now (a .incoming)) (now (a .starts)) (now (a .lens)) (a .j))) (replicate 16 0)) (sym (neq-true (a .i) (a .j) (λ e. c .before .before .if1 .left (sym e))))
 
 pub hash-row-spec : {M : Type 1} → statement M
 hash-row-spec =

@@ -17,7 +17,7 @@ use Rattle.echo.proofs.keep_hashes.Tie as tie
 
 -- row j
 abbrev row : List ℕ → List ℕ → List ℕ → ℕ → ℕ → ℕ → ℕ → List ℕ
-row incoming starts lens i l k j = pick (neq i j) (hashVec l k (letter incoming starts lens j)) (replicate 16 0)
+row incoming starts lens i l k j = pick (neq i j) (hashVec k (letter incoming starts lens j)) (replicate 16 0)
 
 abbrev Inv-loop : tie.InvT-loop
 Inv-loop section₀ incoming starts lens n i l k j₀ section j = (j ≤ n) × Written (row incoming starts lens i l k) j (j * 16) section₀ section
@@ -51,7 +51,7 @@ returns c =
     let s = p .before .before .before .before .before in
     let a = s .args in
     even-end (row (now (a .incoming)) (now (a .starts)) (now (a .lens)) (a .i) (a .l) (a .k)) (a .n) 16 (now (a .section)) (s .pre .0 .1) (p .loop .j) (p .loop .section) (p .loop .inv .1) (omega arith)
-    ∙ hash-rows (a .n) (a .l) (a .i) (λ j. hashVec (a .l) (a .k) (letter (now (a .incoming)) (now (a .starts)) (now (a .lens)) j))
+    ∙ hash-rows (a .n) (a .l) (a .i) (λ j. hashVec (a .k) (letter (now (a .incoming)) (now (a .starts)) (now (a .lens)) j))
 
 pub keep-hashes-spec : {M : Type 1} → statement M
 keep-hashes-spec =

@@ -1,5 +1,8 @@
 use mathlib.Core.Path.{_≡_, sym, ap, _∙_}
-use Rattle.nuzsdike.specs.Interface.{answerOf}
+use Prim.Native.Nat.{_≤_}
+use Rattle.engine.specs.Step.{replyOf}
+use Rattle.nuzsdike.specs.Interface.{packedOf, NO-PARTY}
+use Rattle.nuzsdike.specs.Narrow.{named}
 use borrow.Author.Needs.{needs}
 use Rattle.nuzsdike.proofs.answer.Statement.{statement}
 use Rattle.nuzsdike.proofs.answer.Tie as tie
@@ -7,26 +10,28 @@ use Rattle.nuzsdike.proofs.answer.Reads as reads
 use Rattle.nuzsdike.proofs.answer.Lts as lts
 use Rattle.nuzsdike.proofs.packed.Reads as packed-reads
 
--- src/lib.rt:58:30
+-- src/lib.rt:72:30
 enum-told : tie.Need-enum-told
 enum-told c = search needs
 
--- src/lib.rt:59:26
+-- src/lib.rt:73:26
 enum-known-v : tie.Need-enum-known-v
 enum-known-v c = search needs
 
--- src/lib.rt:59:42
+-- src/lib.rt:73:42
 packed-requires : tie.Need-packed-requires
-packed-requires c κs = search needs
+unfolding replyOf
+packed-requires c κs = rw (c .before .v .given .1) at (c .before .before .before .pre)
 
--- src/lib.rt:54:1
+-- src/lib.rt:67:1
 returns : tie.Need-returns
-unfolding answerOf
-returns c = ap answerOf (sym (c .enum-told .given .1))
+unfolding packedOf replyOf
+returns c = ap (λ v. packedOf (replyOf v)) (sym (c .enum-told .given .1))
 
--- src/lib.rt:54:1
+-- src/lib.rt:67:1
 returns-2 : tie.Need-returns-2
-returns-2 c = c .packed .ensures ∙ ap answerOf (sym (c .before .before .v .given .1))
+unfolding replyOf
+returns-2 c = c .packed .ensures ∙ ap (λ v. packedOf (replyOf v)) (sym (c .before .before .v .given .1))
 
 pub answer-spec : {M : Type 1} → statement M
 answer-spec = tie.close (tie.spec enum-told enum-known-v packed-requires returns returns-2)

@@ -1,31 +1,30 @@
-use mathlib.Core.Path.{refl}
-use Rattle.opening.specs.Given.{lengthsFault}
+use mathlib.Core.Path.{_≡_}
+use Rattle.opening.specs.OpeningLaws.{tested}
 use borrow.Author.Needs.{needs}
 use Rattle.opening.proofs.lengths_fault.Statement.{statement}
 use Rattle.opening.proofs.lengths_fault.Tie as tie
 
 returns : tie.Need-returns
-unfolding lengthsFault
-returns c = rw (
-  c .first4 .ensures,
-  c .before .first3 .ensures,
-  c .before .before .first2 .ensures,
-  c .before .before .before .first .ensures,
-  c .before .before .before .before .unless5 .ensures,
-  c .before .before .before .before .before .buffers-due .ensures,
-  c .before .before .before .before .before .before .unless4 .ensures,
-  c .before .before .before .before .before .before .before .lists-due .ensures,
-  c .before .before .before .before .before .before .before .before .unless3 .ensures,
-  c .before .before .before .before .before .before .before .before .before .unless2 .ensures,
-  c .before .before .before .before .before .before .before .before .before .before .unless .ensures,
-  c .before .before .before .before .before .before .before .before .before .before .before .parties .ensures,
-) refl
+returns c =
+    let a = c .before .before .before .before .before .before .before .before .before .before .before .args in
+    rw (
+      c .first4 .ensures,
+      c .before .first3 .ensures,
+      c .before .before .first2 .ensures,
+      c .before .before .before .first .ensures,
+      c .before .before .before .before .unless5 .ensures,
+      c .before .before .before .before .before .unless4 .ensures,
+      c .before .before .before .before .before .before .lists-due .ensures,
+      c .before .before .before .before .before .before .before .unless3 .ensures,
+      c .before .before .before .before .before .before .before .before .unless2 .ensures,
+      c .before .before .before .before .before .before .before .before .before .unless .ensures,
+      c .before .before .before .before .before .before .before .before .before .before .parties .ensures,
+    ) (tested (a .n) (a .i) (a .l) (a .bits) (a .alpha) (a .beta) (a .rest))
 
 pub lengths-fault-spec : {M : Type 1} → statement M
 lengths-fault-spec =
     tie.close
     (tie.spec
-    (λ c κs. search needs)
     (λ c κs. search needs)
     (λ c κs. search needs)
     (λ c κs. search needs)

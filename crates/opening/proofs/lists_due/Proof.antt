@@ -6,7 +6,7 @@ use Rattle.opening.proofs.lists_due.Tie as tie
 
 returns : tie.Need-returns
 unfolding lists?
-returns c = rw (c .before .before .before .bits-len .ensures, c .before .before .before .before .shares-len .ensures) refl
+returns c = rw (c .bits-len .ensures, c .before .shares-len .ensures) refl
 
 pub lists-due-spec : {M : Type 1} → statement M
 lists-due-spec = tie.close (tie.spec (λ c κs. search needs) (λ c κs. search needs) returns)

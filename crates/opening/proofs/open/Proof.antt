@@ -1,5 +1,6 @@
 use mathlib.Core.Path.{_≡_}
 use denote.Ref.{now}
+use Rattle.engine.specs.Step.{replyOf}
 use Rattle.rounds.specs.Opening.{Args}
 use Rattle.opening.specs.Given.{args, lens}
 use Rattle.opening.specs.OpeningLaws.{Due, refuses, due}
@@ -20,6 +21,7 @@ module _ (c : tie.Else1) where
   behind = due (given start) (c .before .reason .result) (c .before .reason .ensures) (c .if1 .left)
 
 returns : tie.Need-returns
+unfolding replyOf
 returns c =
     let s = c .before .before .before .before .before .before .before .before .before .before .before in
     refuses (given s) (c .before .reason .result) (c .before .reason .ensures) (c .if1 .taken)
@@ -37,6 +39,7 @@ write-commitments-requires c κs =
     ((d .range .two, d .range .eight), (out-given (given (start e)) d, d .seed))
 
 returns-2 : tie.Need-returns-2
+unfolding replyOf
 returns-2 c =
     let e = c .before .before .before .before .before .before .before .before in
     left (given (start e)) (behind e) (e .before .reason .result) (c .before .before .before .before .before .before .fill .last .0) (c .before .before .write-commitments .last .0)

@@ -3,7 +3,8 @@ use denote.Ref.{now}
 use Rattle.engine.specs.Step.{faultOf, part}
 use Rattle.rounds.specs.Mail.{letter}
 use Rattle.session.specs.Given.{lent}
-use Rattle.session.specs.CallLaws.{or-zero, call-refused, call-faulted, call-accepted}
+use Rattle.engine.specs.StepLaws.{or-zero}
+use Rattle.session.specs.CallLaws.{call-refused, call-faulted, call-accepted}
 use Rattle.admit.specs.AdmitLaws.{received, reason-zero, round-is, round-low, parts-any}
 use borrow.Author.Needs.{needs}
 use Rattle.session.proofs.round.Statement.{statement}

@@ -1,5 +1,6 @@
--- The echoes of an honest run: an echo is as long as it should, is formed, and has no fault. And the table of the rounds is lawful.
-use mathlib.Core.Path.{_≡_, refl, sym, ap, ap₂, _∙_}
+-- The echoes: one that a box writes is as long as it should, is formed, and has no fault if the hashes agree. And the table of the rounds
+-- is lawful.
+use mathlib.Core.Path.{_≡_, refl, sym, ap, ap₂, _∙_, subst}
 use mathlib.Core.Bool.{Bool, true, false, _&&_}
 use mathlib.Core.Logic.{_≢_}
 use mathlib.Core.List.{List, [], _∷_}
@@ -22,13 +23,14 @@ use Rattle.encode.specs.RoundTrip.{Trip, trip-whole, whole-length}
 use Rattle.plan.specs.Plan.{kindOf, countDue, listLen, msgLen, InRange}
 use Rattle.engine.specs.StepLaws.{scan-none}
 use Rattle.engine.specs.Area.{mem}
-use Rattle.engine.specs.Plain.{isEcho, nextOf, isRound, numberOf, stepsOf}
+use Rattle.engine.specs.declared.Frame.{Frame}
+use Rattle.engine.specs.Step.{frame}
+use Rattle.engine.specs.Plain.{Echo, Table, isEcho, nextOf, isRound, numberOf, stepsOf}
 use Rattle.engine.specs.Honest.{EchoLaws, orderTest, courseTest, Lawful}
 use Rattle.rounds.specs.Area.{sizes, sizeOf}
 use Rattle.rounds.specs.Echo.{echoMsg, entryFault, echoFault, echo}
 use Rattle.rounds.specs.EchoLaws.{entries-length, echo-len}
-use Rattle.rounds.specs.Table.{fine}
-use Rattle.honest.specs.Subject.{subject}
+use Rattle.rounds.specs.Table.{fine, table}
 
 -- ---- a list that begins with a byte
 tail-take : {A : Type 0} (a : ℕ) (x : List A) → drop 1 (take (suc a) x) ≡ take a (drop 1 x)
@@ -80,6 +82,7 @@ unfolding echo echoMsg echoFault msgLen listLen kindOf countDue
 echo-laws n small = record {
   lens = λ i r li lr ne rows h. echo-length n i r rows h li lr ne;
   formed = λ i r li lr ne rows h. echo-trip n i r rows h small .form-is;
+  whole = λ i r li lr ne rows h. echo-trip n i r rows h small .list-is;
   passes = λ i j li lj ne own sent ho hs e. scan-none n _ (λ k lk. go i j own sent hs e k lk (neq i k) (apart? i k) (neq j k) (apart? j k));
 }
   where
@@ -91,18 +94,25 @@ echo-laws n small = record {
     go i j own sent hs e k lk true (apart ni) true (apart nj) = entry-passes n j i sent hs small own k lk nj ni (e k lk ni nj)
 
 -- ---- the table
-course-ok : (two : Bool) → courseTest subject two ≡ true
+-- a table whose ranges and echoes are these, with an order of its rounds that passes the tests
+pub lawful-by : (T : Table) (n l : ℕ) → InRange n l → T .fine ≡ fine → T .echo ≡ echo → orderTest T ≡ true → ((two : Bool) → courseTest T two ≡ true)
+    → ((i : ℕ) → T .size (frame n l i) (T .count) ≡ 2) → ((i : ℕ) → T .size (frame n l i) (suc (T .count)) ≡ n * 16) → Lawful T n l
+unfolding fine
+lawful-by T n l I f e order course pending hashes = record {
+  fine = λ i li. ap (λ (g : Frame → Bool). g (frame n l i)) f
+      ∙ simp (le-leb 2 n (I .two), le-leb n 8 (I .eight), lt-ltb i n li, le-leb 1 l (I .one), le-leb l 300000 (I .most));
+  order = order;
+  course = course;
+  size-pending = pending;
+  size-hashes = hashes;
+  echo = subst (λ (E : Echo). EchoLaws E n) (sym e) (echo-laws n (omega (arith, I .eight)));
+}
+
+course-ok : (two : Bool) → courseTest table two ≡ true
 unfolding courseTest stepsOf isRound numberOf nextOf isEcho mem allOf
 course-ok true = refl
 course-ok false = refl
 
-pub lawful : (n l : ℕ) → InRange n l → Lawful subject n l
-unfolding orderTest isEcho mem allOf sizeOf sizes fine
-lawful n l I = record {
-  fine = λ i li. simp (le-leb 2 n (I .two), le-leb n 8 (I .eight), lt-ltb i n li, le-leb 1 l (I .one), le-leb l 300000 (I .most));
-  order = refl;
-  course = course-ok;
-  size-pending = λ i. refl;
-  size-hashes = λ i. refl;
-  echo = echo-laws n (omega (arith, I .eight));
-}
+pub lawful : (n l : ℕ) → InRange n l → Lawful table n l
+unfolding orderTest isEcho mem allOf sizeOf sizes
+lawful n l I = lawful-by table n l I refl refl refl course-ok (λ i. refl) (λ i. refl)

@@ -1,0 +1,279 @@
+-- Round 21, `dvalue`: the permutation, the opened d values and the combined triples, read back of PERM, DS and TRIPLES.
+use mathlib.Core.Path.{_≡_, refl, sym, ap, ap₂, _∙_, subst}
+use mathlib.Core.Bool.{Bool, true}
+use mathlib.Core.List.{List, [], _∷_, _++_, append-nil}
+use Prim.Native.Nat.{ℕ, zero, suc, _+_, _-_, _*_, _/_, _%_, _^_, _<_, _≤_}
+use native.Mathlib.Nat.{add-zero, mod-eq-of-lt, le-refl}
+use native.Mathlib.Omega.{arith}
+use lib.ListN.{length, getD, take, drop, length-append}
+use Rattle.lists.specs.Over.{tab, cat, length-tab, getD-tab, length-cat, in-chunks}
+use Rattle.lists.specs.Rows.{chunk, chunk-cat, cat-ext, tab-ext}
+use Rattle.algebra.specs.Group.{bits, addb, odd, num, odd-num}
+use Rattle.algebra.specs.Sum.{others}
+use Rattle.block.specs.declared.Block.{Block}
+use Rattle.block.specs.Block.{bytesOf}
+use Rattle.share.specs.Record.{recordLen}
+use Rattle.share.specs.Share.{Share, shares, recordOf}
+use Rattle.share.specs.ShareLaws.{SmallShare, small-share-op, small-share-sel, Agree, agree-op, agree-sel, agree-refl, agree-record, length-recordOf, read-here}
+use Rattle.permutation.specs.Permutation.{isPerm}
+use Rattle.permutation.specs.PermutationLaws.{perm-below}
+use Rattle.encode.specs.Encode.{dvalueItem}
+use Rattle.plan.specs.Plan.{leaky, bucketSize}
+use Rattle.plan.specs.PlanLaws.{leaky-most, bucket-low}
+use Rattle.engine.specs.declared.Frame.{Frame}
+use Rattle.rounds.specs.Opening.{Args}
+use Rattle.rounds.specs.Haand.{x, y, zRows}
+use Rattle.rounds.specs.Flaand.{eRows}
+use Rattle.rounds.specs.Buckets.{Triple, two, combine, le4, word4, permBytes, entry, later, d, dvalueMsg, dTold, dOpened, ds, zShare, leakyAnd, abc, tripleRow}
+use Rattle.rounds.specs.Buckets as B
+use Rattle.rounds.specs.Beaver as Beaver
+use Rattle.alone.specs.Formula as F
+use Rattle.alone.specs.Holds.{dRows, tripleRows}
+use Rattle.alone.specs.Given.{Given, small-x}
+use Rattle.alone.specs.Cells.{row-byte, part-in, encode-ext}
+use Rattle.alone.specs.FlaandLaws.{z-share-read, small-z}
+
+-- ---- the permutation in bytes
+module _ (f : Frame) (p : List ℕ) (t : ℕ) (lt : t < leaky (f .l)) where
+  perm-byte : (o : ℕ) → o < 4 → getD (permBytes f p) (t * 4 + o) 0 ≡ getD (le4 (getD p t 0)) o 0
+  unfolding permBytes le4
+  perm-byte o w = row-byte 4 (leaky (f .l)) (λ t. le4 (getD p t 0)) (λ t l. refl) t o lt w
+
+  pub word-read : getD p t 0 < 2 ^ 32 → word4 (permBytes f p) (t * 4) ≡ getD p t 0
+  unfolding word4 le4
+  word-read small =
+      let v : ℕ = getD p t 0 in
+      let e0 : getD (permBytes f p) (t * 4) 0 ≡ v % 256 =
+      ap (λ a. getD (permBytes f p) a 0) (sym (add-zero (t * 4))) ∙ perm-byte 0 (omega arith) in
+      let s2 : v / 0x100_0000 % 256 * 256 + v / 0x1_0000 % 256 ≡ v / 0x1_0000 = omega arith in
+      let s1 : v / 0x1_0000 * 256 + v / 0x100 % 256 ≡ v / 0x100 = omega arith in
+      let s0 : v / 0x100 * 256 + v % 256 ≡ v = omega arith in
+      rw (perm-byte 3 (omega arith), perm-byte 2 (omega arith), perm-byte 1 (omega arith), e0, s2, s1, s0)
+
+pub length-perm : (f : Frame) (p : List ℕ) → length (permBytes f p) ≡ leaky (f .l) * 4
+unfolding permBytes le4
+length-perm f p = length-cat (leaky (f .l)) 4 (λ t. le4 (getD p t 0)) (λ t l. refl)
+
+-- the list that was lent is a permutation of 0 to l·b − 1
+pub record Ordered (l : ℕ) (order : List ℕ) : Type 0 where
+  pub most : l ≤ 300000
+  pub len : length order ≡ leaky l
+  pub perm : isPerm order ≡ true
+
+-- the places of a bucket
+module _ (l : ℕ) where
+  pub first-in : 0 < bucketSize l
+  first-in = omega (arith, bucket-low l)
+
+  pub later-in : (e : ℕ) → e < bucketSize l - 1 → suc e < bucketSize l
+  later-in e le = omega arith
+
+  pub all-in : (e : ℕ) → e < suc (bucketSize l - 1) → e < bucketSize l
+  all-in e le = omega (arith, bucket-low l)
+
+module _ (f : Frame) (order : List ℕ) (O : Ordered (f .l) order) (j e : ℕ) (lj : j < f .l) (le : e < bucketSize (f .l)) where
+  inside : j * bucketSize (f .l) + e < leaky (f .l)
+  unfolding leaky
+  inside = omega (arith, in-chunks j (f .l) (bucketSize (f .l)) lj)
+
+  pub place-below : getD order (j * bucketSize (f .l) + e) 0 < leaky (f .l)
+  place-below = rw (← O .len) (perm-below order (O .perm) (j * bucketSize (f .l) + e) (rw (O .len) inside))
+
+  -- the remainder is nothing for a permutation
+  pub entry-read : entry f (permBytes f order) j e ≡ getD order (j * bucketSize (f .l) + e) 0
+  unfolding entry
+  entry-read =
+      ap (λ v. v % leaky (f .l))
+      (word-read f order (j * bucketSize (f .l) + e) inside (omega (arith, place-below, leaky-most (f .l) (O .most))))
+      ∙ mod-eq-of-lt place-below
+
+-- ---- combining
+-- what is combined, and what was opened, may be given by rules that agree
+pub combine-ext : (g h : ℕ → Triple) (d b : ℕ → Bool) (c : ℕ) → ((e : ℕ) → e < suc c → g e ≡ h e) → ((e : ℕ) → e < c → d e ≡ b e)
+    → combine g d c ≡ combine h b c
+unfolding combine
+combine-ext g h d b zero p q = p 0 (omega arith)
+combine-ext g h d b (suc c) p q =
+    (λ k. two (combine-ext g h d b c (λ e l. p e (omega arith)) (λ e l. q e (omega arith)) k) (p (suc c) (le-refl (suc (suc c))) k)
+    (q c (le-refl (suc c)) k))
+
+-- two triples whose x and z agree but for the own entry
+pub record Alike (n i : ℕ) (g h : Triple) : Type 0 where
+  pub tx : Agree n i (g .tx) (h .tx)
+  pub tz : Agree n i (g .tz) (h .tz)
+
+pub combine-alike : (n i : ℕ) (g h : ℕ → Triple) (d : ℕ → Bool) (c : ℕ) → ((e : ℕ) → e < suc c → Alike n i (g e) (h e))
+    → Alike n i (combine g d c) (combine h d c)
+unfolding combine two
+combine-alike n i g h d zero p = p 0 (omega arith)
+combine-alike n i g h d (suc c) p =
+    let s = combine-alike n i g h d c (λ e l. p e (omega arith)) in
+    let t = p (suc c) (le-refl (suc (suc c))) in
+    record {
+      tx = agree-op n i _ _ _ _ (s .tx) (t .tx);
+      tz = agree-op n i _ _ _ _ (agree-op n i _ _ _ _ (s .tz) (t .tz)) (agree-sel n i (d c) (g (suc c) .tx) (h (suc c) .tx) (t .tx));
+    }
+
+-- a triple whose x and z fit Blocks
+pub record SmallTriple (n : ℕ) (g : Triple) : Type 0 where
+  pub tx : SmallShare n (g .tx)
+  pub tz : SmallShare n (g .tz)
+
+pub small-combine : (n : ℕ) (g : ℕ → Triple) (d : ℕ → Bool) (c : ℕ) → ((e : ℕ) → e < suc c → SmallTriple n (g e))
+    → SmallTriple n (combine g d c)
+unfolding combine two
+small-combine n g d zero p = p 0 (omega arith)
+small-combine n g d (suc c) p =
+    let s = small-combine n g d c (λ e l. p e (omega arith)) in
+    let t = p (suc c) (le-refl (suc (suc c))) in
+    record {
+      tx = small-share-op n _ _ (s .tx) (t .tx);
+      tz = small-share-op n _ _ (small-share-op n _ _ (s .tz) (t .tz)) (small-share-sel n (d c) (g (suc c) .tx) (t .tx));
+    }
+
+-- "y = y1"
+pub combine-y : (g : ℕ → Triple) (d : ℕ → Bool) (c : ℕ) → combine g d c .ty ≡ g 0 .ty
+unfolding combine two
+combine-y g d zero = refl
+combine-y g d (suc c) = combine-y g d c
+
+-- ---- a row of TRIPLES, read back
+module _ (f : Frame) (g : ℕ → Triple) where
+  abbrev rows : List ℕ
+  rows = cat (f .l) (λ j. tripleRow f (g j))
+
+  row-len : (j : ℕ) → length (tripleRow f (g j)) ≡ 2 * recordLen (f .n)
+  unfolding tripleRow
+  row-len j =
+      length-append (recordOf (f .n) (f .i) (g j .tx)) (recordOf (f .n) (f .i) (g j .tz))
+      ∙ ap₂ _+_ (length-recordOf (f .n) (f .i) (g j .tx)) (length-recordOf (f .n) (f .i) (g j .tz))
+      ∙ (let q : recordLen (f .n) + recordLen (f .n) ≡ 2 * recordLen (f .n) = omega arith in q)
+
+  pub length-triples : length (cat (f .l) (λ j. tripleRow f (g j))) ≡ f .l * (2 * recordLen (f .n))
+  length-triples = length-cat (f .l) (2 * recordLen (f .n)) _ (λ j lj. row-len j)
+
+  module _ (j : ℕ) (lj : j < f .l) (small : SmallTriple (f .n) (g j)) where
+    row-is : take (2 * recordLen (f .n)) (drop (j * (2 * recordLen (f .n))) rows)
+        ≡ recordOf (f .n) (f .i) (g j .tx) ++ recordOf (f .n) (f .i) (g j .tz)
+    unfolding tripleRow chunk
+    row-is = chunk-cat (2 * recordLen (f .n)) (f .l) (λ j. tripleRow f (g j)) (λ j lj. row-len j) j lj
+
+    pub a-read : Agree (f .n) (f .i) (Beaver.a f (cat (f .l) (λ j. tripleRow f (g j))) j) (g j .tx)
+    unfolding Beaver.a
+    a-read =
+        read-here (f .n) (f .i) (g j .tx) rows (j * (2 * recordLen (f .n)))
+        (ap (λ k. take (recordLen (f .n)) (drop k rows)) (sym (add-zero (j * (2 * recordLen (f .n)))))
+        ∙ part-in rows [] (recordOf (f .n) (f .i) (g j .tx)) (recordOf (f .n) (f .i) (g j .tz)) (j * (2 * recordLen (f .n)))
+        (2 * recordLen (f .n)) 0 (recordLen (f .n)) row-is refl (length-recordOf (f .n) (f .i) (g j .tx)))
+        (small .tx)
+
+    pub c-read : Agree (f .n) (f .i) (Beaver.c f (cat (f .l) (λ j. tripleRow f (g j))) j) (g j .tz)
+    unfolding Beaver.c
+    c-read =
+        let tx : List ℕ = recordOf (f .n) (f .i) (g j .tx) in
+        let tz : List ℕ = recordOf (f .n) (f .i) (g j .tz) in
+        read-here (f .n) (f .i) (g j .tz) rows (j * (2 * recordLen (f .n)) + recordLen (f .n))
+        (part-in rows tx tz [] (j * (2 * recordLen (f .n))) (2 * recordLen (f .n)) (recordLen (f .n)) (recordLen (f .n))
+        (row-is ∙ ap (λ (s : List ℕ). tx ++ s) (sym (append-nil tz)))
+        (length-recordOf (f .n) (f .i) (g j .tx)) (length-recordOf (f .n) (f .i) (g j .tz)))
+        (small .tz)
+
+dvalue-ext : (c : ℕ) (b b′ : ℕ → Bool) (x x′ : ℕ → Block) → ((e : ℕ) → e < c → b e ≡ b′ e) → ((e : ℕ) → e < c → x e ≡ x′ e)
+    → dvalueItem c b x ≡ dvalueItem c b′ x′
+unfolding dvalueItem
+dvalue-ext c b b′ x x′ p q =
+    ap₂ (λ (s t : List ℕ). s ++ t) (encode-ext c _ _ (λ e le. ap (λ (v : Bool). num v ∷ []) (p e le)))
+    (encode-ext c _ _ (λ e le. ap bytesOf (q e le)))
+
+module _ (f : Frame) (a : Args) (strings order : List ℕ) (m : ℕ → ℕ → List ℕ) (I : Given f a m) (O : Ordered (f .l) order) where
+  abbrev δ : Block
+  δ = F.delta f a strings order m
+
+  -- what PERM, ZS and ES hold
+  abbrev perm : List ℕ
+  perm = permBytes f order
+
+  abbrev zs : List ℕ
+  zs = zRows f (a .masks) (a .bits) (m 14)
+
+  abbrev es : List ℕ
+  es = eRows f (m 15)
+
+  pub entry-is : (j e : ℕ) → j < f .l → e < bucketSize (f .l) → entry f perm j e ≡ F.entry f a strings order m j e
+  unfolding F.entry
+  entry-is j e lj le = entry-read f order O j e lj le
+
+  entry-below : (j e : ℕ) → j < f .l → e < bucketSize (f .l) → F.entry f a strings order m j e < leaky (f .l)
+  unfolding F.entry
+  entry-below j e lj le = place-below f order O j e lj le
+
+  -- ---- round 21
+  d-is : (j e : ℕ) → j < f .l → e < later f → d f (a .bits) perm j e ≡ F.d f a strings order m j e
+  unfolding d F.d F.y later
+  d-is j e lj le =
+      ap₂ (λ s t. shares .op (y f (a .bits) s) (y f (a .bits) t)) (entry-is j 0 lj (first-in (f .l)))
+      (entry-is j (suc e) lj (later-in (f .l) e le))
+
+  pub msg-21 : (k : ℕ) → dvalueMsg f (a .bits) perm k ≡ F.sent21 f a strings order m k
+  unfolding dvalueMsg F.sent21
+  msg-21 k =
+      encode-ext (f .l) _ _ (λ j lj. dvalue-ext (later f) _ _ _ _
+      (λ e le. ap (λ (s : Share). s .bit) (d-is j e lj le)) (λ e le. ap (λ (s : Share). s .mac k) (d-is j e lj le)))
+
+  pub length-ds : length (dRows f a strings order m) ≡ f .l * (bucketSize (f .l) - 1)
+  unfolding dRows later
+  length-ds = length-cat (f .l) (bucketSize (f .l) - 1) _ (λ j lj. length-tab (bucketSize (f .l) - 1) _)
+
+  -- what DS holds
+  pub ds-is : ds f (a .bits) perm (m 21) ≡ dRows f a strings order m
+  unfolding ds dRows dOpened F.dOpened
+  ds-is =
+      cat-ext (f .l) _ _ (λ j lj. tab-ext (later f) _ _ (λ e le.
+      ap (λ (s : Share). num (addb (s .bit) (others bits (f .i) (f .n) (λ k. dTold f (m 21) k j e)))) (d-is j e lj le)))
+
+  d-read : (j e : ℕ) → j < f .l → e < later f
+      → odd (getD (dRows f a strings order m) (j * later f + e) 0) ≡ F.dOpened f a strings order m j e
+  unfolding dRows
+  d-read j e lj le =
+      let row : ℕ → List ℕ = λ j. tab (later f) (λ e. num (F.dOpened f a strings order m j e)) in
+      ap odd (row-byte (later f) (f .l) row (λ t lt. length-tab (later f) _) j e lj le ∙ getD-tab (later f) e _ 0 le)
+      ∙ odd-num (F.dOpened f a strings order m j e)
+
+  -- ---- the combined triples
+  -- entry e of bucket j
+  alike : (j e : ℕ) → j < f .l → e < bucketSize (f .l)
+      → Alike (f .n) (f .i) (leakyAnd f δ (a .bits) zs es perm j e) (F.leakyAnd f a strings order m (F.entry f a strings order m j e))
+  unfolding leakyAnd F.leakyAnd F.x
+  alike j e lj le =
+      subst (λ t. Alike (f .n) (f .i) (record { tx = x f (a .bits) t; ty = y f (a .bits) t; tz = zShare f δ (a .bits) zs es t })
+      (F.leakyAnd f a strings order m (F.entry f a strings order m j e))) (sym (entry-is j e lj le))
+      (record { tx = agree-refl (f .n) (f .i) _; tz = z-share-read f a strings order m I _ (entry-below j e lj le) })
+
+  abc-alike : (j : ℕ) → j < f .l
+      → Alike (f .n) (f .i) (abc f δ (a .bits) zs es perm (dRows f a strings order m) j) (F.abc f a strings order m j)
+  unfolding abc F.abc later
+  abc-alike j lj =
+      let g : ℕ → Triple = leakyAnd f δ (a .bits) zs es perm j in
+      let c : ℕ = bucketSize (f .l) - 1 in
+      subst (λ (t : Triple). Alike (f .n) (f .i) t (F.abc f a strings order m j))
+      (sym (combine-ext g g _ (F.dOpened f a strings order m j) c (λ e le. refl) (λ e le. d-read j e lj le)))
+      (combine-alike (f .n) (f .i) g _ (F.dOpened f a strings order m j) c (λ e le. alike j e lj (all-in (f .l) e le)))
+
+  -- what TRIPLES holds
+  pub triples-are : B.tripleRows f δ (a .bits) zs es perm (dRows f a strings order m) ≡ tripleRows f a strings order m
+  unfolding B.tripleRows tripleRows tripleRow
+  triples-are =
+      cat-ext (f .l) _ _ (λ j lj.
+      let s = abc-alike j lj in
+      ap₂ (λ (s t : List ℕ). s ++ t) (agree-record (f .n) (f .i) _ _ (s .tx)) (agree-record (f .n) (f .i) _ _ (s .tz)))
+
+  pub small-abc : (j : ℕ) → SmallTriple (f .n) (F.abc f a strings order m j)
+  unfolding F.abc F.leakyAnd
+  small-abc j =
+      small-combine (f .n) _ (F.dOpened f a strings order m j) (later f)
+      (λ e le. record { tx = small-x f a strings order m I _; tz = small-z f a strings order m I _ })
+
+  -- b is the first y of the bucket
+  pub b-is : (j : ℕ) → j < f .l → Beaver.b f (a .bits) perm j ≡ F.abc f a strings order m j .ty
+  unfolding Beaver.b F.abc F.leakyAnd F.y
+  b-is j lj = ap (y f (a .bits)) (entry-is j 0 lj (first-in (f .l))) ∙ sym (combine-y _ (F.dOpened f a strings order m j) (later f))

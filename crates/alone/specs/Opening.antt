@@ -1,0 +1,211 @@
+-- An opening that was accepted: what that says of its numbers and lengths, and what the work area holds when round 1 is due.
+use mathlib.Core.Path.{_≡_, refl, sym, ap, _∙_}
+use mathlib.Core.Bool.{Bool, true, false, _&&_}
+use mathlib.Core.List.{List, [], _∷_}
+use Prim.Native.Nat.{ℕ, _-_, _*_, _<_, _≤_}
+use native.Mathlib.Omega.{arith}
+use lib.ListN.{length, replicate, length-replicate}
+use lib.Dec.{ltb, leb, eqb}
+use borrow.Author.Tests.{ltb-true, ltb-false, leb-true, eqb-true, eqb-false, eq-eqb, ne-eqb}
+use Rattle.lists.specs.Pick.{pick}
+use Rattle.lists.specs.All.{allOf, of-all}
+use Rattle.lists.specs.Bytes.{Bytes}
+use Rattle.share.specs.Record.{recordLen}
+use Rattle.message.specs.FormatLaws.{and-first, and-second}
+use Rattle.plan.specs.Plan.{InRange, leaky, bitsCount, msgLen}
+use Rattle.engine.specs.declared.Frame.{Frame}
+use Rattle.engine.specs.Step.{Accepted, Outcome, outcome}
+use Rattle.engine.specs.Area.{toOthers, mem, Every, every-mem}
+use Rattle.engine.specs.Sheet.{Known, known-lay}
+use Rattle.engine.specs.Honest.{due}
+use Rattle.rounds.specs.Area.{DELTA, SEED, PAIRS, MASKS, BITS, ALPHA, BETA, ROUNDS-OWN, sizes, sizeOf, workLen}
+use Rattle.rounds.specs.Opening.{Args, listsDue, buffersDue, bytesFault, reason, section, area, spec, lengthsFault, orFault}
+use Rattle.rounds.specs.Toss as Toss
+use Rattle.alone.specs.Holds.{since, storeOf, holds}
+use Rattle.alone.specs.Given.{Given}
+
+-- ---- what is accepted
+-- the inputs are as long as they should
+pub record Lens (a : Args) : Type 0 where
+  pub delta-len : length (a .delta) ≡ 16
+  pub seed-len : length (a .seed) ≡ 32
+  pub pairs-len : length (a .pairs) ≡ 32 * a .party .n
+  pub masks-len : length (a .masks) ≡ a .party .n * leaky (a .party .l)
+  pub bits-len : length (a .bits) ≡ bitsCount (a .party .l) * recordLen (a .party .n)
+  pub alpha-len : length (a .alpha) ≡ a .party .l * recordLen (a .party .n)
+  pub beta-len : length (a .beta) ≡ a .party .l * recordLen (a .party .n)
+
+pub record Taken (a : Args) : Type 0 where
+  pub range : InRange (a .party .n) (a .party .l)
+  pub own : a .party .i < a .party .n
+  pub lens : Lens a
+
+-- the tests of a conjunction
+both : (a b : Bool) → (a && b) ≡ true → (a ≡ true) × (b ≡ true)
+both a b h = (and-first a b h, and-second a b h)
+
+module _ (a : Args) where
+  abbrev n : ℕ
+  n = a .party .n
+
+  abbrev l : ℕ
+  l = a .party .l
+
+  abbrev lists-say : Type 0
+  lists-say =
+      (length (a .bits) ≡ bitsCount l * recordLen n) × ((length (a .alpha) ≡ l * recordLen n) × (length (a .beta) ≡ l * recordLen n))
+
+  abbrev lists : Bool
+  lists = listsDue (a .party) (length (a .bits)) (length (a .alpha)) (length (a .beta))
+
+  lists-true : lists ≡ true → lists-say
+  unfolding listsDue
+  lists-true h =
+      let b : Bool = eqb (length (a .bits)) (bitsCount l * recordLen n) in
+      let c : Bool = eqb (length (a .alpha)) (l * recordLen n) in
+      let d : Bool = eqb (length (a .beta)) (l * recordLen n) in
+      let w2 = both (b && c) d h in
+      let w1 = both b c (w2 .0) in
+      (eqb-true _ _ (w1 .0), (eqb-true _ _ (w1 .1), eqb-true _ _ (w2 .1)))
+
+  abbrev buffers-say : Type 0
+  buffers-say =
+      (length (a .delta) ≡ 16) × ((length (a .seed) ≡ 32) × ((length (a .pairs) ≡ 32 * n) × (length (a .masks) ≡ n * leaky l)))
+
+  buffers-true : buffersDue a ≡ true → buffers-say
+  unfolding buffersDue
+  buffers-true h =
+      let b : Bool = eqb (length (a .delta)) 16 in
+      let c : Bool = eqb (length (a .seed)) 32 in
+      let d : Bool = eqb (length (a .pairs)) (32 * n) in
+      let e : Bool = eqb (length (a .masks)) (n * leaky l) in
+      let f : Bool = eqb (length (a .work)) (workLen (a .party)) in
+      let g : Bool = eqb (length (a .out)) ((n - 1) * msgLen n l 1) in
+      let w5 = both (b && c && d && e && f) g h in
+      let w4 = both (b && c && d && e) f (w5 .0) in
+      let w3 = both (b && c && d) e (w4 .0) in
+      let w2 = both (b && c) d (w3 .0) in
+      let w1 = both b c (w2 .0) in
+      (eqb-true _ _ (w1 .0), (eqb-true _ _ (w1 .1), (eqb-true _ _ (w2 .1), eqb-true _ _ (w3 .1))))
+
+  abbrev parties : Bool
+  parties = leb 2 n && leb n 8 && ltb (a .party .i) n
+
+  parties-true : parties ≡ true → (2 ≤ n) × ((n ≤ 8) × (a .party .i < n))
+  parties-true h =
+      let w2 = both (leb 2 n && leb n 8) (ltb (a .party .i) n) h in
+      let w1 = both (leb 2 n) (leb n 8) (w2 .0) in
+      (leb-true _ _ (w1 .0), (leb-true _ _ (w1 .1), ltb-true _ _ (w2 .1)))
+
+  -- with no reason to refuse
+  pub taken : reason a ≡ 0 → Taken a
+  unfolding reason lengthsFault orFault
+  taken z = go parties refl (leb l 300000) refl (eqb l 0) refl lists refl (buffersDue a) refl z
+    where
+      go : (p : Bool) → parties ≡ p → (q : Bool) → leb l 300000 ≡ q → (s : Bool) → eqb l 0 ≡ s → (t : Bool) → lists ≡ t
+          → (u : Bool) → buffersDue a ≡ u → orFault (pick p (pick q (pick s 3 (pick t (pick u 0 17) 6)) 16) 15) (bytesFault a) ≡ 0 → Taken a
+      go true ep true eq false es true et true eu h =
+          let p = parties-true ep in
+          let t = lists-true et in
+          let u = buffers-true eu in
+          record {
+            range = record { two = p .0; eight = p .1 .0; one = omega (arith, eqb-false l 0 es); most = leb-true _ _ eq };
+            own = p .1 .1;
+            lens = record {
+              delta-len = u .0;
+              seed-len = u .1 .0;
+              pairs-len = u .1 .1 .0;
+              masks-len = u .1 .1 .1;
+              bits-len = t .0;
+              alpha-len = t .1 .0;
+              beta-len = t .1 .1;
+            };
+          }
+      go false ep q eq s es t et u eu h = absurd (omega arith)
+      go true ep false eq s es t et u eu h = absurd (omega arith)
+      go true ep true eq true es t et u eu h = absurd (omega arith)
+      go true ep true eq false es false et u eu h = absurd (omega arith)
+      go true ep true eq false es true et false eu h = absurd (omega arith)
+
+-- ---- the work area that it lays out
+abbrev inputs : List ℕ
+inputs = DELTA ∷ SEED ∷ PAIRS ∷ MASKS ∷ BITS ∷ ALPHA ∷ BETA ∷ []
+
+-- a claim on the sections that hold inputs
+pub first-seven : (Q : ℕ → Type 0) → Every Q inputs → (s : ℕ) → s < 7 → Q s
+unfolding allOf mem
+first-seven Q h s l = every-mem Q inputs h s (of-all 7 (λ s. mem s inputs) refl s l)
+
+-- all else is zero
+section-zero : (a : Args) (s : ℕ) → 7 ≤ s → section a s ≡ replicate (sizeOf (a .party) s) 0
+unfolding section
+section-zero a s h =
+    rw (
+      ne-eqb s 0 (omega arith),
+      ne-eqb s 1 (omega arith),
+      ne-eqb s 2 (omega arith),
+      ne-eqb s 3 (omega arith),
+      ne-eqb s 4 (omega arith),
+      ne-eqb s 5 (omega arith),
+      ne-eqb s 6 (omega arith),
+    ) refl
+
+section-len : (a : Args) → Lens a → (s : ℕ) → length (section a s) ≡ sizeOf (a .party) s
+unfolding section sizeOf sizes
+section-len a o s = go (ltb s 7) refl
+  where
+    go : (b : Bool) → ltb s 7 ≡ b → length (section a s) ≡ sizeOf (a .party) s
+    go true e =
+        first-seven (λ s. length (section a s) ≡ sizeOf (a .party) s)
+        (o .delta-len, (o .seed-len, (o .pairs-len, (o .masks-len, (o .bits-len, (o .alpha-len, (o .beta-len, tt)))))))
+        s (ltb-true s 7 e)
+    go false e = ap length (section-zero a s (ltb-false s 7 e)) ∙ length-replicate {A = ℕ} (sizeOf (a .party) s) 0
+
+-- what is ready when round 1 is due is an input
+early : allOf ROUNDS-OWN (λ s. pick (leb (since s) (due 1)) (ltb s 7) true) ≡ true
+unfolding allOf since
+early = refl
+
+pub known-opened : (f : Frame) (val : ℕ → ℕ → List ℕ) (a : Args) → a .party ≡ f → Lens a → ((s : ℕ) → s < 7 → section a s ≡ val (f .i) s)
+    → Known (f .n) (f .l) (storeOf val) (due 1) (f .i) (area a)
+unfolding area
+known-opened f val a p o h =
+    known-lay (f .n) (f .l) (storeOf val) (omega arith) (due 1) (f .i) (section a)
+    (λ s ls. section-len a o s ∙ ap (λ (g : Frame). sizeOf g s) p)
+    (λ s ls r. h s (ltb-true s 7 (sym (ap (λ b. pick b (ltb s 7) true) r) ∙ of-all ROUNDS-OWN _ early s ls)))
+
+-- ---- what it leaves
+pub spec-takes : (a : Args) (f : Frame) → a .party ≡ f → reason a ≡ 0
+    → spec a ≡ outcome (record { party = f; due = 1 }) Accepted (area a) (toOthers (f .n) (f .i) (λ r. Toss.commMsg (a .seed) (f .i)))
+unfolding spec
+spec-takes a f p z =
+    let left : Frame → Outcome = λ f.
+    outcome (record { party = f; due = 1 }) Accepted (area a) (toOthers (f .n) (f .i) (λ r. Toss.commMsg (a .seed) (f .i))) in
+    rw (eq-eqb (reason a) 0 z) (ap left p)
+
+-- all that opening was lent is bytes
+pub record ByteArgs (a : Args) : Type 0 where
+  pub delta-bytes : Bytes (a .delta)
+  pub bits-bytes : Bytes (a .bits)
+  pub alpha-bytes : Bytes (a .alpha)
+  pub beta-bytes : Bytes (a .beta)
+
+module _ (a : Args) (z : reason a ≡ 0) (strings order : List ℕ) (m : ℕ → ℕ → List ℕ) where
+  pub given : ByteArgs a → ((k j : ℕ) → Bytes (m k j)) → Given (a .party) a m
+  given b h = record {
+    range = taken a z .range;
+    own = taken a z .own;
+    pairs-len = taken a z .lens .pairs-len;
+    delta-bytes = b .delta-bytes;
+    bits-bytes = b .bits-bytes;
+    alpha-bytes = b .alpha-bytes;
+    beta-bytes = b .beta-bytes;
+    mail-bytes = h;
+  }
+
+  -- the inputs are in their sections
+  pub opened : Known (a .party .n) (a .party .l) (storeOf (λ i s. holds (a .party) a strings order m s)) (due 1) (a .party .i) (area a)
+  unfolding section holds
+  opened =
+      known-opened (a .party) (λ i s. holds (a .party) a strings order m s) a refl (taken a z .lens)
+      (first-seven (λ s. section a s ≡ holds (a .party) a strings order m s) (refl, (refl, (refl, (refl, (refl, (refl, (refl, tt))))))))
