@@ -95,7 +95,7 @@ nameByte k j = pick (ltb j 16) (getD (roundName k) j 0) 0
 unfoldable pub recordBytes : ℕ → ℕ
 recordBytes n = pick (parties? n) (recordLen n) 0
 
--- "b = bucket_size(l)"
+-- "b = `bucket_size`(l)"
 unfoldable pub bucketOf : ℕ → ℕ
 bucketOf l = pick (leb 1 l && leb l 300000) (bucketSize l) 0
 
