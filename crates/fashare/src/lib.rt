@@ -115,23 +115,23 @@ fn dm_digest(recs: &[u8], n: usize, i: usize, l: usize, q: usize) -> Digest
 }
 
 // "Send BLAKE3 of d0, d1, dm": the three commitments of string q.
-fn write_comm(out: &mut [u8], recs: &[u8], delta: Block, n: usize, i: usize, l: usize, q: usize)
+fn write_comm(out: &mut [u8], recs: &[u8], delta: Delta, n: usize, i: usize, l: usize, q: usize)
     requires { ⌜ length (now out) ≡ 96 ⌝ }
     requires { ⌜ (q < 40) × Given n i l (now recs) ⌝ }
-    ensures { λ _. ⌜ now (out .exit) ≡ commItem (frame n l i) delta (now (recs .entry)) q ⌝ }
+    ensures { λ _. ⌜ now (out .exit) ≡ commItem (frame n l i) (delta .0) (now (recs .entry)) q ⌝ }
 {
     let key = Key(d0(recs, n, i, l, q));
-    let mac = key.xor_delta(Delta(delta));
+    let mac = key.xor_delta(delta);
     blake3::hash_block(key.0).store(&mut out[0..32]);
     blake3::hash_block(mac.0).store(&mut out[32..64]);
     dm_digest(recs, n, i, l, q).store(&mut out[64..96]);
 }
 
 // The message of round 8.
-fn write_comm_msg(out: &mut [u8], recs: &[u8], delta: Block, n: usize, i: usize, l: usize)
+fn write_comm_msg(out: &mut [u8], recs: &[u8], delta: Delta, n: usize, i: usize, l: usize)
     requires { ⌜ length (now out) ≡ 3848 ⌝ }
     requires { ⌜ Given n i l (now recs) ⌝ }
-    ensures { λ _. ⌜ now (out .exit) ≡ S.commMsg (frame n l i) delta (now (recs .entry)) ⌝ }
+    ensures { λ _. ⌜ now (out .exit) ≡ S.commMsg (frame n l i) (delta .0) (now (recs .entry)) ⌝ }
 {
     encode::put_count(&mut out[0..8], 40);
     let mut q = 0;
@@ -144,10 +144,10 @@ fn write_comm_msg(out: &mut [u8], recs: &[u8], delta: Block, n: usize, i: usize,
 }
 
 // Round 8: the same message to every other party.
-pub fn write_comms(out: &mut [u8], recs: &[u8], delta: Block, n: usize, i: usize, l: usize)
+pub fn write_comms(out: &mut [u8], recs: &[u8], delta: Delta, n: usize, i: usize, l: usize)
     requires { ⌜ length (now out) ≡ (n - 1) * msgLen n l 8 ⌝ }
     requires { ⌜ Given n i l (now recs) ⌝ }
-    ensures { λ _. ⌜ now (out .exit) ≡ toOthers n i (λ r. S.commMsg (frame n l i) delta (now (recs .entry))) ⌝ }
+    ensures { λ _. ⌜ now (out .exit) ≡ toOthers n i (λ r. S.commMsg (frame n l i) (delta .0) (now (recs .entry))) ⌝ }
 {
     write_comm_msg(&mut out[0..3848], recs, delta, n, i, l);
     repeat(out, 3848);

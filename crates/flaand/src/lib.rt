@@ -25,6 +25,7 @@ ghost use Rattle.flaand.specs.Laws.{opens, openFault, summed};
 ghost use Rattle.flaand.specs.HLaws.{zTerm, hashesAt, maskedAt};
 use block::Block;
 use rounds::Fault;
+use share::Delta;
 
 // ---- rounds 17 and 19: h is committed to, then sent
 
@@ -459,19 +460,19 @@ pub fn keep_es(
 // ---- round 15: h
 
 // What a party of e adds: the MAC and the key of z. The key of z is r's, plus delta where e is 1.
-fn term(recs: &[u8], at: usize, k: usize, delta: Block, e: bool) -> Block
+fn term(recs: &[u8], at: usize, k: usize, delta: Delta, e: bool) -> Block
     requires { ⌜ (k < 8) × (at + recordLen (k + 1) ≤ length (now recs)) ⌝ }
-    ensures { λ r. ⌜ r ≡ blocks .op (macAt (now (recs .entry)) at k) (blocks .op (keyAt (now (recs .entry)) at k) (sel blocks e delta)) ⌝ }
+    ensures { λ r. ⌜ r ≡ blocks .op (macAt (now (recs .entry)) at k) (blocks .op (keyAt (now (recs .entry)) at k) (sel blocks e (delta .0))) ⌝ }
 {
-    let z_key = share::key_at(recs, at, k).0.xor(delta.const_mul(e));
-    share::mac_at(recs, at, k).0.xor(z_key)
+    let key = share::key_at(recs, at, k).z_key(delta.times(e));
+    share::mac_at(recs, at, k).0.xor(key.0)
 }
 
 // The same of party k at position t; zero for the own number. The r record is at `at`.
 fn z_term(
     recs: &[u8],
     at: usize,
-    delta: Block,
+    delta: Delta,
     incoming: &[u8],
     starts: &[usize],
     lens: &[usize],
@@ -484,7 +485,7 @@ fn z_term(
     requires { ⌜ (n ≤ 8) × ((k < n) × (t < Plan.leaky l)) ⌝ }
     requires { ⌜ at + recordLen n ≤ length (now recs) ⌝ }
     requires { ⌜ Mail.Arrived n i (8 + Plan.leaky l * 17) (now incoming) (now starts) (now lens) ⌝ }
-    ensures { λ r. ⌜ r ≡ sel blocks (neq i k) (zTerm (now (recs .entry)) at delta
+    ensures { λ r. ⌜ r ≡ sel blocks (neq i k) (zTerm (now (recs .entry)) at (delta .0)
         (Mail.letter (now (incoming .entry)) (now (starts .entry)) (now (lens .entry))) t k) ⌝ }
 {
     if k == i {
@@ -499,7 +500,7 @@ fn z_term(
 fn z_terms(
     recs: &[u8],
     at: usize,
-    delta: Block,
+    delta: Delta,
     incoming: &[u8],
     starts: &[usize],
     lens: &[usize],
@@ -511,7 +512,7 @@ fn z_terms(
     requires { ⌜ (n ≤ 8) × (t < Plan.leaky l) ⌝ }
     requires { ⌜ at + recordLen n ≤ length (now recs) ⌝ }
     requires { ⌜ Mail.Arrived n i (8 + Plan.leaky l * 17) (now incoming) (now starts) (now lens) ⌝ }
-    ensures { λ r. ⌜ r ≡ others blocks i n (zTerm (now (recs .entry)) at delta
+    ensures { λ r. ⌜ r ≡ others blocks i n (zTerm (now (recs .entry)) at (delta .0)
         (Mail.letter (now (incoming .entry)) (now (starts .entry)) (now (lens .entry))) t) ⌝ }
 {
     let mut sum = Block::zero();
@@ -583,7 +584,7 @@ fn masked(
     rows: &[u8],
     zs: &[u8],
     x: bool,
-    delta: Block,
+    delta: Delta,
     incoming: &[u8],
     starts: &[usize],
     lens: &[usize],
@@ -594,13 +595,13 @@ fn masked(
 ) -> Block
     requires { ⌜ (n ≤ 8) × ((t < Plan.leaky l) × (length (now rows) ≡ Plan.leaky l * leakyLen n) × (length (now zs) ≡ Plan.leaky l * 17)) ⌝ }
     requires { ⌜ Mail.Arrived n i (8 + Plan.leaky l * 17) (now incoming) (now starts) (now lens) ⌝ }
-    ensures { λ r. ⌜ r ≡ maskedAt (frame n l i) delta x (now (rows .entry)) (now (zs .entry))
+    ensures { λ r. ⌜ r ≡ maskedAt (frame n l i) (delta .0) x (now (rows .entry)) (now (zs .entry))
         (Mail.letter (now (incoming .entry)) (now (starts .entry)) (now (lens .entry))) t ⌝ }
 {
     let us = u_sum(incoming, starts, lens, n, i, l, t);
     let phi = block::load(rows, t * haand::leaky_len(n));
     let z = block::bit(zs, t * 17);
-    us.xor(phi).const_mul(x).xor(delta.const_mul(z))
+    us.xor(phi).const_mul(x).xor(delta.times(z).0)
 }
 
 // h at position t.
@@ -608,7 +609,7 @@ pub fn h(
     recs: &[u8],
     rows: &[u8],
     zs: &[u8],
-    delta: Block,
+    delta: Delta,
     incoming: &[u8],
     starts: &[usize],
     lens: &[usize],
@@ -619,7 +620,7 @@ pub fn h(
 ) -> Block
     requires { ⌜ (Kept n i l (now recs) (now rows) (now zs)) × (t < Plan.leaky l) ⌝ }
     requires { ⌜ Mail.Arrived n i (8 + Plan.leaky l * 17) (now incoming) (now starts) (now lens) ⌝ }
-    ensures { λ r. ⌜ r ≡ F.h (frame n l i) delta (now (recs .entry)) (now (rows .entry)) (now (zs .entry))
+    ensures { λ r. ⌜ r ≡ F.h (frame n l i) (delta .0) (now (recs .entry)) (now (rows .entry)) (now (zs .entry))
         (Mail.letter (now (incoming .entry)) (now (starts .entry)) (now (lens .entry))) t ⌝ }
 {
     let x = share::bit_at(recs, haand::x_at(n, t));
@@ -656,7 +657,7 @@ fn h_at(
     recs: usize,
     rows: usize,
     zs: usize,
-    delta: Block,
+    delta: Delta,
     incoming: &[u8],
     starts: &[usize],
     lens: &[usize],
@@ -668,7 +669,7 @@ fn h_at(
     requires { ⌜ (Work n i l (now work)) × (t < Plan.leaky l) ⌝ }
     requires { ⌜ (Starts n i l BITS recs) × ((Starts n i l LEAKY rows) × (Starts n i l ZS zs)) ⌝ }
     requires { ⌜ Mail.Arrived n i (8 + Plan.leaky l * 17) (now incoming) (now starts) (now lens) ⌝ }
-    ensures { λ r. ⌜ r ≡ F.h (frame n l i) delta (at (frame n l i) BITS (now (work .entry))) (at (frame n l i) LEAKY (now (work .entry)))
+    ensures { λ r. ⌜ r ≡ F.h (frame n l i) (delta .0) (at (frame n l i) BITS (now (work .entry))) (at (frame n l i) LEAKY (now (work .entry)))
         (at (frame n l i) ZS (now (work .entry))) (Mail.letter (now (incoming .entry)) (now (starts .entry)) (now (lens .entry))) t ⌝ }
 {
     let recs_end = recs + plan::bits_len(n, l);
@@ -696,7 +697,7 @@ pub fn keep_hs(
     rows: usize,
     zs: usize,
     hs: usize,
-    delta: Block,
+    delta: Delta,
     incoming: &[u8],
     starts: &[usize],
     lens: &[usize],
@@ -707,7 +708,7 @@ pub fn keep_hs(
     requires { ⌜ (Work n i l (now work)) × (Starts n i l HS hs) ⌝ }
     requires { ⌜ (Starts n i l BITS recs) × ((Starts n i l LEAKY rows) × (Starts n i l ZS zs)) ⌝ }
     requires { ⌜ Mail.Arrived n i (8 + Plan.leaky l * 17) (now incoming) (now starts) (now lens) ⌝ }
-    ensures { λ _. ⌜ now (work .exit) ≡ keep (frame n l i) HS (F.hs (frame n l i) delta (at (frame n l i) BITS (now (work .entry)))
+    ensures { λ _. ⌜ now (work .exit) ≡ keep (frame n l i) HS (F.hs (frame n l i) (delta .0) (at (frame n l i) BITS (now (work .entry)))
         (at (frame n l i) LEAKY (now (work .entry))) (at (frame n l i) ZS (now (work .entry)))
         (Mail.letter (now (incoming .entry)) (now (starts .entry)) (now (lens .entry)))) (now (work .entry)) ⌝ }
 {

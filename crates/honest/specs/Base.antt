@@ -10,7 +10,7 @@
 --    `by-none` of engine/StepLaws, `first-none` here show that a check passes.
 --  * a message that is a list: `list-form`, `list-len` from Coded items (encode/Coded), `trip-whole` of encode/RoundTrip for what is read of it.
 use mathlib.Core.Path.{_≡_, refl, sym, ap, ap₂, _∙_, subst}
-use mathlib.Core.Bool.{true}
+use mathlib.Core.Bool.{true, false}
 use mathlib.Core.Logic.{_≢_}
 use mathlib.Core.List.{List, [], _∷_}
 use Prim.Native.Nat.{ℕ, zero, suc, _*_, _^_, _<_}
@@ -23,6 +23,7 @@ use Rattle.lists.specs.Pick.{pick}
 use Rattle.lists.specs.Over.{length-cat}
 use Rattle.lists.specs.Rows.{chunk, chunk-cat, cat-ext}
 use Rattle.lists.specs.Bytes.{Bytes}
+use Rattle.lists.specs.All.{true-false}
 use Rattle.block.specs.Block.{blockAt}
 use Rattle.blake3.specs.Tree.{digest, hash}
 use Rattle.blake3.specs.ByteLaws.{length-bytes, bytes-bytes}
@@ -36,10 +37,10 @@ use Rattle.plan.specs.Plan.{listLen}
 use Rattle.engine.specs.declared.Frame.{Frame}
 use Rattle.engine.specs.Step.{frame, Fault, other, orElse, scan, byParty}
 use Rattle.engine.specs.StepLaws.{other-is, other-cases, or-none}
-use Rattle.engine.specs.Area.{putSec}
+use Rattle.engine.specs.Area.{putSec, length-putSec, sec-other}
 use Rattle.engine.specs.Sheet.{Store, Known, putAll, filled, staysTest, fills-by}
 use Rattle.engine.specs.Honest.{before, due, storeOf}
-use Rattle.rounds.specs.Area.{DELTA, SEED, PAIRS, MASKS, BITS, ALPHA, BETA, COMMS, JOINT, PAIR-COMMS, PAIRWISE, KEY-SUMS, SHARE-COMMS, DMS, LEAKY, ZS, ES, HS, H-COMMS, PERM, DS, TRIPLES, ROUNDS-OWN, sizeOf, at, keep, rows, firstOf}
+use Rattle.rounds.specs.Area.{DELTA, SEED, PAIRS, MASKS, BITS, ALPHA, BETA, COMMS, JOINT, PAIR-COMMS, PAIRWISE, KEY-SUMS, SHARE-COMMS, DMS, LEAKY, ZS, ES, HS, H-COMMS, PERM, DS, TRIPLES, ROUNDS-OWN, SECTIONS, sizeOf, at, keep, rows, firstOf}
 use Rattle.rounds.specs.Echo.{hashVec}
 use Rattle.rounds.specs.Opening.{Args}
 use Rattle.rounds.specs.Table.{table, delta}
@@ -223,6 +224,18 @@ module _ (n l : ℕ) (args : ℕ → Args) (strings order : List ℕ) where
     pub keep-none : staysTest Run t u [] ≡ true → Known n l Run u i w
     unfolding putAll
     keep-none test = filled n l Run (omega arith) t u [] (fills-by n l Run t u [] (λ i s. refl) tt test) i li w K
+
+    -- what is put into a section that is not due by u is no value anybody relies on
+    pub keep-free : (s : ℕ) (x : List ℕ) → staysTest Run t u [] ≡ true → s < ROUNDS-OWN → leb (S.since n l args strings order s) u ≡ false
+        → length x ≡ sizeOf (frame n l i) s → Known n l Run u i (keep (frame n l i) s x w)
+    unfolding keep
+    keep-free s x test ls free long =
+        let v = keep-none test in
+        let size = sizeOf (frame n l i) in record {
+          long = length-putSec size SECTIONS w (K .long) s x (omega arith) long;
+          has = λ r lr ready. sec-other size SECTIONS w (K .long) r s x (omega arith)
+              (λ e. true-false (sym ready ∙ ap (λ a. leb (S.since n l args strings order a) u) e ∙ free)) long ∙ v .has r lr ready;
+        }
 
     pub keep-one : (s : ℕ) (x : List ℕ) → staysTest Run t u (s ∷ []) ≡ true → Fit s → x ≡ S.holds n l args strings order i s
         → Known n l Run u i (keep (frame n l i) s x w)

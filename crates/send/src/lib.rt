@@ -16,11 +16,8 @@ ghost use Rattle.rounds.specs.Flaand as Flaand;
 ghost use Rattle.rounds.specs.Buckets as Buckets;
 ghost use Rattle.haand.specs.Given.{Work};
 ghost use Rattle.send.specs.Plain.{plain};
-use block::Block;
 
 // Sections of the work area.
-const DELTA: usize = 0;
-
 const SEED: usize = 1;
 
 const PAIRS: usize = 2;
@@ -40,14 +37,6 @@ const ZS: usize = 15;
 const HS: usize = 17;
 
 const PERM: usize = 19;
-
-// Own delta.
-fn delta(work: &[u8], n: usize, i: usize, l: usize) -> Block
-    requires { ⌜ Work n i l (now work) ⌝ }
-    ensures { λ r. ⌜ r ≡ Table.delta (frame n l i) (now (work .entry)) ⌝ }
-{
-    block::load(area::section(work, n, i, l, DELTA), 0)
-}
 
 // ---- what is kept when the messages are made
 
@@ -69,7 +58,7 @@ fn hold_leaky(work: &mut [u8], n: usize, i: usize, l: usize)
     ensures { λ _. ⌜ now (work .exit) ≡ keep (frame n l i) LEAKY
         (Haand.leakyRows (frame n l i) (Table.delta (frame n l i) (now (work .entry))) (at (frame n l i) BITS (now (work .entry)))) (now (work .entry)) ⌝ }
 {
-    let d = delta(work, n, i, l);
+    let d = area::delta(work, n, i, l);
     let recs = area::section_at(n, l, BITS);
     let rows = area::section_at(n, l, LEAKY);
     haand::keep_leaky(work, recs, rows, d, n, i, l);
@@ -94,7 +83,7 @@ fn hold_triples(work: &mut [u8], n: usize, i: usize, l: usize)
         (at (frame n l i) ZS (now (work .entry))) (at (frame n l i) ES (now (work .entry))) (at (frame n l i) PERM (now (work .entry)))
         (at (frame n l i) DS (now (work .entry)))) (now (work .entry)) ⌝ }
 {
-    let d = delta(work, n, i, l);
+    let d = area::delta(work, n, i, l);
     triples::keep_triples(work, d, n, i, l);
 }
 
@@ -122,7 +111,7 @@ fn write_comms(out: &mut [u8], work: &[u8], n: usize, i: usize, l: usize)
     ensures { λ _. ⌜ now (out .exit) ≡ toOthers n i (λ _. Fashare.commMsg (frame n l i) (Table.delta (frame n l i) (now (work .entry)))
         (at (frame n l i) BITS (now (work .entry)))) ⌝ }
 {
-    let d = delta(work, n, i, l);
+    let d = area::delta(work, n, i, l);
     fashare::write_comms(out, area::section(work, n, i, l, BITS), d, n, i, l);
 }
 
@@ -133,7 +122,7 @@ fn write_dibi(out: &mut [u8], work: &[u8], n: usize, i: usize, l: usize)
     ensures { λ _. ⌜ now (out .exit) ≡ toOthers n i (λ _. Fashare.dibiMsg (frame n l i) (Table.delta (frame n l i) (now (work .entry)))
         (at (frame n l i) BITS (now (work .entry))) (at (frame n l i) DMS (now (work .entry)))) ⌝ }
 {
-    let d = delta(work, n, i, l);
+    let d = area::delta(work, n, i, l);
     let recs = area::section(work, n, i, l, BITS);
     let dms = area::section(work, n, i, l, DMS);
     fashare_open::write_dibi(out, recs, dms, d, n, i, l);

@@ -18,7 +18,7 @@ use Rattle.encode.proofs.put_count.Reads as put-count-reads
 use Rattle.fashare.proofs.write_comm.Reads as write-comm-reads
 
 abbrev Inv-loop : tie.InvT-loop
-Inv-loop out₀ recs delta n i l q₀ out q = (q ≤ 40) × (length out₀ ≡ 3848) × Stretch 40 (commItem (frame n l i) delta recs) q (8 + q * 96) out₀ out
+Inv-loop out₀ recs delta n i l q₀ out q = (q ≤ 40) × (length out₀ ≡ 3848) × Stretch 40 (commItem (frame n l i) (delta .0) recs) q (8 + q * 96) out₀ out
 
 abbrev μ-loop : tie.MeasureT-loop
 μ-loop out₀ recs delta n i l q₀ out q = 40 - q
@@ -40,7 +40,7 @@ loop-holds c =
     let p = c .before .before in
     let s = p .before .before .before .before in
     let a = s .args in
-    let w = stretch-count 40 (commItem (frame (a .n) (a .l) (a .i)) (a .delta) (now (a .recs))) (now (a .out)) (p .put-count .last .0) (omega arith) (p .put-count .ensures) in
+    let w = stretch-count 40 (commItem (frame (a .n) (a .l) (a .i)) (a .delta .0) (now (a .recs))) (now (a .out)) (p .put-count .last .0) (omega arith) (p .put-count .ensures) in
     (search needs, w .same ∙ s .pre .0, stretch-self 40 _ 0 8 _ _ w)
 
 mul-a : tie.Need-mul-a Inv-loop μ-loop
@@ -79,7 +79,7 @@ loop-again c =
     let q = l .loop .q in (
       omega arith,
       l .loop .inv .1,
-      even-turn 40 (commItem f (a .delta) (now (a .recs))) 96 (λ t h. length-commItem f (a .delta) (now (a .recs)) t) q (8 + q * 96 + 96) _ (l .loop .out) (w .write-comm .last .0)
+      even-turn 40 (commItem f (a .delta .0) (now (a .recs))) 96 (λ t h. length-commItem f (a .delta .0) (now (a .recs)) t) q (8 + q * 96 + 96) _ (l .loop .out) (w .write-comm .last .0)
           (l .loop .inv .1) (w .before .before .loop-test .taken) (l .loop .inv .2) (w .write-comm .ensures) refl,
     )
 
@@ -91,7 +91,7 @@ unfolding S.commMsg
 returns c =
     let l = c .before in
     let a = l .before .before .before .before .before .before .before .args in
-    even-end 40 _ 96 (λ t h. length-commItem (frame (a .n) (a .l) (a .i)) (a .delta) (now (a .recs)) t) (l .loop .q) _ _ (l .loop .inv .1) (l .loop .inv .2) (omega arith)
+    even-end 40 _ 96 (λ t h. length-commItem (frame (a .n) (a .l) (a .i)) (a .delta .0) (now (a .recs)) t) (l .loop .q) _ _ (l .loop .inv .1) (l .loop .inv .2) (omega arith)
 
 pub write-comm-msg-spec : {M : Type 1} → statement M
 write-comm-msg-spec =

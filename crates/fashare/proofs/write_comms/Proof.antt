@@ -37,7 +37,7 @@ repeat-requires c κs =
     let w = c .before .before .before in
     let s = w .before .before .before .before in
     let a = s .args in
-    let e = length-commMsg (frame (a .n) (a .l) (a .i)) (a .delta) (now (a .recs)) in
+    let e = length-commMsg (frame (a .n) (a .l) (a .i)) (a .delta .0) (now (a .recs)) in
     (omega arith, omega (arith, length-front 3848 (now (a .out)) (w .write-comm-msg .last .0) (omega (arith, s .pre .1 .range)) (ap length (w .write-comm-msg .ensures) ∙ e), s .pre .0, s .pre .1 .range))
 
 same-length : tie.Need-same-length
@@ -49,7 +49,7 @@ returns c =
     let w = c .before .before .before .before .before .before in
     let s = w .before .before .before .before in
     let a = s .args in
-    let e = length-commMsg (frame (a .n) (a .l) (a .i)) (a .delta) (now (a .recs)) in
+    let e = length-commMsg (frame (a .n) (a .l) (a .i)) (a .delta .0) (now (a .recs)) in
     again-all (a .n - 1) 3848 (now (a .out)) _ _ (omega (arith, s .pre .1 .range)) (s .pre .0) (ap length (w .write-comm-msg .ensures) ∙ e) (c .before .before .repeat .ensures)
     ∙ ap (λ x. cat (a .n - 1) (λ q. x)) (w .write-comm-msg .ensures)
 

@@ -89,7 +89,7 @@ returns c =
     ∙ ap₂ (blocks .op)
     (c .before .before .const-mul .ensures
     ∙ ap (sel blocks (a .x)) (c .before .before .before .xor .ensures ∙ ap₂ (blocks .op) (y .before .u-sum .ensures) (d .load .ensures ∙ ap (λ m. blockAt (now (a .rows)) (a .t * m)) (y .leaky-len .ensures))))
-    (c .before .const-mul2 .ensures ∙ ap (λ (b : Bool). sel blocks b (a .delta)) (c .before .before .before .before .bit .ensures))
+    (c .before .const-mul2 .ensures ∙ ap (λ (b : Bool). sel blocks b (a .delta .0)) (c .before .before .before .before .bit .ensures))
 
 pub masked-spec : {M : Type 1} → statement M
 masked-spec =

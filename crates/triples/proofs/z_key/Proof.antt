@@ -32,7 +32,7 @@ returns c =
     c .xor .ensures
     ∙ ap₂ (blocks .op) (c .before .before .key-at .ensures)
     (c .before .const-mul .ensures
-    ∙ ap (λ (v : Bool). sel blocks v (a .delta)) (b .bit .ensures ∙ ap (λ m. odd (getD (now (a .es)) (a .k * m + a .t) 0)) (b .before .leaky .ensures)))
+    ∙ ap (λ (v : Bool). sel blocks v (a .delta .0)) (b .bit .ensures ∙ ap (λ m. odd (getD (now (a .es)) (a .k * m + a .t) 0)) (b .before .leaky .ensures)))
 
 pub z-key-spec : {M : Type 1} → statement M
 z-key-spec =
