@@ -143,7 +143,7 @@ fn keep_row(
     write_blocks(&mut work[a..e], &sums);
 }
 
-// Keeps the key sums of all others in the work area, "so that r is needed in one call alone".
+// Keeps the key sums of all others in the work area, so that r is needed in one call alone.
 pub fn keep_key_sums(
     work: &mut [u8],
     recs_at: usize,

@@ -40,7 +40,7 @@ const PERM: usize = 19;
 
 // ---- what is kept when the messages are made
 
-// Round 6: the sums of the keys, "so that r is needed in one call alone".
+// Round 6: the sums of the keys, so that r is needed in one call alone.
 fn hold_key_sums(work: &mut [u8], r: &[u8], n: usize, i: usize, l: usize)
     requires { ⌜ Work n i l (now work) ⌝ }
     requires { ⌜ length (now r) ≡ rLen l ⌝ }
