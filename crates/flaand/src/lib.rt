@@ -2,18 +2,20 @@
 // specs/Flaand.antt. What was hashed of the x keys and MACs stands in the rows that `fhaand` kept (crate haand).
 // Bits, MACs, keys, delta, z and h are secret: they decide no branch and no index. What a check found is public.
 ghost use mathlib.Core.Path.{_≡_};
+ghost use mathlib.Core.List.{_++_};
 ghost use Prim.Native.Nat.{ℕ, _+_, _-_, _*_, _<_, _≤_};
 ghost use lib.ListN.{length, getD, take, drop};
-ghost use Rattle.lists.specs.Over.{cat, tab};
+ghost use Rattle.lists.specs.Over.{tab};
 ghost use Rattle.algebra.specs.Group.{XorGroup, sel, odd, num};
 ghost use Rattle.algebra.specs.Sum.{neq, others};
+ghost use Rattle.block.specs.Block.{le8};
 ghost use Rattle.block.specs.Group.{blocks};
 ghost use Rattle.share.specs.Record.{recordLen, macAt, keyAt};
 ghost use Rattle.encode.specs.Encode.{bitBlock};
 ghost use Rattle.plan.specs.Plan as Plan;
 ghost use Rattle.engine.specs.Step.{frame};
 ghost use Rattle.engine.specs.Area.{toOthers};
-ghost use Rattle.rounds.specs.Area.{BITS, LEAKY, ZS, HS, leakyLen, at, keep};
+ghost use Rattle.rounds.specs.Area.{BITS, LEAKY, ZS, HS, H-COMMS, leakyLen, at, keep};
 ghost use Rattle.rounds.specs.Loops.{rowOf};
 ghost use Rattle.rounds.specs.Mail as Mail;
 ghost use Rattle.rounds.specs.Haand as R;
@@ -29,72 +31,41 @@ use share::Delta;
 
 // ---- rounds 17 and 19: h is committed to, then sent
 
-// The first `len` bytes again and again, to the end.
-fn repeat(out: &mut [u8], len: usize)
-    requires { ⌜ (0 < len) × (len ≤ length (now out)) ⌝ }
-    ensures { λ _. ⌜ ((c : ℕ) → length (now (out .entry)) ≡ c * len → now (out .exit) ≡ cat c (λ _. take len (now (out .entry)))) ⌝ }
-{
-    let mut j = len;
-    while j < out.len() {
-        out[j] = out[j - len];
-        j += 1;
-    }
-}
-
-// The message of round 19.
-fn put_hs(out: &mut [u8], hs: &[u8], n: usize, i: usize, l: usize)
-    requires { ⌜ length (now out) ≡ 8 + Plan.leaky l * 16 ⌝ }
-    requires { ⌜ Hashes n i l (now hs) ⌝ }
-    ensures { λ _. ⌜ now (out .exit) ≡ F.hashMsg (frame n l i) (now (hs .entry)) ⌝ }
-{
-    let count = plan::leaky(l);
-    encode::put_count(&mut out[0..8], count);
-    let mut t = 0;
-    while t < count {
-        let a = 8 + t * 16;
-        let e = a + 16;
-        block::store(&mut out[a..e], block::load(hs, t * 16));
-        t += 1;
-    }
-}
-
-// Round 19: the same message to all others.
+// Round 19: the same message to all others, from HS.
 pub fn write_hs(out: &mut [u8], hs: &[u8], n: usize, i: usize, l: usize)
     requires { ⌜ length (now out) ≡ (n - 1) * (8 + Plan.leaky l * 16) ⌝ }
     requires { ⌜ Hashes n i l (now hs) ⌝ }
     ensures { λ _. ⌜ now (out .exit) ≡ toOthers n i (λ k. F.hashMsg (frame n l i) (now (hs .entry))) ⌝ }
 {
-    let len = 8 + plan::leaky(l) * 16;
-    put_hs(&mut out[0..len], hs, n, i, l);
-    repeat(out, len);
+    haand::write_same(out, plan::leaky(l), hs, n);
 }
 
-// The message of round 17.
-fn put_h_comms(out: &mut [u8], hs: &[u8], n: usize, i: usize, l: usize)
-    requires { ⌜ length (now out) ≡ 8 + Plan.leaky l * 32 ⌝ }
-    requires { ⌜ Hashes n i l (now hs) ⌝ }
-    ensures { λ _. ⌜ now (out .exit) ≡ F.commMsg (frame n l i) (now (hs .entry)) ⌝ }
+// Round 17: each h is hashed once. The commitments stand in the own row of H-COMMS, which starts at `comms`; HS starts at `hs`.
+pub fn hold_h_comms(work: &mut [u8], hs: usize, comms: usize, n: usize, i: usize, l: usize)
+    requires { ⌜ Work n i l (now work) ⌝ }
+    requires { ⌜ (Starts n i l HS hs) × (Starts n i l H-COMMS comms) ⌝ }
+    ensures { λ _. ⌜ now (work .exit) ≡ keep (frame n l i) H-COMMS
+        (F.ownComms (frame n l i) (at (frame n l i) HS (now (work .entry))) (at (frame n l i) H-COMMS (now (work .entry)))) (now (work .entry)) ⌝ }
 {
     let count = plan::leaky(l);
-    encode::put_count(&mut out[0..8], count);
+    let row = comms + i * (count * 32);
     let mut t = 0;
     while t < count {
-        let a = 8 + t * 32;
+        let d = blake3::hash_block(block::load(work, hs + t * 16));
+        let a = row + t * 32;
         let e = a + 32;
-        blake3::hash_block(block::load(hs, t * 16)).store(&mut out[a..e]);
+        d.store(&mut work[a..e]);
         t += 1;
     }
 }
 
-// Round 17: the same message to all others. Each h is hashed once.
-pub fn write_h_comms(out: &mut [u8], hs: &[u8], n: usize, i: usize, l: usize)
+// The same message to all others: the commitments in the own row `comms`.
+pub fn write_h_comms(out: &mut [u8], comms: &[u8], n: usize, i: usize, l: usize)
     requires { ⌜ length (now out) ≡ (n - 1) * (8 + Plan.leaky l * 32) ⌝ }
-    requires { ⌜ Hashes n i l (now hs) ⌝ }
-    ensures { λ _. ⌜ now (out .exit) ≡ toOthers n i (λ k. F.commMsg (frame n l i) (now (hs .entry))) ⌝ }
+    requires { ⌜ (Ranges n i l) × (length (now comms) ≡ Plan.leaky l * 32) ⌝ }
+    ensures { λ _. ⌜ now (out .exit) ≡ toOthers n i (λ k. le8 (Plan.leaky l) ++ now (comms .entry)) ⌝ }
 {
-    let len = 8 + plan::leaky(l) * 32;
-    put_h_comms(&mut out[0..len], hs, n, i, l);
-    repeat(out, len);
+    haand::write_same(out, plan::leaky(l), comms, n);
 }
 
 // What party k told behind the count, as many bytes as the row has; zero for the own number.
