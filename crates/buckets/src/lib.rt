@@ -4,6 +4,7 @@ ghost use mathlib.Core.Path.{_≡_};
 ghost use Prim.Native.Nat.{ℕ, _+_, _-_, _*_, _<_, _≤_};
 ghost use mathlib.Core.List.{_++_};
 ghost use lib.ListN.{length, getD, replicate};
+ghost use Rattle.lists.specs.Over.{cat};
 ghost use Rattle.algebra.specs.Group.{XorGroup, bits, sel, odd};
 ghost use Rattle.algebra.specs.Sum.{neq};
 ghost use Rattle.block.specs.Block.{blockAt, eqBlock};
@@ -114,10 +115,10 @@ fn store4(out: &mut [u8], v: u32)
     out[3] = (v / 0x100_0000 % 256) as u8;
 }
 
-// Keeps the permutation.
+// Keeps the permutation, 4 bytes a number.
 pub fn keep_perm(section: &mut [u8], perm: &[u32])
     requires { ⌜ length (now section) ≡ length (now perm) * 4 ⌝ }
-    ensures { λ _. ⌜ ((n l i : ℕ) → length (now (perm .entry)) ≡ leaky l → now (section .exit) ≡ B.permBytes (frame n l i) (now (perm .entry))) ⌝ }
+    ensures { λ _. ⌜ now (section .exit) ≡ cat (length (now (perm .entry))) (λ t. B.le4 (getD (now (perm .entry)) t 0)) ⌝ }
 {
     let mut t = 0;
     while t < perm.len() {
