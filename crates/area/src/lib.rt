@@ -1,5 +1,5 @@
 // The work area's layout (docs/WORK_AREA.md; crates/rounds, Area): how long each section is, where it starts, and how long the whole is. All of it
-// goes by n and l, which are public, and not by the own number i.
+// goes by n and l, which are public, and not by the own number i. And own delta, which is read from it.
 ghost use mathlib.Core.Path.{_≡_};
 ghost use Prim.Native.Nat.{ℕ, _≤_, _<_};
 ghost use lib.ListN.{length};

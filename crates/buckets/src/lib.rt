@@ -1,7 +1,7 @@
 // The buckets of leaky ANDs, round 21. From `faand` and `check_dvalue` of src/mpc/faand.rs. The permutation is public; bits, MACs, keys and delta
 // decide no branch and no index.
 ghost use mathlib.Core.Path.{_≡_};
-ghost use Prim.Native.Nat.{ℕ, _+_, _-_, _*_, _<_, _≤_};
+ghost use Prim.Native.Nat.{_+_, _-_, _*_, _<_, _≤_};
 ghost use mathlib.Core.List.{_++_};
 ghost use lib.ListN.{length, getD, replicate};
 ghost use Rattle.lists.specs.Over.{cat};

@@ -1,33 +1,27 @@
--- Rounds 17 and 19: one message for all others, and the checks of h item by item.
-use mathlib.Core.Path.{_≡_, refl, sym, ap, ap₂, _∙_, subst}
+-- Round 19: the checks of h, item by item.
+use mathlib.Core.Path.{_≡_, refl, sym, ap₂, _∙_, subst}
 use mathlib.Core.Logic.{_≢_}
 use mathlib.Core.Bool.{Bool, true, false, _&&_}
-use mathlib.Core.List.{List, [], _++_, append-assoc, append-nil}
-use Prim.Native.Nat.{ℕ, zero, suc, _+_, _-_, _*_, _<_, _≤_}
-use native.Mathlib.Nat.{zero-mul, suc-mul, mul-assoc}
+use mathlib.Core.List.{List}
+use Prim.Native.Nat.{ℕ, zero, _+_, _*_, _<_, _≤_}
+use native.Mathlib.Nat.{mul-assoc}
 use native.Mathlib.Omega.{arith}
-use lib.ListN.{length, getD, take, drop, set, length-append, length-drop, take-append-drop, List·getD-append}
-use lib.Seq.{getD-append-add, getD-take, take-at, length-take-le}
-use borrow.Rule.Slice.PartMut.{putMid}
+use lib.ListN.{take, drop}
 use Rattle.lists.specs.Pick.{pick}
 use Rattle.lists.specs.All.{allOf, all-turn}
-use Rattle.lists.specs.Over.{cat, length-cat, in-chunks, copy-turn, copy-end}
-use Rattle.lists.specs.Same.{same?, same-true, same-false, same-eq}
+use Rattle.lists.specs.Over.{in-chunks}
+use Rattle.lists.specs.Same.{same?, same-true, same-false}
 use Rattle.algebra.specs.Group.{XorGroup}
 use Rattle.algebra.specs.Sum.{others}
 use Rattle.block.specs.Block.{blockAt, bytesOf, eqBlock}
 use Rattle.block.specs.Group.{blocks}
-use Rattle.block.specs.Trip.{length-bytesOf}
 use Rattle.blake3.specs.Tree.{hash}
-use Rattle.blake3.specs.ByteLaws.{length-bytes}
-use Rattle.encode.specs.Coded.{length-encode}
 use Rattle.plan.specs.Plan.{leaky}
 use Rattle.engine.specs.declared.Frame.{Frame}
-use Rattle.engine.specs.Step.{Fault, frame, orElse, byParty}
+use Rattle.engine.specs.Step.{byParty}
 use Rattle.engine.specs.StepLaws.{or-none, or-first}
-use Rattle.engine.specs.Area.{toOthers}
 use Rattle.rounds.specs.FaultLaws.{Finds}
-use Rattle.rounds.specs.Flaand.{commMsg, hashMsg, hTold, opening, zeroSum, hFaults}
+use Rattle.rounds.specs.Flaand.{hTold, opening, zeroSum, hFaults}
 
 -- ---- the checks of round 19
 -- each h in the message of party k opens its commitment

@@ -3,7 +3,7 @@
 // Bits, MACs, keys, delta, z and h are secret: they decide no branch and no index. What a check found is public.
 ghost use mathlib.Core.Path.{_≡_};
 ghost use mathlib.Core.List.{_++_};
-ghost use Prim.Native.Nat.{ℕ, _+_, _-_, _*_, _<_, _≤_};
+ghost use Prim.Native.Nat.{_+_, _-_, _*_, _<_, _≤_};
 ghost use lib.ListN.{length, getD, take, drop};
 ghost use Rattle.lists.specs.Over.{tab};
 ghost use Rattle.algebra.specs.Group.{XorGroup, sel, odd, num};

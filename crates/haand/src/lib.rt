@@ -213,9 +213,9 @@ pub fn write_same(out: &mut [u8], count: usize, items: &[u8], n: usize)
     let last = n - 1;
     let mut q = 0;
     while q < last {
-        let a = q * len;
-        let e = a + len;
-        put_list(&mut out[a..e], count, items);
+        let at = q * len;
+        let e = at + len;
+        put_list(&mut out[at..e], count, items);
         q += 1;
     }
 }

@@ -1,11 +1,11 @@
 -- Rounds 17 and 19: the commitments to own h, in the own row of the others', and as the items of the message.
-use mathlib.Core.Path.{_≡_, refl, sym, ap, ap₂, _∙_}
+use mathlib.Core.Path.{_≡_, refl, sym, ap, _∙_}
 use mathlib.Core.List.{List, _++_}
 use Prim.Native.Nat.{ℕ, _+_, _*_, _<_}
 use native.Mathlib.Omega.{arith}
 use lib.ListN.{length}
 use lib.Seq.{take-all}
-use Rattle.lists.specs.Over.{cat, length-cat, in-chunks}
+use Rattle.lists.specs.Over.{length-cat, in-chunks}
 use Rattle.lists.specs.Rows.{chunk, cat-ext, cat-chunk}
 use Rattle.lists.specs.Sect.{length-put, get-put-same}
 use Rattle.lists.specs.Bytes.{Bytes}

@@ -1,11 +1,11 @@
-use mathlib.Core.Path.{_≡_, refl, sym, ap, _∙_}
+use mathlib.Core.Path.{_≡_, refl, ap}
 use mathlib.Core.List.{List}
 use Prim.Native.Nat.{ℕ, _+_, _-_, _*_, _≤_}
 use lib.ListN.{length, getD}
 use native.Mathlib.Omega.{arith}
 use borrow.Author.Needs.{needs}
 use denote.Ref.{now}
-use Rattle.lists.specs.Over.{cat, Written, written-zero, written-turn, written-end, length-take-drop}
+use Rattle.lists.specs.Over.{Written, written-zero, written-turn, written-end, length-take-drop}
 use Rattle.rounds.specs.Buckets.{le4}
 use Rattle.buckets.proofs.keep_perm.Statement.{statement}
 use Rattle.buckets.proofs.keep_perm.Tie as tie

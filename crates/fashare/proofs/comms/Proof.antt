@@ -1,6 +1,6 @@
 -- The loop's invariant: the commitments of the first q strings are written.
-use mathlib.Core.Path.{_≡_, refl, sym, ap, _∙_}
-use Prim.Native.Nat.{ℕ, _+_, _*_, _-_, _≤_}
+use mathlib.Core.Path.{_≡_, refl}
+use Prim.Native.Nat.{_*_, _-_, _≤_}
 use native.Mathlib.Omega.{arith}
 use lib.ListN.{length}
 use denote.Ref.{now}
@@ -8,7 +8,7 @@ use borrow.Author.Needs.{needs}
 use Rattle.lists.specs.Over.{Written}
 use Rattle.engine.specs.Step.{frame}
 use Rattle.rounds.specs.RowsLaws.{even-zero, even-turn, even-end}
-use Rattle.rounds.specs.FashareLaws.{commItem, length-commItem}
+use Rattle.rounds.specs.FashareLaws.{commItem}
 use Rattle.fashare.proofs.comms.Statement.{statement}
 use Rattle.fashare.proofs.comms.Tie as tie
 

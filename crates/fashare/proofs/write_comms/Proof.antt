@@ -1,7 +1,6 @@
-use mathlib.Core.Path.{_≡_, refl, sym, ap, _∙_}
+use mathlib.Core.Path.{_≡_, sym, ap, _∙_}
 use mathlib.Core.List.{List, _++_}
-use Prim.Native.Nat.{ℕ, _+_, _-_, _*_, _≤_}
-use native.Mathlib.Omega.{arith}
+use Prim.Native.Nat.{ℕ, _+_, _-_, _*_}
 use lib.ListN.{length}
 use denote.Ref.{now}
 use borrow.Author.Needs.{needs}
@@ -12,7 +11,7 @@ use Rattle.plan.specs.Plan.{msgLen, listLen, countDue, kindOf}
 use Rattle.engine.specs.Step.{frame}
 use Rattle.engine.specs.Area.{toOthers}
 use Rattle.rounds.specs.Fashare as S
-use Rattle.rounds.specs.FashareLaws.{commItem, length-commItem}
+use Rattle.rounds.specs.FashareLaws.{length-commItem}
 use Rattle.fashare.proofs.write_comms.Statement.{statement}
 use Rattle.fashare.proofs.write_comms.Tie as tie
 

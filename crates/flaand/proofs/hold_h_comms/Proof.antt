@@ -1,5 +1,5 @@
 -- The loop's invariant: the commitments to the first t h stand in the own row, and nothing else is changed.
-use mathlib.Core.Path.{_≡_, refl, sym, ap, ap₂, _∙_}
+use mathlib.Core.Path.{_≡_, refl, sym, ap, _∙_}
 use mathlib.Core.List.{List}
 use Prim.Native.Nat.{ℕ, _+_, _-_, _*_, _<_, _≤_}
 use native.Mathlib.Omega.{arith}
@@ -16,7 +16,7 @@ use Rattle.engine.specs.declared.Frame.{Frame}
 use Rattle.engine.specs.Step.{frame}
 use Rattle.engine.specs.Area.{off, sec, putSec, put-sec}
 use Rattle.rounds.specs.Area.{HS, H-COMMS, SECTIONS, sizeOf, at, keep}
-use Rattle.rounds.specs.Loops.{lent-part, Keeping, keeping-none, keeping-turn, keeping-end, keeping-other}
+use Rattle.rounds.specs.Loops.{Keeping, keeping-none, keeping-turn, keeping-end, keeping-other}
 use Rattle.rounds.specs.FashareLaws.{length-hash}
 use Rattle.rounds.specs.Flaand as F
 use Rattle.haand.specs.GivenLaws.{area}

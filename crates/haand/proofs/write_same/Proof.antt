@@ -1,7 +1,6 @@
 -- The loop's invariant: the stretches of the first q other parties are written.
-use mathlib.Core.Path.{_≡_, refl, sym, ap, _∙_}
 use mathlib.Core.List.{List, _++_}
-use Prim.Native.Nat.{ℕ, _+_, _-_, _*_, _<_, _≤_}
+use Prim.Native.Nat.{ℕ, _+_, _-_, _*_, _≤_}
 use native.Mathlib.Nat.{zero-mul}
 use native.Mathlib.Omega.{arith}
 use lib.ListN.{length}
@@ -44,8 +43,8 @@ module _ (c : tie.In-loop Inv-loop μ-loop) where
   part-in : c .before .loop .q * len start + len start ≤ length (c .before .loop .out)
   part-in = omega (arith, start .pre .1, in-chunks (c .before .loop .q) (start .args .n - 1) (len start) (c .loop-test .taken), c .before .loop .inv .1 .same)
 
-mul-a : tie.Need-mul-a Inv-loop μ-loop
-mul-a c = omega (arith, part-in c)
+mul-at : tie.Need-mul-at Inv-loop μ-loop
+mul-at c = omega (arith, part-in c)
 
 add-e : tie.Need-add-e Inv-loop μ-loop
 add-e c = omega (arith, part-in c)
@@ -86,7 +85,7 @@ write-same-spec =
     add-len
     (λ c. search needs)
     loop-holds
-    mul-a
+    mul-at
     add-e
     (λ c. search needs)
     (λ c. search needs)

@@ -52,7 +52,7 @@ returns c =
     let s = start p in
     let a = s .args in
     puts-section (a .n) (a .l) (a .i) PERM _ _ (p .before .section-at .ensures) (end p) _ (now (a .work))
-    ∙ ap (λ x. keep (frame (a .n) (a .l) (a .i)) PERM x (now (a .work))) 
+    ∙ ap (λ x. keep (frame (a .n) (a .l) (a .i)) PERM x (now (a .work)))
     (c .before .before .keep-perm .ensures ∙ ap (λ m. cat m (λ t. le4 (getD (now (a .perm)) t 0))) (s .pre .1))
 
 pub hold-perm-spec : {M : Type 1} → statement M
