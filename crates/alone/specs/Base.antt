@@ -1,6 +1,6 @@
 -- What every round's facts need: rows by party, and the sections of a work area that is as a store says.
 use mathlib.Core.Path.{_≡_, refl, sym, ap, _∙_, subst}
-use mathlib.Core.Bool.{true}
+use mathlib.Core.Bool.{true, false}
 use mathlib.Core.Logic.{_≢_}
 use mathlib.Core.List.{List, [], _∷_}
 use Prim.Native.Nat.{ℕ, _*_, _<_}
@@ -11,12 +11,13 @@ use borrow.Author.Tests.{ltb-true}
 use Rattle.lists.specs.Pick.{pick}
 use Rattle.lists.specs.Over.{length-cat}
 use Rattle.lists.specs.Rows.{chunk, chunk-cat, cat-ext}
+use Rattle.lists.specs.All.{true-false}
 use Rattle.engine.specs.declared.Frame.{Frame}
 use Rattle.engine.specs.Step.{frame, other}
 use Rattle.engine.specs.StepLaws.{other-is, other-cases}
-use Rattle.engine.specs.Area.{putSec}
+use Rattle.engine.specs.Area.{putSec, length-putSec, sec-other}
 use Rattle.engine.specs.Sheet.{Store, Known, putAll, filled, staysTest, fills-by}
-use Rattle.rounds.specs.Area.{ROUNDS-OWN, sizeOf, at, keep, rows}
+use Rattle.rounds.specs.Area.{ROUNDS-OWN, SECTIONS, sizeOf, at, keep, rows}
 use Rattle.alone.specs.Holds.{since, storeOf}
 
 -- ---- rows by party
@@ -61,6 +62,19 @@ module _ (n l : ℕ) (val : ℕ → ℕ → List ℕ) where
     pub keep-none : staysTest (storeOf val) t u [] ≡ true → Known n l (storeOf val) u i w
     unfolding putAll
     keep-none test = filled n l (storeOf val) (omega arith) t u [] (fills-by n l (storeOf val) t u [] (λ i s. refl) tt test) i li w K
+
+    -- what is put into a section that is not due by u is no value anybody relies on
+    pub keep-free : (s : ℕ) (x : List ℕ) → staysTest (storeOf val) t u [] ≡ true → s < ROUNDS-OWN → leb (since s) u ≡ false
+        → length x ≡ sizeOf (frame n l i) s → Known n l (storeOf val) u i (keep (frame n l i) s x w)
+    unfolding keep
+    keep-free s x test ls free long =
+        let v = keep-none test in
+        let size = sizeOf (frame n l i) in
+        record {
+          long = length-putSec size SECTIONS w (K .long) s x (omega arith) long;
+          has = λ r lr ready. sec-other size SECTIONS w (K .long) r s x (omega arith)
+              (λ e. true-false (sym ready ∙ ap (λ a. leb (since a) u) e ∙ free)) long ∙ v .has r lr ready;
+        }
 
     pub keep-one : (s : ℕ) (x : List ℕ) → staysTest (storeOf val) t u (s ∷ []) ≡ true → Fit s → x ≡ val i s
         → Known n l (storeOf val) u i (keep (frame n l i) s x w)

@@ -23,13 +23,13 @@ use Rattle.message.specs.FormatLaws.{and-second, fixed}
 use Rattle.plan.specs.Plan.{kindOf, countDue, leaky}
 use Rattle.engine.specs.declared.Frame.{Frame}
 use Rattle.engine.specs.Step.{Loan}
-use Rattle.engine.specs.Area.{mem}
+use Rattle.engine.specs.Area.{mem, length-sec}
 use Rattle.engine.specs.Sheet.{staysTest}
 use Rattle.engine.specs.Plain.{isEcho}
 use Rattle.engine.specs.Honest.{before, due, plainAfter}
 use Rattle.engine.specs.Alone.{Tale}
 use Rattle.engine.specs.Alone as Alone
-use Rattle.rounds.specs.Area.{DELTA, SEED, PAIRS, MASKS, BITS, ALPHA, BETA, COMMS, JOINT, PAIR-COMMS, PAIRWISE, KEY-SUMS, SHARE-COMMS, DMS, LEAKY, ZS, ES, HS, H-COMMS, PERM, DS, TRIPLES, ROUNDS-OWN, sizes, sizeOf, at, keep}
+use Rattle.rounds.specs.Area.{DELTA, SEED, PAIRS, MASKS, BITS, ALPHA, BETA, COMMS, JOINT, PAIR-COMMS, PAIRWISE, KEY-SUMS, SHARE-COMMS, DMS, LEAKY, ZS, ES, HS, H-COMMS, PERM, DS, TRIPLES, ROUNDS-OWN, SECTIONS, sizes, sizeOf, at, keep}
 use Rattle.rounds.specs.Opening.{Args}
 use Rattle.rounds.specs.Table.{table, delta, judge, kept, held, written, lent}
 use Rattle.rounds.specs.Toss as Toss
@@ -37,12 +37,13 @@ use Rattle.rounds.specs.Fabitn as Fabitn
 use Rattle.rounds.specs.Fashare as Fashare
 use Rattle.rounds.specs.Haand as Haand
 use Rattle.rounds.specs.Flaand as Flaand
+use Rattle.rounds.specs.FlaandLaws.{length-ownComms}
 use Rattle.rounds.specs.Buckets as Buckets
 use Rattle.rounds.specs.Beaver as Beaver
 use Rattle.alone.specs.Formula as F
 use Rattle.alone.specs.Holds.{since, storeOf, hRows, dRows, tripleRows, holds, tale}
 use Rattle.alone.specs.Given.{Given}
-use Rattle.alone.specs.Base.{length-rows, has-at, Fit, keep-none, keep-one, keep-two}
+use Rattle.alone.specs.Base.{length-rows, has-at, Fit, keep-none, keep-free, keep-one, keep-two}
 use Rattle.alone.specs.Cells.{length-cells}
 use Rattle.alone.specs.HaandLaws.{length-leakyRows, length-zRows}
 use Rattle.alone.specs.FashareLaws.{length-dms, msg-12}
@@ -370,10 +371,16 @@ module _ (f : Frame) (a : Args) (q : ℕ → Loan) (m : ℕ → ℕ → List ℕ
       keep-two (f .n) (f .l) vals (due 15) (before 17) (f .i) (I .own) K HS ES _ _ refl fit-hs fit-es
       ((λ e. Flaand.hs f (delta-is K e) (bits-at K e) (leaky-at K refl e) (zs-at K refl e) (m 15)) ∙ hs-read f a strings order m I) refl
 
+  -- the own commitments wait in the own row
+  own-long : (w : List ℕ) → At (before 17) w → length (Flaand.ownComms f (at f HS w) (at f H-COMMS w)) ≡ sizeOf f H-COMMS
+  unfolding at sizeOf sizes
+  own-long w K = length-ownComms f (at f HS w) (at f H-COMMS w) (I .own) (length-sec (sizeOf f) SECTIONS w (K .long) H-COMMS (omega arith))
+
   pub send-17 : SendAt 17
   unfolding staysTest allOf mem since held written F.sent
   send-17 = record {
-    keeps = λ past z w K. stays (before 17) (due 17) K refl;
+    keeps = λ past z w K.
+        keep-free (f .n) (f .l) vals (before 17) (due 17) (f .i) (I .own) K H-COMMS _ refl (omega arith) refl (own-long w K);
     writes = λ past z w K j lj ne. ap (Flaand.commMsg f) (hs-at K refl) ∙ msg-17 f a strings order m I;
   }
 

@@ -1,5 +1,5 @@
 // The work area's layout (docs/WORK_AREA.md; crates/rounds, Area): how long each section is, where it starts, and how long the whole is. All of it
-// goes by n and l, which are public, and not by the own number i.
+// goes by n and l, which are public, and not by the own number i. And own delta, which is read from it.
 ghost use mathlib.Core.Path.{_≡_};
 ghost use Prim.Native.Nat.{ℕ, _≤_, _<_};
 ghost use lib.ListN.{length};
@@ -8,6 +8,10 @@ ghost use Rattle.plan.specs.Plan.{inRange, InRange};
 ghost use Rattle.engine.specs.Step.{frame};
 ghost use Rattle.engine.specs.Area.{off};
 ghost use Rattle.rounds.specs.Area.{sizeOf, workLen, at};
+ghost use Rattle.rounds.specs.Table as Table;
+use share::Delta;
+
+const DELTA: usize = 0;
 
 // The bytes of section s; 24 is the end.
 pub fn section_len(n: usize, l: usize, s: usize) -> usize
@@ -81,4 +85,13 @@ pub fn section(work: &[u8], n: usize, i: usize, l: usize, s: usize) -> &[u8]
     let a = section_at(n, l, s);
     let e = a + section_len(n, l, s);
     &work[a..e]
+}
+
+// Own delta.
+pub fn delta(work: &[u8], n: usize, i: usize, l: usize) -> Delta
+    requires { ⌜ InRange n l ⌝ }
+    requires { ⌜ length (now work) ≡ workLen (frame n l i) ⌝ }
+    ensures { λ r. ⌜ r .0 ≡ Table.delta (frame n l i) (now (work .entry)) ⌝ }
+{
+    Delta(block::load(section(work, n, i, l, DELTA), 0))
 }

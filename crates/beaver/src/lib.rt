@@ -21,9 +21,9 @@ ghost use Rattle.rounds.specs.Beaver as R;
 ghost use Rattle.haand.specs.Given.{Work};
 ghost use Rattle.beaver.specs.Given.{Lent};
 ghost use Rattle.beaver.specs.CheckLaws.{holds, deFault};
-use block::Block;
 use engine::Frame;
 use rounds::Fault;
+use share::Delta;
 
 // the sections that are read
 const BITS: usize = 4;
@@ -166,11 +166,11 @@ fn item_holds(
     f: Frame,
     j: usize,
     k: usize,
-    delta: Block,
+    delta: Delta,
 ) -> bool
     requires { ⌜ (Lent f (now recs) (now perm) (now triples) (now alpha) (now beta)) × (j < f .l) ⌝ }
     requires { ⌜ (k < f .n) × (8 + f .l * 34 ≤ length (now m)) ⌝ }
-    ensures { λ r. ⌜ r ≡ holds f delta (now (recs .entry)) (now (perm .entry)) (now (triples .entry)) (now (alpha .entry)) (now (beta .entry)) (now (m .entry)) k j ⌝ }
+    ensures { λ r. ⌜ r ≡ holds f (delta .0) (now (recs .entry)) (now (perm .entry)) (now (triples .entry)) (now (alpha .entry)) (now (beta .entry)) (now (m .entry)) k j ⌝ }
 {
     let x = share_at(f.n, j);
     let a = a_at(f.n, j);
@@ -191,12 +191,12 @@ fn message_holds(
     beta: &[u8],
     f: Frame,
     k: usize,
-    delta: Block,
+    delta: Delta,
 ) -> bool
     requires { ⌜ Lent f (now recs) (now perm) (now triples) (now alpha) (now beta) ⌝ }
     requires { ⌜ (k < f .n) × (8 + f .l * 34 ≤ length (now m)) ⌝ }
     ensures { λ r. ⌜ r ≡ allOf (f .l)
-        (holds f delta (now (recs .entry)) (now (perm .entry)) (now (triples .entry)) (now (alpha .entry)) (now (beta .entry)) (now (m .entry)) k) ⌝ }
+        (holds f (delta .0) (now (recs .entry)) (now (perm .entry)) (now (triples .entry)) (now (alpha .entry)) (now (beta .entry)) (now (m .entry)) k) ⌝ }
 {
     let count = f.l;
     let mut ok = true;
@@ -220,11 +220,11 @@ fn fault_of(
     lens: &[usize],
     f: Frame,
     k: usize,
-    delta: Block,
+    delta: Delta,
 ) -> u8
     requires { ⌜ (Lent f (now recs) (now perm) (now triples) (now alpha) (now beta)) × (k < f .n) ⌝ }
     requires { ⌜ Mail.Arrived (f .n) (f .i) (8 + f .l * 34) (now incoming) (now starts) (now lens) ⌝ }
-    ensures { λ r. ⌜ r ≡ faultAt (f .i) (deFault f delta (now (recs .entry)) (now (perm .entry)) (now (triples .entry)) (now (alpha .entry)) (now (beta .entry))
+    ensures { λ r. ⌜ r ≡ faultAt (f .i) (deFault f (delta .0) (now (recs .entry)) (now (perm .entry)) (now (triples .entry)) (now (alpha .entry)) (now (beta .entry))
         (Mail.letter (now (incoming .entry)) (now (starts .entry)) (now (lens .entry)))) k ⌝ }
 {
     if k == f.i {
@@ -249,11 +249,11 @@ fn first_fault(
     starts: &[usize],
     lens: &[usize],
     f: Frame,
-    delta: Block,
+    delta: Delta,
 ) -> Fault
     requires { ⌜ Lent f (now recs) (now perm) (now triples) (now alpha) (now beta) ⌝ }
     requires { ⌜ Mail.Arrived (f .n) (f .i) (8 + f .l * 34) (now incoming) (now starts) (now lens) ⌝ }
-    ensures { λ r. ⌜ Finds (r .code) (r .party) (R.deFaults f delta
+    ensures { λ r. ⌜ Finds (r .code) (r .party) (R.deFaults f (delta .0)
         (now (recs .entry)) (now (perm .entry)) (now (triples .entry)) (now (alpha .entry)) (now (beta .entry))
         (Mail.letter (now (incoming .entry)) (now (starts .entry)) (now (lens .entry)))) ⌝ }
 {
@@ -287,7 +287,7 @@ fn first_fault(
 // Round 22: 12 with the first party of which a MAC of a d or an e isn't the key, plus delta where the bit is 1.
 pub fn check_faand(
     work: &[u8],
-    delta: Block,
+    delta: Delta,
     incoming: &[u8],
     starts: &[usize],
     lens: &[usize],
@@ -297,7 +297,7 @@ pub fn check_faand(
 ) -> Fault
     requires { ⌜ Work n i l (now work) ⌝ }
     requires { ⌜ Received (Items 34 2) l n i (now incoming) (now starts) (now lens) ⌝ }
-    ensures { λ r. ⌜ Finds (r .code) (r .party) (R.deFaults (frame n l i) delta
+    ensures { λ r. ⌜ Finds (r .code) (r .party) (R.deFaults (frame n l i) (delta .0)
         (Area.at (frame n l i) Area.BITS (now (work .entry))) (Area.at (frame n l i) Area.PERM (now (work .entry)))
         (Area.at (frame n l i) Area.TRIPLES (now (work .entry))) (Area.at (frame n l i) Area.ALPHA (now (work .entry)))
         (Area.at (frame n l i) Area.BETA (now (work .entry)))

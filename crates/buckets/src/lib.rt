@@ -1,9 +1,10 @@
 // The buckets of leaky ANDs, round 21. From `faand` and `check_dvalue` of src/mpc/faand.rs. The permutation is public; bits, MACs, keys and delta
 // decide no branch and no index.
 ghost use mathlib.Core.Path.{_≡_};
-ghost use Prim.Native.Nat.{ℕ, _+_, _-_, _*_, _<_, _≤_};
+ghost use Prim.Native.Nat.{_+_, _-_, _*_, _<_, _≤_};
 ghost use mathlib.Core.List.{_++_};
 ghost use lib.ListN.{length, getD, replicate};
+ghost use Rattle.lists.specs.Over.{cat};
 ghost use Rattle.algebra.specs.Group.{XorGroup, bits, sel, odd};
 ghost use Rattle.algebra.specs.Sum.{neq};
 ghost use Rattle.block.specs.Block.{blockAt, eqBlock};
@@ -75,15 +76,15 @@ pub fn mac_holds(
     t: &[u8],
     b: usize,
     k: usize,
-    delta: Block,
+    delta: Delta,
 ) -> bool
     requires { ⌜ («bit_at» < length (now m)) × («mac_at» + 16 ≤ length (now m)) ⌝ }
     requires { ⌜ (k < 8) × (a + recordLen (k + 1) ≤ length (now s)) × (b + recordLen (k + 1) ≤ length (now t)) ⌝ }
     ensures { λ r. ⌜ r ≡ eqBlock (blockAt (now (m .entry)) «mac_at») (blocks .op
-        (shares .op (shareAt (now (s .entry)) a) (shareAt (now (t .entry)) b) .key k) (sel blocks (odd (getD (now (m .entry)) «bit_at» 0)) delta)) ⌝ }
+        (shares .op (shareAt (now (s .entry)) a) (shareAt (now (t .entry)) b) .key k) (sel blocks (odd (getD (now (m .entry)) «bit_at» 0)) (delta .0))) ⌝ }
 {
     let key = sum_key(s, a, t, b, k);
-    let mac = key.xor_delta(Delta(delta).times(block::bit(m, bit_at)));
+    let mac = key.xor_delta(delta.times(block::bit(m, bit_at)));
     block::load(m, mac_at).equals(mac.0)
 }
 
@@ -114,10 +115,10 @@ fn store4(out: &mut [u8], v: u32)
     out[3] = (v / 0x100_0000 % 256) as u8;
 }
 
-// Keeps the permutation.
+// Keeps the permutation, 4 bytes a number.
 pub fn keep_perm(section: &mut [u8], perm: &[u32])
     requires { ⌜ length (now section) ≡ length (now perm) * 4 ⌝ }
-    ensures { λ _. ⌜ ((n l i : ℕ) → length (now (perm .entry)) ≡ leaky l → now (section .exit) ≡ B.permBytes (frame n l i) (now (perm .entry))) ⌝ }
+    ensures { λ _. ⌜ now (section .exit) ≡ cat (length (now (perm .entry))) (λ t. B.le4 (getD (now (perm .entry)) t 0)) ⌝ }
 {
     let mut t = 0;
     while t < perm.len() {
@@ -224,7 +225,7 @@ fn bucket_holds(
     m: &[u8],
     recs: &[u8],
     perm: &[u8],
-    delta: Block,
+    delta: Delta,
     f: Frame,
     k: usize,
     j: usize,
@@ -232,7 +233,7 @@ fn bucket_holds(
     requires { ⌜ Ranged f ⌝ }
     requires { ⌜ Lent f (now recs) (now perm) ⌝ }
     requires { ⌜ (j < f .l) × (k < f .n) × (told f ≤ length (now m)) ⌝ }
-    ensures { λ r. ⌜ r ≡ bucketHolds f delta (now (recs .entry)) (now (perm .entry)) (now (m .entry)) k j ⌝ }
+    ensures { λ r. ⌜ r ≡ bucketHolds f (delta .0) (now (recs .entry)) (now (perm .entry)) (now (m .entry)) k j ⌝ }
 {
     let due = plan::bucket_size(f.l) - 1;
     let bits = bucket_at(f, j) + 8;
@@ -260,11 +261,11 @@ fn bucket_holds(
 }
 
 // Whether all MACs in it are: all are looked at.
-fn message_holds(m: &[u8], recs: &[u8], perm: &[u8], delta: Block, f: Frame, k: usize) -> bool
+fn message_holds(m: &[u8], recs: &[u8], perm: &[u8], delta: Delta, f: Frame, k: usize) -> bool
     requires { ⌜ Ranged f ⌝ }
     requires { ⌜ Lent f (now recs) (now perm) ⌝ }
     requires { ⌜ (k < f .n) × (told f ≤ length (now m)) ⌝ }
-    ensures { λ r. ⌜ r ≡ messageHolds f delta (now (recs .entry)) (now (perm .entry)) (now (m .entry)) k ⌝ }
+    ensures { λ r. ⌜ r ≡ messageHolds f (delta .0) (now (recs .entry)) (now (perm .entry)) (now (m .entry)) k ⌝ }
 {
     let count = f.l;
     let mut ok = true;
@@ -280,7 +281,7 @@ fn message_holds(m: &[u8], recs: &[u8], perm: &[u8], delta: Block, f: Frame, k: 
 fn d_fault(
     recs: &[u8],
     perm: &[u8],
-    delta: Block,
+    delta: Delta,
     incoming: &[u8],
     starts: &[usize],
     lens: &[usize],
@@ -292,7 +293,7 @@ fn d_fault(
     requires { ⌜ (Ranged (frame n l i)) × (k < n) ⌝ }
     requires { ⌜ Lent (frame n l i) (now recs) (now perm) ⌝ }
     requires { ⌜ Received (Kind.Dvalues (bucketSize l - 1)) l n i (now incoming) (now starts) (now lens) ⌝ }
-    ensures { λ r. ⌜ r ≡ faultAt i (dFault (frame n l i) delta (now (recs .entry)) (now (perm .entry))
+    ensures { λ r. ⌜ r ≡ faultAt i (dFault (frame n l i) (delta .0) (now (recs .entry)) (now (perm .entry))
         (Mail.letter (now (incoming .entry)) (now (starts .entry)) (now (lens .entry)))) k ⌝ }
 {
     if k == i {
@@ -311,7 +312,7 @@ fn d_fault(
 pub fn check_dvalues(
     recs: &[u8],
     perm: &[u8],
-    delta: Block,
+    delta: Delta,
     incoming: &[u8],
     starts: &[usize],
     lens: &[usize],
@@ -322,7 +323,7 @@ pub fn check_dvalues(
     requires { ⌜ Ranged (frame n l i) ⌝ }
     requires { ⌜ Lent (frame n l i) (now recs) (now perm) ⌝ }
     requires { ⌜ Received (Kind.Dvalues (bucketSize l - 1)) l n i (now incoming) (now starts) (now lens) ⌝ }
-    ensures { λ r. ⌜ Finds (r .code) (r .party) (B.dFaults (frame n l i) delta (now (recs .entry)) (now (perm .entry))
+    ensures { λ r. ⌜ Finds (r .code) (r .party) (B.dFaults (frame n l i) (delta .0) (now (recs .entry)) (now (perm .entry))
         (Mail.letter (now (incoming .entry)) (now (starts .entry)) (now (lens .entry)))) ⌝ }
 {
     let mut k = 0;

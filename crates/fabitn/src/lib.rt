@@ -143,7 +143,7 @@ fn keep_row(
     write_blocks(&mut work[a..e], &sums);
 }
 
-// Keeps the key sums of all others in the work area, "so that r is needed in one call alone".
+// Keeps the key sums of all others in the work area, so that r is needed in one call alone.
 pub fn keep_key_sums(
     work: &mut [u8],
     recs_at: usize,
@@ -167,21 +167,21 @@ pub fn keep_key_sums(
 }
 
 // 8 where the sum of MACs that party k sent for string j, in its message m, isn't the sum of its keys, plus delta where its bit is 1.
-fn abit_fault(delta: Block, sums: &[u8], m: &[u8], j: usize, k: usize) -> u8
+fn abit_fault(delta: Delta, sums: &[u8], m: &[u8], j: usize, k: usize) -> u8
     requires { ⌜ (j < 120) × (2048 ≤ length (now m)) ⌝ }
     requires { ⌜ (k * 120 + j) * 16 + 16 ≤ length (now sums) ⌝ }
-    ensures { λ r. ⌜ r ≡ Fabitn.abitFault delta (now (sums .entry)) (λ _. now (m .entry)) j k ⌝ }
+    ensures { λ r. ⌜ r ≡ Fabitn.abitFault (delta .0) (now (sums .entry)) (λ _. now (m .entry)) j k ⌝ }
 {
     let key = Key(block::load(sums, (k * 120 + j) * 16));
     let bit = block::bit(m, 8 + j * 17);
     let mac = Mac(block::load(m, 9 + j * 17));
-    let due = key.xor_delta(Delta(delta).times(bit));
+    let due = key.xor_delta(delta.times(bit));
     if mac.0.equals(due.0) { 0 } else { 8 }
 }
 
 // The fault of party k at string j; the own number has none.
 fn party_fault(
-    delta: Block,
+    delta: Delta,
     sums: &[u8],
     incoming: &[u8],
     starts: &[usize],
@@ -193,7 +193,7 @@ fn party_fault(
     requires { ⌜ (j < 120) × (k < length (now starts)) ⌝ }
     requires { ⌜ length (now sums) ≡ length (now starts) * 1920 ⌝ }
     requires { ⌜ Arrived (length (now starts)) i 2048 (now incoming) (now starts) (now lens) ⌝ }
-    ensures { λ r. ⌜ r ≡ pick (neq i k) (Fabitn.abitFault delta (now (sums .entry)) (letter (now (incoming .entry)) (now (starts .entry)) (now (lens .entry))) j k) 0 ⌝ }
+    ensures { λ r. ⌜ r ≡ pick (neq i k) (Fabitn.abitFault (delta .0) (now (sums .entry)) (letter (now (incoming .entry)) (now (starts .entry)) (now (lens .entry))) j k) 0 ⌝ }
 {
     if i == k {
         return 0;
@@ -204,7 +204,7 @@ fn party_fault(
 
 // The first fault of string j, party by party.
 fn check_string(
-    delta: Block,
+    delta: Delta,
     sums: &[u8],
     incoming: &[u8],
     starts: &[usize],
@@ -217,7 +217,7 @@ fn check_string(
     requires { ⌜ length (now sums) ≡ n * 1920 ⌝ }
     requires { ⌜ Arrived n i 2048 (now incoming) (now starts) (now lens) ⌝ }
     ensures { λ r. ⌜ ((l : ℕ) → Told (r .code) (r .party) (byParty (frame n l i)
-        (Fabitn.abitFault delta (now (sums .entry)) (letter (now (incoming .entry)) (now (starts .entry)) (now (lens .entry))) j))) ⌝ }
+        (Fabitn.abitFault (delta .0) (now (sums .entry)) (letter (now (incoming .entry)) (now (starts .entry)) (now (lens .entry))) j))) ⌝ }
 {
     let mut k = 0;
     while k < n {
@@ -235,7 +235,7 @@ fn check_string(
 
 // The content of the messages, string by string: 8 for a wrong MAC.
 pub fn check_abits(
-    delta: Block,
+    delta: Delta,
     sums: &[u8],
     incoming: &[u8],
     starts: &[usize],
@@ -245,7 +245,7 @@ pub fn check_abits(
 ) -> Fault
     requires { ⌜ length (now sums) ≡ n * 1920 ⌝ }
     requires { ⌜ Arrived n i 2048 (now incoming) (now starts) (now lens) ⌝ }
-    ensures { λ r. ⌜ ((l : ℕ) → Told (r .code) (r .party) (Fabitn.abits (frame n l i) delta (now (sums .entry))
+    ensures { λ r. ⌜ ((l : ℕ) → Told (r .code) (r .party) (Fabitn.abits (frame n l i) (delta .0) (now (sums .entry))
         (letter (now (incoming .entry)) (now (starts .entry)) (now (lens .entry))))) ⌝ }
 {
     let mut j = 0;

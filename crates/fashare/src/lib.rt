@@ -1,10 +1,10 @@
 // Round 8, the commitments of `fashare` (document 01, "What each round means"; `fashare` of src/mpc/faand.rs); rounds 10 and 12 are the crates
 // fashare_ver and fashare_open. The definitions are those of crate rounds, specs/Fashare.antt. Bits, MACs, keys and delta decide no branch and no index.
 ghost use mathlib.Core.Path.{_≡_};
-ghost use Prim.Native.Nat.{ℕ, _+_, _-_, _*_, _%_, _<_, _≤_};
-ghost use lib.ListN.{length, getD, take, drop, replicate};
+ghost use Prim.Native.Nat.{ℕ, _+_, _-_, _*_, _<_, _≤_};
+ghost use lib.ListN.{length, take, drop, replicate};
 ghost use Rattle.lists.specs.Pick.{pick};
-ghost use Rattle.lists.specs.Over.{tab};
+ghost use Rattle.lists.specs.Over.{cat};
 ghost use Rattle.algebra.specs.Sum.{neq};
 ghost use Rattle.blake3.specs.Tree as T;
 ghost use Rattle.share.specs.Record.{recordLen};
@@ -19,43 +19,6 @@ use blake3::Digest;
 use block::Block;
 use share::Delta;
 use share::Key;
-
-// ---- buffers
-
-// Copies s.
-fn copy(out: &mut [u8], s: &[u8])
-    requires { ⌜ length (now out) ≡ length (now s) ⌝ }
-    ensures { λ _. ⌜ now (out .exit) ≡ now (s .entry) ⌝ }
-{
-    let mut t = 0;
-    while t < s.len() {
-        out[t] = s[t];
-        t += 1;
-    }
-}
-
-fn zero(out: &mut [u8])
-    ensures { λ _. ⌜ now (out .exit) ≡ replicate (length (now (out .entry))) 0 ⌝ }
-{
-    let mut t = 0;
-    while t < out.len() {
-        out[t] = 0;
-        t += 1;
-    }
-}
-
-// The first `len` bytes once more and once more, up to the end: the same message for each other party.
-fn repeat(out: &mut [u8], len: usize)
-    requires { ⌜ (0 < len) × (len ≤ length (now out)) ⌝ }
-    ensures { λ _. ⌜ now (out .exit) ≡ tab (length (now (out .entry))) (λ t. getD (now (out .entry)) (t % len) 0) ⌝ }
-{
-    let mut t = len;
-    while t < out.len() {
-        let again = out[t - len];
-        out[t] = again;
-        t += 1;
-    }
-}
 
 // ---- what is committed to
 
@@ -115,42 +78,42 @@ fn dm_digest(recs: &[u8], n: usize, i: usize, l: usize, q: usize) -> Digest
 }
 
 // "Send BLAKE3 of d0, d1, dm": the three commitments of string q.
-fn write_comm(out: &mut [u8], recs: &[u8], delta: Block, n: usize, i: usize, l: usize, q: usize)
+fn write_comm(out: &mut [u8], recs: &[u8], delta: Delta, n: usize, i: usize, l: usize, q: usize)
     requires { ⌜ length (now out) ≡ 96 ⌝ }
     requires { ⌜ (q < 40) × Given n i l (now recs) ⌝ }
-    ensures { λ _. ⌜ now (out .exit) ≡ commItem (frame n l i) delta (now (recs .entry)) q ⌝ }
+    ensures { λ _. ⌜ now (out .exit) ≡ commItem (frame n l i) (delta .0) (now (recs .entry)) q ⌝ }
 {
     let key = Key(d0(recs, n, i, l, q));
-    let mac = key.xor_delta(Delta(delta));
+    let mac = key.xor_delta(delta);
     blake3::hash_block(key.0).store(&mut out[0..32]);
     blake3::hash_block(mac.0).store(&mut out[32..64]);
     dm_digest(recs, n, i, l, q).store(&mut out[64..96]);
 }
 
-// The message of round 8.
-fn write_comm_msg(out: &mut [u8], recs: &[u8], delta: Block, n: usize, i: usize, l: usize)
-    requires { ⌜ length (now out) ≡ 3848 ⌝ }
+// The commitments of all strings.
+fn comms(recs: &[u8], delta: Delta, n: usize, i: usize, l: usize) -> [u8; 3840]
     requires { ⌜ Given n i l (now recs) ⌝ }
-    ensures { λ _. ⌜ now (out .exit) ≡ S.commMsg (frame n l i) delta (now (recs .entry)) ⌝ }
+    ensures { λ r. ⌜ r ≡ cat 40 (commItem (frame n l i) (delta .0) (now (recs .entry))) ⌝ }
 {
-    encode::put_count(&mut out[0..8], 40);
+    let mut all = [0u8; 3840];
     let mut q = 0;
     while q < 40 {
-        let a = 8 + q * 96;
+        let a = q * 96;
         let e = a + 96;
-        write_comm(&mut out[a..e], recs, delta, n, i, l, q);
+        write_comm(&mut all[a..e], recs, delta, n, i, l, q);
         q += 1;
     }
+    all
 }
 
-// Round 8: the same message to every other party.
-pub fn write_comms(out: &mut [u8], recs: &[u8], delta: Block, n: usize, i: usize, l: usize)
+// Round 8: the same message to every other party. It is hashed once.
+pub fn write_comms(out: &mut [u8], recs: &[u8], delta: Delta, n: usize, i: usize, l: usize)
     requires { ⌜ length (now out) ≡ (n - 1) * msgLen n l 8 ⌝ }
     requires { ⌜ Given n i l (now recs) ⌝ }
-    ensures { λ _. ⌜ now (out .exit) ≡ toOthers n i (λ r. S.commMsg (frame n l i) delta (now (recs .entry))) ⌝ }
+    ensures { λ _. ⌜ now (out .exit) ≡ toOthers n i (λ r. S.commMsg (frame n l i) (delta .0) (now (recs .entry))) ⌝ }
 {
-    write_comm_msg(&mut out[0..3848], recs, delta, n, i, l);
-    repeat(out, 3848);
+    let all = comms(recs, delta, n, i, l);
+    haand::write_same(out, 40, &all, n);
 }
 
 // Row k of the commitments: what party k sent, behind the count; zero for the own number.
@@ -160,10 +123,10 @@ fn comm_row(row: &mut [u8], incoming: &[u8], starts: &[usize], lens: &[usize], i
     ensures { λ _. ⌜ now (row .exit) ≡ pick (neq i k) (take 3840 (drop 8 (letter (now (incoming .entry)) (now (starts .entry)) (now (lens .entry)) k))) (replicate 3840 0) ⌝ }
 {
     if i == k {
-        zero(row);
+        haand::clear(row);
     } else {
         let m = rounds::letter(incoming, starts, lens, k);
-        copy(row, &m[8..3848]);
+        haand::copy(row, &m[8..3848]);
     }
 }
 

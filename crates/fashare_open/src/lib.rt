@@ -74,22 +74,22 @@ fn others_bit(dms: &[u8], n: usize, i: usize, q: usize) -> bool
 }
 
 // d0 where the others' bits add to 0, else d1: delta is added by a product, so that no bit decides a branch.
-fn opened(recs: &[u8], dms: &[u8], delta: Block, n: usize, i: usize, l: usize, q: usize) -> Block
+fn opened(recs: &[u8], dms: &[u8], delta: Delta, n: usize, i: usize, l: usize, q: usize) -> Block
     requires { ⌜ (q < 40) × Given n l (now recs) (now dms) ⌝ }
     ensures { λ r. ⌜ r ≡ blocks .op (Fashare.d0 (frame n l i) (now (recs .entry)) q)
-        (sel blocks (Fashare.others1 (frame n l i) (now (dms .entry)) q) delta) ⌝ }
+        (sel blocks (Fashare.others1 (frame n l i) (now (dms .entry)) q) (delta .0)) ⌝ }
 {
     let key = Key(d0(recs, n, i, l, q));
     let bit = others_bit(dms, n, i, q);
-    let mac = key.xor_delta(Delta(delta).times(bit));
+    let mac = key.xor_delta(delta.times(bit));
     mac.0
 }
 
 // The message, which is the same to all.
-fn write_msg(out: &mut [u8], recs: &[u8], dms: &[u8], delta: Block, n: usize, i: usize, l: usize)
+fn write_msg(out: &mut [u8], recs: &[u8], dms: &[u8], delta: Delta, n: usize, i: usize, l: usize)
     requires { ⌜ length (now out) ≡ 648 ⌝ }
     requires { ⌜ Given n l (now recs) (now dms) ⌝ }
-    ensures { λ _. ⌜ now (out .exit) ≡ Fashare.dibiMsg (frame n l i) delta (now (recs .entry)) (now (dms .entry)) ⌝ }
+    ensures { λ _. ⌜ now (out .exit) ≡ Fashare.dibiMsg (frame n l i) (delta .0) (now (recs .entry)) (now (dms .entry)) ⌝ }
 {
     encode::put_count(&mut out[0..8], 40);
     let mut q = 0;
@@ -106,14 +106,14 @@ pub fn write_dibi(
     out: &mut [u8],
     recs: &[u8],
     dms: &[u8],
-    delta: Block,
+    delta: Delta,
     n: usize,
     i: usize,
     l: usize,
 )
     requires { ⌜ length (now out) ≡ (n - 1) * msgLen n l 12 ⌝ }
     requires { ⌜ Given n l (now recs) (now dms) ⌝ }
-    ensures { λ _. ⌜ now (out .exit) ≡ toOthers n i (λ k. Fashare.dibiMsg (frame n l i) delta (now (recs .entry)) (now (dms .entry))) ⌝ }
+    ensures { λ _. ⌜ now (out .exit) ≡ toOthers n i (λ k. Fashare.dibiMsg (frame n l i) (delta .0) (now (recs .entry)) (now (dms .entry))) ⌝ }
 {
     let last = n - 1;
     let mut t = 0;

@@ -1,104 +1,27 @@
--- Rounds 17 and 19: one message for all others, and the checks of h item by item.
-use mathlib.Core.Path.{_≡_, refl, sym, ap, ap₂, _∙_, subst}
+-- Round 19: the checks of h, item by item.
+use mathlib.Core.Path.{_≡_, refl, sym, ap₂, _∙_, subst}
 use mathlib.Core.Logic.{_≢_}
 use mathlib.Core.Bool.{Bool, true, false, _&&_}
-use mathlib.Core.List.{List, [], _++_, append-assoc, append-nil}
-use Prim.Native.Nat.{ℕ, zero, suc, _+_, _-_, _*_, _<_, _≤_}
-use native.Mathlib.Nat.{zero-mul, suc-mul, mul-assoc}
+use mathlib.Core.List.{List}
+use Prim.Native.Nat.{ℕ, zero, _+_, _*_, _<_, _≤_}
+use native.Mathlib.Nat.{mul-assoc}
 use native.Mathlib.Omega.{arith}
-use lib.ListN.{length, getD, take, drop, set, length-append, length-drop, take-append-drop, List·getD-append}
-use lib.Seq.{getD-append-add, getD-take, take-at, length-take-le}
-use borrow.Rule.Slice.PartMut.{putMid}
+use lib.ListN.{take, drop}
 use Rattle.lists.specs.Pick.{pick}
 use Rattle.lists.specs.All.{allOf, all-turn}
-use Rattle.lists.specs.Over.{cat, length-cat, in-chunks, copy-turn, copy-end}
-use Rattle.lists.specs.Same.{same?, same-true, same-false, same-eq}
+use Rattle.lists.specs.Over.{in-chunks}
+use Rattle.lists.specs.Same.{same?, same-true, same-false}
 use Rattle.algebra.specs.Group.{XorGroup}
 use Rattle.algebra.specs.Sum.{others}
 use Rattle.block.specs.Block.{blockAt, bytesOf, eqBlock}
 use Rattle.block.specs.Group.{blocks}
-use Rattle.block.specs.Trip.{length-bytesOf}
 use Rattle.blake3.specs.Tree.{hash}
-use Rattle.blake3.specs.ByteLaws.{length-bytes}
-use Rattle.encode.specs.Coded.{length-encode}
 use Rattle.plan.specs.Plan.{leaky}
 use Rattle.engine.specs.declared.Frame.{Frame}
-use Rattle.engine.specs.Step.{Fault, frame, orElse, byParty}
+use Rattle.engine.specs.Step.{byParty}
 use Rattle.engine.specs.StepLaws.{or-none, or-first}
-use Rattle.engine.specs.Area.{toOthers}
 use Rattle.rounds.specs.FaultLaws.{Finds}
-use Rattle.rounds.specs.Flaand.{commMsg, hashMsg, hTold, opening, zeroSum, hFaults}
-
--- ---- the messages
-pub length-hash : (s : List ℕ) → length (hash s) ≡ 32
-unfolding hash
-length-hash s = length-bytes _
-
-pub length-hashMsg : (f : Frame) (own : List ℕ) → length (hashMsg f own) ≡ 8 + leaky (f .l) * 16
-unfolding hashMsg
-length-hashMsg f own = length-encode 16 (leaky (f .l)) _ (λ t h. length-bytesOf (blockAt own (t * 16)))
-
-pub length-commMsg : (f : Frame) (own : List ℕ) → length (commMsg f own) ≡ 8 + leaky (f .l) * 32
-unfolding commMsg
-length-commMsg f own = length-encode 32 (leaky (f .l)) _ (λ t h. length-hash (bytesOf (blockAt own (t * 16))))
-
--- ---- the same list c times over
-cat-front : (c : ℕ) (m : List ℕ) → cat (suc c) (λ (_ : ℕ). m) ≡ m ++ cat c (λ (_ : ℕ). m)
-unfolding cat
-cat-front zero m = sym (append-nil m)
-cat-front (suc c) m = ap (λ (x : List ℕ). x ++ m) (cat-front c m) ∙ append-assoc m (cat c (λ (_ : ℕ). m)) m
-
--- the first len bytes of o, as often as o is long
-module _ (len : ℕ) (o : List ℕ) (some : 0 < len) (k : len ≤ length o) where
-  abbrev again : ℕ → List ℕ
-  again c = cat c (λ (_ : ℕ). take len o)
-
-  length-again : (c : ℕ) → length (again c) ≡ c * len
-  length-again c = length-cat c len (λ (_ : ℕ). take len o) (λ j h. length-take-le len o k)
-
-  pub again-none : (c : ℕ) → length o ≡ c * len → o ≡ take len (again c) ++ drop len o
-  again-none zero h = absurd (omega (arith, zero-mul len))
-  again-none (suc c) h =
-      sym (ap (λ (x : List ℕ). take len x ++ drop len o) (cat-front c (take len o))
-      ∙ ap (λ (x : List ℕ). x ++ drop len o) (take-at (take len o) (again c) len (length-take-le len o k)) ∙ take-append-drop len o)
-
-  -- what stands at j stands len before it
-  again-at : (c j : ℕ) → len ≤ j → j < c * len → getD (again c) (j - len) 0 ≡ getD (again c) j 0
-  unfolding cat
-  again-at zero j l h = absurd (omega (arith, zero-mul len))
-  again-at (suc c) j l h =
-      let n : length (take len o) ≡ len = length-take-le len o k in
-      List·getD-append (again c) (take len o) 0 (j - len) (omega (arith, length-again c, suc-mul c len))
-      ∙ sym (ap (λ (x : List ℕ). getD x j 0) (cat-front c (take len o))
-      ∙ ap (λ i. getD (take len o ++ again c) i 0) (let w : j ≡ length (take len o) + (j - len) = omega arith in w)
-      ∙ getD-append-add (take len o) (again c) (j - len) 0)
-
-  pub again-turn : (c j : ℕ) (d : List ℕ) → length o ≡ c * len → len ≤ j → j < length o → d ≡ take j (again c) ++ drop j o
-      → set d j (getD d (j - len) 0) ≡ take (j + 1) (again c) ++ drop (j + 1) o
-  again-turn c j d h l b e =
-      let n : length (take j (again c)) ≡ j = length-take-le j (again c) (omega (arith, length-again c)) in
-      ap (set d j)
-      (ap (λ (x : List ℕ). getD x (j - len) 0) e ∙ List·getD-append (take j (again c)) (drop j o) 0 (j - len) (omega arith)
-      ∙ getD-take j (again c) (j - len) 0 (omega arith) ∙ again-at c j l (omega arith))
-      ∙ copy-turn (again c) o d j (omega (arith, length-again c)) b e
-
-  pub again-end : (c j : ℕ) (d : List ℕ) → length o ≡ c * len → length o ≤ j → d ≡ take j (again c) ++ drop j o → d ≡ cat c (λ (_ : ℕ). take len o)
-  again-end c j d h l e = copy-end (again c) o d j (omega (arith, length-again c)) l e
-
--- a message of `size` bytes is written in front, through `&mut o[0..len]`, and then again for each other party
-module _ (n size len k : ℕ) (o x msg : List ℕ) (two : 2 ≤ n) (is : len ≡ size) (h : length o ≡ (n - 1) * size) where
-  pub front-in : len ≤ length o
-  front-in = omega (arith, in-chunks 0 (n - 1) size (omega arith), zero-mul size)
-
-  pub front-length : k ≡ len → x ≡ msg → length msg ≡ size → length (putMid 0 k o x) ≡ (n - 1) * len
-  front-length e hx long = length-append x (drop k o) ∙ ap₂ _+_ (ap length hx ∙ long) (length-drop k o) ∙ omega (arith, front-in, ap (λ m. (n - 1) * m) is)
-
-  pub all-told : (i : ℕ) (d : List ℕ) → k ≡ len → x ≡ msg → length msg ≡ size
-      → ((c : ℕ) → length (putMid 0 k o x) ≡ c * len → d ≡ cat c (λ (_ : ℕ). take len (putMid 0 k o x))) → d ≡ toOthers n i (λ (_ : ℕ). msg)
-  unfolding toOthers
-  all-told i d e hx long told =
-      told (n - 1) (front-length e hx long)
-      ∙ ap (λ (m : List ℕ). cat (n - 1) (λ (_ : ℕ). m)) (take-at x (drop k o) len (ap length hx ∙ long ∙ sym is) ∙ hx)
+use Rattle.rounds.specs.Flaand.{hTold, opening, zeroSum, hFaults}
 
 -- ---- the checks of round 19
 -- each h in the message of party k opens its commitment

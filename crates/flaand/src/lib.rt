@@ -2,18 +2,20 @@
 // specs/Flaand.antt. What was hashed of the x keys and MACs stands in the rows that `fhaand` kept (crate haand).
 // Bits, MACs, keys, delta, z and h are secret: they decide no branch and no index. What a check found is public.
 ghost use mathlib.Core.Path.{_≡_};
-ghost use Prim.Native.Nat.{ℕ, _+_, _-_, _*_, _<_, _≤_};
+ghost use mathlib.Core.List.{_++_};
+ghost use Prim.Native.Nat.{_+_, _-_, _*_, _<_, _≤_};
 ghost use lib.ListN.{length, getD, take, drop};
-ghost use Rattle.lists.specs.Over.{cat, tab};
+ghost use Rattle.lists.specs.Over.{tab};
 ghost use Rattle.algebra.specs.Group.{XorGroup, sel, odd, num};
 ghost use Rattle.algebra.specs.Sum.{neq, others};
+ghost use Rattle.block.specs.Block.{le8};
 ghost use Rattle.block.specs.Group.{blocks};
 ghost use Rattle.share.specs.Record.{recordLen, macAt, keyAt};
 ghost use Rattle.encode.specs.Encode.{bitBlock};
 ghost use Rattle.plan.specs.Plan as Plan;
 ghost use Rattle.engine.specs.Step.{frame};
 ghost use Rattle.engine.specs.Area.{toOthers};
-ghost use Rattle.rounds.specs.Area.{BITS, LEAKY, ZS, HS, leakyLen, at, keep};
+ghost use Rattle.rounds.specs.Area.{BITS, LEAKY, ZS, HS, H-COMMS, leakyLen, at, keep};
 ghost use Rattle.rounds.specs.Loops.{rowOf};
 ghost use Rattle.rounds.specs.Mail as Mail;
 ghost use Rattle.rounds.specs.Haand as R;
@@ -25,75 +27,45 @@ ghost use Rattle.flaand.specs.Laws.{opens, openFault, summed};
 ghost use Rattle.flaand.specs.HLaws.{zTerm, hashesAt, maskedAt};
 use block::Block;
 use rounds::Fault;
+use share::Delta;
 
 // ---- rounds 17 and 19: h is committed to, then sent
 
-// The first `len` bytes again and again, to the end.
-fn repeat(out: &mut [u8], len: usize)
-    requires { ⌜ (0 < len) × (len ≤ length (now out)) ⌝ }
-    ensures { λ _. ⌜ ((c : ℕ) → length (now (out .entry)) ≡ c * len → now (out .exit) ≡ cat c (λ _. take len (now (out .entry)))) ⌝ }
-{
-    let mut j = len;
-    while j < out.len() {
-        out[j] = out[j - len];
-        j += 1;
-    }
-}
-
-// The message of round 19.
-fn put_hs(out: &mut [u8], hs: &[u8], n: usize, i: usize, l: usize)
-    requires { ⌜ length (now out) ≡ 8 + Plan.leaky l * 16 ⌝ }
-    requires { ⌜ Hashes n i l (now hs) ⌝ }
-    ensures { λ _. ⌜ now (out .exit) ≡ F.hashMsg (frame n l i) (now (hs .entry)) ⌝ }
-{
-    let count = plan::leaky(l);
-    encode::put_count(&mut out[0..8], count);
-    let mut t = 0;
-    while t < count {
-        let a = 8 + t * 16;
-        let e = a + 16;
-        block::store(&mut out[a..e], block::load(hs, t * 16));
-        t += 1;
-    }
-}
-
-// Round 19: the same message to all others.
+// Round 19: the same message to all others, from HS.
 pub fn write_hs(out: &mut [u8], hs: &[u8], n: usize, i: usize, l: usize)
     requires { ⌜ length (now out) ≡ (n - 1) * (8 + Plan.leaky l * 16) ⌝ }
     requires { ⌜ Hashes n i l (now hs) ⌝ }
     ensures { λ _. ⌜ now (out .exit) ≡ toOthers n i (λ k. F.hashMsg (frame n l i) (now (hs .entry))) ⌝ }
 {
-    let len = 8 + plan::leaky(l) * 16;
-    put_hs(&mut out[0..len], hs, n, i, l);
-    repeat(out, len);
+    haand::write_same(out, plan::leaky(l), hs, n);
 }
 
-// The message of round 17.
-fn put_h_comms(out: &mut [u8], hs: &[u8], n: usize, i: usize, l: usize)
-    requires { ⌜ length (now out) ≡ 8 + Plan.leaky l * 32 ⌝ }
-    requires { ⌜ Hashes n i l (now hs) ⌝ }
-    ensures { λ _. ⌜ now (out .exit) ≡ F.commMsg (frame n l i) (now (hs .entry)) ⌝ }
+// Round 17: each h is hashed once. The commitments stand in the own row of H-COMMS, which starts at `comms`; HS starts at `hs`.
+pub fn hold_h_comms(work: &mut [u8], hs: usize, comms: usize, n: usize, i: usize, l: usize)
+    requires { ⌜ Work n i l (now work) ⌝ }
+    requires { ⌜ (Starts n i l HS hs) × (Starts n i l H-COMMS comms) ⌝ }
+    ensures { λ _. ⌜ now (work .exit) ≡ keep (frame n l i) H-COMMS
+        (F.ownComms (frame n l i) (at (frame n l i) HS (now (work .entry))) (at (frame n l i) H-COMMS (now (work .entry)))) (now (work .entry)) ⌝ }
 {
     let count = plan::leaky(l);
-    encode::put_count(&mut out[0..8], count);
+    let row = comms + i * (count * 32);
     let mut t = 0;
     while t < count {
-        let a = 8 + t * 32;
+        let d = blake3::hash_block(block::load(work, hs + t * 16));
+        let a = row + t * 32;
         let e = a + 32;
-        blake3::hash_block(block::load(hs, t * 16)).store(&mut out[a..e]);
+        d.store(&mut work[a..e]);
         t += 1;
     }
 }
 
-// Round 17: the same message to all others. Each h is hashed once.
-pub fn write_h_comms(out: &mut [u8], hs: &[u8], n: usize, i: usize, l: usize)
+// The same message to all others: the commitments in the own row `comms`.
+pub fn write_h_comms(out: &mut [u8], comms: &[u8], n: usize, i: usize, l: usize)
     requires { ⌜ length (now out) ≡ (n - 1) * (8 + Plan.leaky l * 32) ⌝ }
-    requires { ⌜ Hashes n i l (now hs) ⌝ }
-    ensures { λ _. ⌜ now (out .exit) ≡ toOthers n i (λ k. F.commMsg (frame n l i) (now (hs .entry))) ⌝ }
+    requires { ⌜ (Ranges n i l) × (length (now comms) ≡ Plan.leaky l * 32) ⌝ }
+    ensures { λ _. ⌜ now (out .exit) ≡ toOthers n i (λ k. le8 (Plan.leaky l) ++ now (comms .entry)) ⌝ }
 {
-    let len = 8 + plan::leaky(l) * 32;
-    put_h_comms(&mut out[0..len], hs, n, i, l);
-    repeat(out, len);
+    haand::write_same(out, plan::leaky(l), comms, n);
 }
 
 // What party k told behind the count, as many bytes as the row has; zero for the own number.
@@ -459,19 +431,19 @@ pub fn keep_es(
 // ---- round 15: h
 
 // What a party of e adds: the MAC and the key of z. The key of z is r's, plus delta where e is 1.
-fn term(recs: &[u8], at: usize, k: usize, delta: Block, e: bool) -> Block
+fn term(recs: &[u8], at: usize, k: usize, delta: Delta, e: bool) -> Block
     requires { ⌜ (k < 8) × (at + recordLen (k + 1) ≤ length (now recs)) ⌝ }
-    ensures { λ r. ⌜ r ≡ blocks .op (macAt (now (recs .entry)) at k) (blocks .op (keyAt (now (recs .entry)) at k) (sel blocks e delta)) ⌝ }
+    ensures { λ r. ⌜ r ≡ blocks .op (macAt (now (recs .entry)) at k) (blocks .op (keyAt (now (recs .entry)) at k) (sel blocks e (delta .0))) ⌝ }
 {
-    let z_key = share::key_at(recs, at, k).0.xor(delta.const_mul(e));
-    share::mac_at(recs, at, k).0.xor(z_key)
+    let key = share::key_at(recs, at, k).z_key(delta.times(e));
+    share::mac_at(recs, at, k).0.xor(key.0)
 }
 
 // The same of party k at position t; zero for the own number. The r record is at `at`.
 fn z_term(
     recs: &[u8],
     at: usize,
-    delta: Block,
+    delta: Delta,
     incoming: &[u8],
     starts: &[usize],
     lens: &[usize],
@@ -484,7 +456,7 @@ fn z_term(
     requires { ⌜ (n ≤ 8) × ((k < n) × (t < Plan.leaky l)) ⌝ }
     requires { ⌜ at + recordLen n ≤ length (now recs) ⌝ }
     requires { ⌜ Mail.Arrived n i (8 + Plan.leaky l * 17) (now incoming) (now starts) (now lens) ⌝ }
-    ensures { λ r. ⌜ r ≡ sel blocks (neq i k) (zTerm (now (recs .entry)) at delta
+    ensures { λ r. ⌜ r ≡ sel blocks (neq i k) (zTerm (now (recs .entry)) at (delta .0)
         (Mail.letter (now (incoming .entry)) (now (starts .entry)) (now (lens .entry))) t k) ⌝ }
 {
     if k == i {
@@ -499,7 +471,7 @@ fn z_term(
 fn z_terms(
     recs: &[u8],
     at: usize,
-    delta: Block,
+    delta: Delta,
     incoming: &[u8],
     starts: &[usize],
     lens: &[usize],
@@ -511,7 +483,7 @@ fn z_terms(
     requires { ⌜ (n ≤ 8) × (t < Plan.leaky l) ⌝ }
     requires { ⌜ at + recordLen n ≤ length (now recs) ⌝ }
     requires { ⌜ Mail.Arrived n i (8 + Plan.leaky l * 17) (now incoming) (now starts) (now lens) ⌝ }
-    ensures { λ r. ⌜ r ≡ others blocks i n (zTerm (now (recs .entry)) at delta
+    ensures { λ r. ⌜ r ≡ others blocks i n (zTerm (now (recs .entry)) at (delta .0)
         (Mail.letter (now (incoming .entry)) (now (starts .entry)) (now (lens .entry))) t) ⌝ }
 {
     let mut sum = Block::zero();
@@ -583,7 +555,7 @@ fn masked(
     rows: &[u8],
     zs: &[u8],
     x: bool,
-    delta: Block,
+    delta: Delta,
     incoming: &[u8],
     starts: &[usize],
     lens: &[usize],
@@ -594,13 +566,13 @@ fn masked(
 ) -> Block
     requires { ⌜ (n ≤ 8) × ((t < Plan.leaky l) × (length (now rows) ≡ Plan.leaky l * leakyLen n) × (length (now zs) ≡ Plan.leaky l * 17)) ⌝ }
     requires { ⌜ Mail.Arrived n i (8 + Plan.leaky l * 17) (now incoming) (now starts) (now lens) ⌝ }
-    ensures { λ r. ⌜ r ≡ maskedAt (frame n l i) delta x (now (rows .entry)) (now (zs .entry))
+    ensures { λ r. ⌜ r ≡ maskedAt (frame n l i) (delta .0) x (now (rows .entry)) (now (zs .entry))
         (Mail.letter (now (incoming .entry)) (now (starts .entry)) (now (lens .entry))) t ⌝ }
 {
     let us = u_sum(incoming, starts, lens, n, i, l, t);
     let phi = block::load(rows, t * haand::leaky_len(n));
     let z = block::bit(zs, t * 17);
-    us.xor(phi).const_mul(x).xor(delta.const_mul(z))
+    us.xor(phi).const_mul(x).xor(delta.times(z).0)
 }
 
 // h at position t.
@@ -608,7 +580,7 @@ pub fn h(
     recs: &[u8],
     rows: &[u8],
     zs: &[u8],
-    delta: Block,
+    delta: Delta,
     incoming: &[u8],
     starts: &[usize],
     lens: &[usize],
@@ -619,7 +591,7 @@ pub fn h(
 ) -> Block
     requires { ⌜ (Kept n i l (now recs) (now rows) (now zs)) × (t < Plan.leaky l) ⌝ }
     requires { ⌜ Mail.Arrived n i (8 + Plan.leaky l * 17) (now incoming) (now starts) (now lens) ⌝ }
-    ensures { λ r. ⌜ r ≡ F.h (frame n l i) delta (now (recs .entry)) (now (rows .entry)) (now (zs .entry))
+    ensures { λ r. ⌜ r ≡ F.h (frame n l i) (delta .0) (now (recs .entry)) (now (rows .entry)) (now (zs .entry))
         (Mail.letter (now (incoming .entry)) (now (starts .entry)) (now (lens .entry))) t ⌝ }
 {
     let x = share::bit_at(recs, haand::x_at(n, t));
@@ -656,7 +628,7 @@ fn h_at(
     recs: usize,
     rows: usize,
     zs: usize,
-    delta: Block,
+    delta: Delta,
     incoming: &[u8],
     starts: &[usize],
     lens: &[usize],
@@ -668,7 +640,7 @@ fn h_at(
     requires { ⌜ (Work n i l (now work)) × (t < Plan.leaky l) ⌝ }
     requires { ⌜ (Starts n i l BITS recs) × ((Starts n i l LEAKY rows) × (Starts n i l ZS zs)) ⌝ }
     requires { ⌜ Mail.Arrived n i (8 + Plan.leaky l * 17) (now incoming) (now starts) (now lens) ⌝ }
-    ensures { λ r. ⌜ r ≡ F.h (frame n l i) delta (at (frame n l i) BITS (now (work .entry))) (at (frame n l i) LEAKY (now (work .entry)))
+    ensures { λ r. ⌜ r ≡ F.h (frame n l i) (delta .0) (at (frame n l i) BITS (now (work .entry))) (at (frame n l i) LEAKY (now (work .entry)))
         (at (frame n l i) ZS (now (work .entry))) (Mail.letter (now (incoming .entry)) (now (starts .entry)) (now (lens .entry))) t ⌝ }
 {
     let recs_end = recs + plan::bits_len(n, l);
@@ -696,7 +668,7 @@ pub fn keep_hs(
     rows: usize,
     zs: usize,
     hs: usize,
-    delta: Block,
+    delta: Delta,
     incoming: &[u8],
     starts: &[usize],
     lens: &[usize],
@@ -707,7 +679,7 @@ pub fn keep_hs(
     requires { ⌜ (Work n i l (now work)) × (Starts n i l HS hs) ⌝ }
     requires { ⌜ (Starts n i l BITS recs) × ((Starts n i l LEAKY rows) × (Starts n i l ZS zs)) ⌝ }
     requires { ⌜ Mail.Arrived n i (8 + Plan.leaky l * 17) (now incoming) (now starts) (now lens) ⌝ }
-    ensures { λ _. ⌜ now (work .exit) ≡ keep (frame n l i) HS (F.hs (frame n l i) delta (at (frame n l i) BITS (now (work .entry)))
+    ensures { λ _. ⌜ now (work .exit) ≡ keep (frame n l i) HS (F.hs (frame n l i) (delta .0) (at (frame n l i) BITS (now (work .entry)))
         (at (frame n l i) LEAKY (now (work .entry))) (at (frame n l i) ZS (now (work .entry)))
         (Mail.letter (now (incoming .entry)) (now (starts .entry)) (now (lens .entry)))) (now (work .entry)) ⌝ }
 {

@@ -31,12 +31,17 @@ unfoldable pub item : Frame → List ℕ → List ℕ → List ℕ → ℕ → �
 item f rows masks recs j t =
     twoBits (addb (firstAt f rows j t) (mask f masks j t)) (addb (addb (secondAt f rows j t) (mask f masks j t)) (y f recs t .bit))
 
+-- the message to party j
+unfoldable pub message : Frame → List ℕ → List ℕ → List ℕ → ℕ → List ℕ
+message f rows masks recs j = encode (leaky (f .l)) (item f rows masks recs j)
+
 pub length-item : (f : Frame) (rows masks recs : List ℕ) (j t : ℕ) → length (item f rows masks recs j t) ≡ 2
 unfolding item twoBits
 length-item f rows masks recs j t = refl
 
 pub length-message : (f : Frame) (rows masks recs : List ℕ) (j : ℕ)
-    → length (encode (leaky (f .l)) (item f rows masks recs j)) ≡ 8 + leaky (f .l) * 2
+    → length (message f rows masks recs j) ≡ 8 + leaky (f .l) * 2
+unfolding message
 length-message f rows masks recs j = length-encode (leaky (f .l)) 2 (item f rows masks recs j) (λ t h. length-item f rows masks recs j t)
 
 -- `^` of two bools
@@ -57,7 +62,7 @@ module _ (f : Frame) (delta : Block) (rows masks recs : List ℕ) (e : rows ≡ 
       ap₂ (λ (a b : Bool). twoBits (addb a (mask f masks j t)) (addb (addb b (mask f masks j t)) (y f recs t .bit))) a b
 
   -- where the rows are those that `keep_leaky` keeps, these are the messages of the definition
-  pub sent-is : toOthers (f .n) (f .i) (λ k. encode (leaky (f .l)) (item f rows masks recs k)) ≡ toOthers (f .n) (f .i) (haandMsg f delta masks recs)
-  unfolding haandMsg encode
+  pub sent-is : toOthers (f .n) (f .i) (message f rows masks recs) ≡ toOthers (f .n) (f .i) (haandMsg f delta masks recs)
+  unfolding message haandMsg encode
   sent-is =
       toOthers-ext (f .n) (f .i) _ _ (λ k lk ne. ap (λ (s : List ℕ). le8 (leaky (f .l)) ++ s) (cat-ext (leaky (f .l)) _ _ (λ t lt. item-is k t lk ne lt)))

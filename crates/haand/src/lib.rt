@@ -3,15 +3,16 @@
 // Bits, MACs, keys, delta and masks are secret: they decide no branch and no index.
 ghost use mathlib.Core.Path.{_≡_};
 ghost use mathlib.Core.List.{_++_};
-ghost use Prim.Native.Nat.{_+_, _-_, _*_, _<_, _≤_};
+ghost use Prim.Native.Nat.{ℕ, _+_, _-_, _*_, _<_, _≤_};
 ghost use lib.ListN.{length, getD, take, replicate};
 ghost use Rattle.lists.specs.Over.{cat};
 ghost use Rattle.algebra.specs.Group.{XorGroup, bits, sel, odd};
 ghost use Rattle.algebra.specs.Sum.{others, neq};
+ghost use Rattle.block.specs.Block.{le8};
 ghost use Rattle.block.specs.Group.{blocks};
 ghost use Rattle.share.specs.Record.{recordLen, macAt, keyAt};
 ghost use Rattle.plan.specs.Plan as Plan;
-ghost use Rattle.encode.specs.Encode.{encode, bitBlock};
+ghost use Rattle.encode.specs.Encode.{bitBlock};
 ghost use Rattle.engine.specs.Step.{frame};
 ghost use Rattle.engine.specs.Area.{toOthers};
 ghost use Rattle.rounds.specs.Area.{MASKS, BITS, LEAKY, ZS, leakyLen, at, keep};
@@ -23,6 +24,8 @@ ghost use Rattle.haand.specs.Sent as S;
 ghost use Rattle.haand.specs.Received as Got;
 ghost use Rattle.haand.specs.Parts.{entry};
 use block::Block;
+use share::Delta;
+use share::Key;
 
 // The bytes of a row of LEAKY.
 pub fn leaky_len(n: usize) -> usize
@@ -77,12 +80,12 @@ fn keys_and_macs(recs: &[u8], at: usize, n: usize, i: usize) -> Block
 }
 
 // phi at position t.
-pub fn phi(recs: &[u8], delta: Block, n: usize, i: usize, l: usize, t: usize) -> Block
+pub fn phi(recs: &[u8], delta: Delta, n: usize, i: usize, l: usize, t: usize) -> Block
     requires { ⌜ Asked n i l t (now recs) ⌝ }
-    ensures { λ r. ⌜ r ≡ R.phi (frame n l i) delta (now (recs .entry)) t ⌝ }
+    ensures { λ r. ⌜ r ≡ R.phi (frame n l i) (delta .0) (now (recs .entry)) t ⌝ }
 {
     let at = y_at(n, l, t);
-    keys_and_macs(recs, at, n, i).xor(delta.const_mul(share::bit_at(recs, at)))
+    keys_and_macs(recs, at, n, i).xor(delta.times(share::bit_at(recs, at)).0)
 }
 
 // G and H of a Block: one hash.
@@ -96,12 +99,12 @@ pub fn hashed(b: Block) -> Hashes
 }
 
 // The entry of a party with the x key `key`. Returns G of the key.
-fn put_entry(out: &mut [u8], key: Block, delta: Block, p: Block) -> Block
+fn put_entry(out: &mut [u8], key: Key, delta: Delta, p: Block) -> Block
     requires { ⌜ length (now out) ≡ 18 ⌝ }
-    ensures { λ r. ⌜ (now (out .exit) ≡ entry key delta p) × (r ≡ R.G key) ⌝ }
+    ensures { λ r. ⌜ (now (out .exit) ≡ entry (key .0) (delta .0) p) × (r ≡ R.G (key .0)) ⌝ }
 {
-    let a = hashed(key);
-    let b = hashed(key.xor(delta));
+    let a = hashed(key.0);
+    let b = hashed(key.xor_delta(delta).0);
     block::store(&mut out[0..16], a.0.xor(b.0).xor(p));
     encode::put_two_bits(&mut out[16..18], a.1, b.1);
     a.0
@@ -114,19 +117,19 @@ fn put_entry_of(
     at: usize,
     i: usize,
     k: usize,
-    delta: Block,
+    delta: Delta,
     p: Block,
 ) -> Block
     requires { ⌜ (length (now out) ≡ 18) × (k < 8) ⌝ }
     requires { ⌜ at + recordLen (k + 1) ≤ length (now recs) ⌝ }
-    ensures { λ r. ⌜ (now (out .exit) ≡ rowOf i 18 (λ k. entry (keyAt (now (recs .entry)) at k) delta p) k)
+    ensures { λ r. ⌜ (now (out .exit) ≡ rowOf i 18 (λ k. entry (keyAt (now (recs .entry)) at k) (delta .0) p) k)
         × (r ≡ sel blocks (neq i k) (R.G (keyAt (now (recs .entry)) at k))) ⌝ }
 {
     if i == k {
         clear(out);
         return Block::zero();
     }
-    put_entry(out, share::key_at(recs, at, k).0, delta, p)
+    put_entry(out, share::key_at(recs, at, k), delta, p)
 }
 
 // The entries of all parties. Returns the sum of G over the x keys.
@@ -136,12 +139,12 @@ fn put_entries(
     at: usize,
     n: usize,
     i: usize,
-    delta: Block,
+    delta: Delta,
     p: Block,
 ) -> Block
     requires { ⌜ (n ≤ 8) × (length (now out) ≡ n * 18) ⌝ }
     requires { ⌜ at + recordLen n ≤ length (now recs) ⌝ }
-    ensures { λ r. ⌜ (now (out .exit) ≡ cat n (rowOf i 18 (λ k. entry (keyAt (now (recs .entry)) at k) delta p)))
+    ensures { λ r. ⌜ (now (out .exit) ≡ cat n (rowOf i 18 (λ k. entry (keyAt (now (recs .entry)) at k) (delta .0) p)))
         × (r ≡ others blocks i n (λ k. R.G (keyAt (now (recs .entry)) at k))) ⌝ }
 {
     let mut sum = Block::zero();
@@ -157,10 +160,10 @@ fn put_entries(
 }
 
 // The row of position t: all that is hashed of its x keys.
-fn put_row(out: &mut [u8], recs: &[u8], delta: Block, n: usize, i: usize, l: usize, t: usize)
+fn put_row(out: &mut [u8], recs: &[u8], delta: Delta, n: usize, i: usize, l: usize, t: usize)
     requires { ⌜ Asked n i l t (now recs) ⌝ }
     requires { ⌜ length (now out) ≡ leakyLen n ⌝ }
-    ensures { λ _. ⌜ now (out .exit) ≡ R.leakyRow (frame n l i) delta (now (recs .entry)) t ⌝ }
+    ensures { λ _. ⌜ now (out .exit) ≡ R.leakyRow (frame n l i) (delta .0) (now (recs .entry)) t ⌝ }
 {
     let p = phi(recs, delta, n, i, l, t);
     let at = x_at(n, t);
@@ -170,9 +173,9 @@ fn put_row(out: &mut [u8], recs: &[u8], delta: Block, n: usize, i: usize, l: usi
 }
 
 // The same by value, with zeros behind it.
-pub fn leaky_row(recs: &[u8], delta: Block, n: usize, i: usize, l: usize, t: usize) -> [u8; 176]
+pub fn leaky_row(recs: &[u8], delta: Delta, n: usize, i: usize, l: usize, t: usize) -> [u8; 176]
     requires { ⌜ Asked n i l t (now recs) ⌝ }
-    ensures { λ r. ⌜ r ≡ R.leakyRow (frame n l i) delta (now (recs .entry)) t ++ replicate (176 - leakyLen n) 0 ⌝ }
+    ensures { λ r. ⌜ r ≡ R.leakyRow (frame n l i) (delta .0) (now (recs .entry)) t ++ replicate (176 - leakyLen n) 0 ⌝ }
 {
     let mut row = [0u8; 176];
     let e = leaky_len(n);
@@ -192,12 +195,37 @@ pub fn copy(out: &mut [u8], s: &[u8])
     }
 }
 
+// A list of `count` items, of which the bytes are lent.
+fn put_list(out: &mut [u8], count: usize, items: &[u8])
+    requires { ⌜ length (now out) ≡ 8 + length (now items) ⌝ }
+    ensures { λ _. ⌜ now (out .exit) ≡ le8 count ++ now (items .entry) ⌝ }
+{
+    encode::put_count(&mut out[0..8], count);
+    copy(&mut out[8..], items);
+}
+
+// The same list to every other party, in a stretch of its own.
+pub fn write_same(out: &mut [u8], count: usize, items: &[u8], n: usize)
+    requires { ⌜ (2 ≤ n) × (length (now out) ≡ (n - 1) * (8 + length (now items))) ⌝ }
+    ensures { λ _. ⌜ ((i : ℕ) → now (out .exit) ≡ toOthers n i (λ k. le8 count ++ now (items .entry))) ⌝ }
+{
+    let len = 8 + items.len();
+    let last = n - 1;
+    let mut q = 0;
+    while q < last {
+        let at = q * len;
+        let e = at + len;
+        put_list(&mut out[at..e], count, items);
+        q += 1;
+    }
+}
+
 // Keeps the rows of LEAKY, which starts at `rows`; BITS starts at `recs`.
 pub fn keep_leaky(
     work: &mut [u8],
     recs: usize,
     rows: usize,
-    delta: Block,
+    delta: Delta,
     n: usize,
     i: usize,
     l: usize,
@@ -205,7 +233,7 @@ pub fn keep_leaky(
     requires { ⌜ Work n i l (now work) ⌝ }
     requires { ⌜ (Starts n i l BITS recs) × (Starts n i l LEAKY rows) ⌝ }
     ensures { λ _. ⌜ now (work .exit) ≡ keep (frame n l i) LEAKY
-        (R.leakyRows (frame n l i) delta (at (frame n l i) BITS (now (work .entry)))) (now (work .entry)) ⌝ }
+        (R.leakyRows (frame n l i) (delta .0) (at (frame n l i) BITS (now (work .entry)))) (now (work .entry)) ⌝ }
 {
     let count = plan::leaky(l);
     let end = recs + plan::bits_len(n, l);
@@ -270,7 +298,7 @@ fn put_message(
     requires { ⌜ (length (now out) ≡ 8 + Plan.leaky l * 2) × (k < n) ⌝ }
     requires { ⌜ (Ranges n i l) × (length (now recs) ≡ Plan.bitsCount l * recordLen n) ⌝ }
     requires { ⌜ Kept n l (now rows) (now masks) ⌝ }
-    ensures { λ _. ⌜ now (out .exit) ≡ encode (Plan.leaky l) (S.item (frame n l i) (now (rows .entry)) (now (masks .entry)) (now (recs .entry)) k) ⌝ }
+    ensures { λ _. ⌜ now (out .exit) ≡ S.message (frame n l i) (now (rows .entry)) (now (masks .entry)) (now (recs .entry)) k ⌝ }
 {
     let count = plan::leaky(l);
     encode::put_count(&mut out[0..8], count);
@@ -283,7 +311,7 @@ fn put_message(
     }
 }
 
-// The messages of round 14, from the rows that `keep_leaky` kept.
+// The messages of round 14, from the rows of LEAKY: those of document 01 where they are the rows that `keep_leaky` kept (Sent, `sent-is`).
 pub fn write_haand(
     out: &mut [u8],
     rows: &[u8],
@@ -296,8 +324,7 @@ pub fn write_haand(
     requires { ⌜ length (now out) ≡ (n - 1) * (8 + Plan.leaky l * 2) ⌝ }
     requires { ⌜ (Ranges n i l) × (length (now recs) ≡ Plan.bitsCount l * recordLen n) ⌝ }
     requires { ⌜ Kept n l (now rows) (now masks) ⌝ }
-    ensures { λ _. ⌜ ((delta : Block) → now (rows .entry) ≡ R.leakyRows (frame n l i) delta (now (recs .entry))
-        → now (out .exit) ≡ toOthers n i (R.haandMsg (frame n l i) delta (now (masks .entry)) (now (recs .entry)))) ⌝ }
+    ensures { λ _. ⌜ now (out .exit) ≡ toOthers n i (S.message (frame n l i) (now (rows .entry)) (now (masks .entry)) (now (recs .entry))) ⌝ }
 {
     let len = 8 + plan::leaky(l) * 2;
     let last = n - 1;

@@ -10,7 +10,7 @@
 --    `by-none` of engine/StepLaws, `first-none` here show that a check passes.
 --  * a message that is a list: `list-form`, `list-len` from Coded items (encode/Coded), `trip-whole` of encode/RoundTrip for what is read of it.
 use mathlib.Core.Path.{_≡_, refl, ap, ap₂, _∙_}
-use mathlib.Core.Bool.{true}
+use mathlib.Core.Bool.{true, false}
 use mathlib.Core.Logic.{_≢_}
 use mathlib.Core.List.{List, [], _∷_}
 use Prim.Native.Nat.{ℕ, zero, suc, _^_, _<_}
@@ -33,7 +33,7 @@ use Rattle.engine.specs.Step.{frame, Fault, orElse, scan, byParty}
 use Rattle.engine.specs.StepLaws.{other-cases, or-none}
 use Rattle.engine.specs.Sheet.{Store, Known, staysTest}
 use Rattle.engine.specs.Honest.{before, due, storeOf}
-use Rattle.rounds.specs.Area.{DELTA, SEED, PAIRS, MASKS, BITS, ALPHA, BETA, COMMS, JOINT, PAIR-COMMS, PAIRWISE, KEY-SUMS, SHARE-COMMS, DMS, LEAKY, ZS, ES, HS, H-COMMS, PERM, DS, TRIPLES, at, keep, firstOf}
+use Rattle.rounds.specs.Area.{DELTA, SEED, PAIRS, MASKS, BITS, ALPHA, BETA, COMMS, JOINT, PAIR-COMMS, PAIRWISE, KEY-SUMS, SHARE-COMMS, DMS, LEAKY, ZS, ES, HS, H-COMMS, PERM, DS, TRIPLES, ROUNDS-OWN, sizeOf, at, keep, firstOf}
 use Rattle.rounds.specs.Opening.{Args}
 use Rattle.rounds.specs.Table.{delta}
 use Rattle.alone.specs.Base.{has-at}
@@ -183,6 +183,11 @@ module _ (n l : ℕ) (args : ℕ → Args) (strings order : List ℕ) where
   module _ (t u i : ℕ) (li : i < n) {w : List ℕ} (K : Known n l Run t i w) where
     pub keep-none : staysTest Run t u [] ≡ true → Known n l Run u i w
     keep-none test = A.keep-none n l (S.holds n l args strings order) t u i li K test
+
+    -- what is put into a section that is not due by u is no value anybody relies on
+    pub keep-free : (s : ℕ) (x : List ℕ) → staysTest Run t u [] ≡ true → s < ROUNDS-OWN → leb (S.since s) u ≡ false
+        → length x ≡ sizeOf (frame n l i) s → Known n l Run u i (keep (frame n l i) s x w)
+    keep-free s x test ls free long = A.keep-free n l (S.holds n l args strings order) t u i li K s x test ls free long
 
     pub keep-one : (s : ℕ) (x : List ℕ) → staysTest Run t u (s ∷ []) ≡ true → Fit s → x ≡ S.holds n l args strings order i s
         → Known n l Run u i (keep (frame n l i) s x w)

@@ -29,16 +29,17 @@ use Rattle.plan.specs.Plan.{kindOf, countDue, msgLen, leaky, bitsCount}
 use Rattle.engine.specs.declared.Frame.{Frame}
 use Rattle.engine.specs.Step.{frame, Fault}
 use Rattle.engine.specs.StepLaws.{or-none, by-none}
-use Rattle.engine.specs.Area.{mem}
-use Rattle.engine.specs.Sheet.{staysTest}
+use Rattle.engine.specs.Area.{mem, length-sec}
+use Rattle.engine.specs.Sheet.{Known, staysTest}
 use Rattle.engine.specs.Plain.{isEcho}
-use Rattle.engine.specs.Honest.{Script, before, due, plainAfter, RecvAt, SendAt, ListAt}
-use Rattle.rounds.specs.Area.{ES, HS, H-COMMS, sizes, sizeOf, rows}
+use Rattle.engine.specs.Honest.{Script, before, due, plainAfter, RecvAt, SendAt, ListAt, storeOf}
+use Rattle.rounds.specs.Area.{ES, HS, H-COMMS, SECTIONS, sizes, sizeOf, at, rows}
 use Rattle.rounds.specs.Opening.{Args}
 use Rattle.rounds.specs.Table.{judge, kept, held, written}
 use Rattle.honest.specs.Subject.{subject}
 use Rattle.rounds.specs.Haand.{x, y, r, G, phi, u, phiAt, keyHash, uAt, zAt, macHash}
-use Rattle.rounds.specs.Flaand.{e, flaandMsg, eTold, uTold, eRows, zKey, h, hs, commMsg, commRows, hashMsg, hTold, opening, zeroSum, hFaults}
+use Rattle.rounds.specs.Flaand.{e, flaandMsg, eTold, uTold, eRows, zKey, h, hs, commMsg, ownComms, commRows, hashMsg, hTold, opening, zeroSum, hFaults}
+use Rattle.rounds.specs.FlaandLaws.{length-ownComms}
 use Rattle.alone.specs.Base.{rows-ext}
 use Rattle.alone.specs.HaandLaws.{small-G, small-phi, small-u, phi-read, key-hash-read, u-read, mac-hash-read}
 use Rattle.alone.specs.FlaandLaws.{h-alg, block-row, length-es, e-read}
@@ -46,7 +47,7 @@ use Rattle.rounds.specs.FashareLaws.{length-hash}
 use Rattle.rounds.specs.EchoLaws.{length-hashVec}
 use Rattle.honest.specs.Script as S
 use Rattle.honest.specs.Inputs.{Boxes, deltas, small-delta}
-use Rattle.honest.specs.Base.{list-form, list-len, Fit, delta-is, bits-at, leaky-at, zs-at, hs-at, h-comms-at, keep-none, keep-one, keep-two, Reads, reads}
+use Rattle.honest.specs.Base.{list-form, list-len, Fit, delta-is, bits-at, leaky-at, zs-at, hs-at, h-comms-at, keep-none, keep-free, keep-one, keep-two, Reads, reads}
 use Rattle.alone.specs.Cells.{items-row, length-cells, cell}
 use Rattle.honest.specs.Firsts.{pairs-trip, bit-read, block-read, hash-bits}
 use Rattle.honest.specs.Haand.{leaky-small, and-z}
@@ -279,10 +280,18 @@ module _ (n l : ℕ) (args : ℕ → Args) (strings order : List ℕ) (X : Boxes
   unfolding S.holds sizeOf sizes
   fit-comms = (omega arith, λ i li. ap length (comms-are i) ∙ length-cells (frame n l i) (leaky l) 32 comm (λ k j lk ne lj. length-hash _))
 
+  -- the own ones wait in the own row
+  own-long : (i : ℕ) → i < n → (w : List ℕ) → Known n l (storeOf subject run n l) (before 17) i w
+      → length (ownComms (frame n l i) (at (frame n l i) HS w) (at (frame n l i) H-COMMS w)) ≡ sizeOf (frame n l i) H-COMMS
+  unfolding at sizeOf sizes
+  own-long i li w K =
+      length-ownComms (frame n l i) (at (frame n l i) HS w) (at (frame n l i) H-COMMS w) li
+      (length-sec (sizeOf (frame n l i)) SECTIONS w (K .long) H-COMMS (omega arith))
+
   pub send-17 : SendAt subject run n l 17
   unfolding staysTest allOf mem S.since S.sent S.sent17 held written
   send-17 = record {
-    keeps = λ v i li w K. keep-none n l args strings order (before 17) (due 17) i li K refl;
+    keeps = λ v i li w K. keep-free n l args strings order (before 17) (due 17) i li K H-COMMS _ refl (omega arith) refl (own-long i li w K);
     writes = λ v i r li lr ne w K. ap (commMsg (frame n l i)) (hs-at n l args strings order K refl);
   }
 
@@ -324,7 +333,7 @@ module _ (n l : ℕ) (args : ℕ → Args) (strings order : List ℕ) (X : Boxes
       (trip-whole (Items 16 0) (leaky l) (λ t. bytesOf (own k t)) small (λ t i. coded-block (own k t))) t lt)
       (rw (h-at k t lk lt) (small-h k t lk))
 
-  -- "each opened first"
+  -- each is opened first
   opens : (b : Bool) (c : ℕ) → b ≡ true → pick b 0 c ≡ 0
   opens b c e = rw e refl
 

@@ -32,10 +32,6 @@ in-range r = record { two = r .two; eight = r .eight; one = r .one; most = r .mo
 
 -- ---- lengths
 module _ (f : Frame) where
-  pub size-delta : sizeOf f DELTA ≡ 16
-  unfolding sizeOf sizes
-  size-delta = refl
-
   pub size-seed : sizeOf f SEED ≡ 32
   unfolding sizeOf sizes
   size-seed = refl

@@ -20,12 +20,9 @@ ghost use Rattle.rounds.specs.Beaver as Beaver;
 ghost use Rattle.rounds.specs.Table as Table;
 ghost use Rattle.haand.specs.Given.{Work};
 ghost use Rattle.receive.specs.Given.{Told};
-use block::Block;
 use rounds::Fault;
 
 // The sections of the work area, by number (crates/rounds, Area).
-const DELTA: usize = 0;
-
 const SEED: usize = 1;
 
 const PAIRS: usize = 2;
@@ -59,14 +56,6 @@ const HS: usize = 17;
 const H_COMMS: usize = 18;
 
 const PERM: usize = 19;
-
-// Own delta.
-fn delta(work: &[u8], n: usize, i: usize, l: usize) -> Block
-    requires { ⌜ Work n i l (now work) ⌝ }
-    ensures { λ r. ⌜ r ≡ Table.delta (frame n l i) (now (work .entry)) ⌝ }
-{
-    block::load(area::section(work, n, i, l, DELTA), 0)
-}
 
 // ---- the content checks
 
@@ -112,7 +101,7 @@ fn judge_abits(
         (Area.at (frame n l i) Area.KEY-SUMS (now (work .entry))) (letter (now (incoming .entry)) (now (starts .entry)) (now (lens .entry)))) ⌝ }
 {
     fabitn::check_abits(
-        delta(work, n, i, l),
+        area::delta(work, n, i, l),
         area::section(work, n, i, l, KEY_SUMS),
         incoming,
         starts,
@@ -204,7 +193,7 @@ fn judge_dvalues(
         (Area.at (frame n l i) Area.BITS (now (work .entry))) (Area.at (frame n l i) Area.PERM (now (work .entry)))
         (letter (now (incoming .entry)) (now (starts .entry)) (now (lens .entry)))) ⌝ }
 {
-    let d = delta(work, n, i, l);
+    let d = area::delta(work, n, i, l);
     let recs = area::section(work, n, i, l, BITS);
     let perm = area::section(work, n, i, l, PERM);
     buckets::check_dvalues(recs, perm, d, incoming, starts, lens, n, i, l)
@@ -227,7 +216,7 @@ fn judge_faand(
         (Area.at (frame n l i) Area.TRIPLES (now (work .entry))) (Area.at (frame n l i) Area.ALPHA (now (work .entry)))
         (Area.at (frame n l i) Area.BETA (now (work .entry))) (letter (now (incoming .entry)) (now (starts .entry)) (now (lens .entry)))) ⌝ }
 {
-    let d = delta(work, n, i, l);
+    let d = area::delta(work, n, i, l);
     beaver::check_faand(work, d, incoming, starts, lens, n, i, l)
 }
 
@@ -432,7 +421,7 @@ fn keep_hs(
         (Area.at (frame n l i) Area.ZS (now (work .entry))) (letter (now (incoming .entry)) (now (starts .entry)) (now (lens .entry))))
         (now (work .entry)) ⌝ }
 {
-    let d = delta(work, n, i, l);
+    let d = area::delta(work, n, i, l);
     let recs = area::section_at(n, l, BITS);
     let rows = area::section_at(n, l, LEAKY);
     let zs = area::section_at(n, l, ZS);

@@ -1,5 +1,5 @@
--- The work area (docs/WORK_AREA.md): sections one after another, each written once in a session but for the last two, the echoes'. Rows are by
--- party; the own row of what is received stays zero.
+-- The work area (docs/WORK_AREA.md): sections one after another, each written once in a session but for the last two, the echoes', and the own row of
+-- H-COMMS, where the own commitments wait. Rows are by party; the own row of what is received is zero.
 use Prim.Native.Nat.{ℕ, zero, suc, _+_, _-_, _*_}
 use mathlib.Core.List.{List, [], _∷_}
 use lib.ListN.{getD, replicate}
@@ -83,7 +83,7 @@ ES = 16
 abbrev pub HS : ℕ
 HS = 17
 
--- commitments of h
+-- commitments of h; in the own row the own ones, until the others' are kept
 abbrev pub H-COMMS : ℕ
 H-COMMS = 18
 

@@ -8,6 +8,7 @@ use Rattle.lists.specs.Pick.{pick}
 use Rattle.lists.specs.All.{allOf}
 use Rattle.lists.specs.Over.{tab, cat}
 use Rattle.lists.specs.Same.{same?}
+use Rattle.lists.specs.Sect.{put}
 use Rattle.algebra.specs.Group.{XorGroup, addb, sel, odd, num}
 use Rattle.algebra.specs.Sum.{others}
 use Rattle.block.specs.declared.Block.{Block}
@@ -60,6 +61,13 @@ hs f delta recs rows zs m = cat (leaky (f .l)) (λ t. bytesOf (h f delta recs ro
 unfoldable pub commMsg : Frame → List ℕ → List ℕ
 commMsg f own = encode (leaky (f .l)) (λ t. hash (bytesOf (blockAt own (t * 16))))
 
+-- the commitments to own h: hashed once, they wait in the own row of the others' until those are kept
+unfoldable pub comms : Frame → List ℕ → List ℕ
+comms f own = cat (leaky (f .l)) (λ t. hash (bytesOf (blockAt own (t * 16))))
+
+unfoldable pub ownComms : Frame → List ℕ → List ℕ → List ℕ
+ownComms f own rows = put (f .i * (leaky (f .l) * 32)) (leaky (f .l) * 32) (comms f own) rows
+
 unfoldable pub commRows : Frame → (ℕ → List ℕ) → List ℕ
 commRows f m = Area.rows f (leaky (f .l) * 32) (λ k. take (leaky (f .l) * 32) (drop 8 (m k)))
 
@@ -84,6 +92,6 @@ zeroSum f own m = record {
   party = f .i;
 }
 
--- "each opened first"
+-- each is opened first
 unfoldable pub hFaults : Frame → List ℕ → List ℕ → (ℕ → List ℕ) → Fault
 hFaults f own comms m = orElse (opening f comms m) (zeroSum f own m)

@@ -4,6 +4,7 @@ pub mod Fabitn
 pub mod Fashare
 pub mod Haand
 pub mod Flaand
+pub mod FlaandLaws
 pub mod Buckets
 pub mod Beaver
 pub mod Echo

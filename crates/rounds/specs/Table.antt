@@ -101,9 +101,10 @@ unfoldable pub held : ℕ → Frame → Loan → List ℕ → List ℕ
 held k f q w =
     pick (eqb k 6) (keep f KEY-SUMS (Fabitn.keySums f (q .r) (at f BITS w)) w)
     (pick (eqb k 14) (keep f LEAKY (Haand.leakyRows f (delta f w) (at f BITS w)) w)
+    (pick (eqb k 17) (keep f H-COMMS (Flaand.ownComms f (at f HS w) (at f H-COMMS w)) w)
     (pick (eqb k 21) (keep f PERM (Buckets.permBytes f (q .perm)) w)
     (pick (eqb k 22) (keep f TRIPLES (Buckets.tripleRows f (delta f w) (at f BITS w) (at f ZS w) (at f ES w) (at f PERM w) (at f DS w)) w)
-    w)))
+    w))))
 
 -- the message of round k to party r
 unfoldable pub written : ℕ → Frame → Loan → List ℕ → ℕ → List ℕ

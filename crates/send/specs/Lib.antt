@@ -1,2 +1,3 @@
 pub mod Plain
+pub mod Held
 pub mod SendLaws

@@ -1,5 +1,5 @@
 -- The tables of what is held and written, arm by arm, and the sections that the arms are lent.
-use mathlib.Core.Path.{_≡_, refl, sym, ap, ap₂, _∙_}
+use mathlib.Core.Path.{_≡_, refl, sym, ap, ap₂, _∙_, subst}
 use mathlib.Core.Bool.{Bool, true, false, not, _&&_}
 use mathlib.Core.Logic.{_≢_}
 use mathlib.Core.List.{List}
@@ -23,10 +23,11 @@ use Rattle.plan.specs.PlanLaws.{Rest, round-cases}
 use Rattle.engine.specs.declared.Frame.{Frame}
 use Rattle.engine.specs.Step.{frame, Loan}
 use Rattle.engine.specs.Area.{length-sec, length-putSec, sec-same, sec-other, toOthers}
-use Rattle.rounds.specs.Area.{DELTA, SEED, PAIRS, MASKS, BITS, ALPHA, BETA, KEY-SUMS, DMS, LEAKY, ZS, ES, HS, PERM, DS, TRIPLES, SECTIONS, leakyLen, sizes, sizeOf, workLen, at, keep}
+use Rattle.rounds.specs.Area.{DELTA, SEED, PAIRS, MASKS, BITS, ALPHA, BETA, KEY-SUMS, DMS, LEAKY, ZS, ES, HS, H-COMMS, PERM, DS, TRIPLES, SECTIONS, leakyLen, sizes, sizeOf, workLen, at, keep}
 use Rattle.rounds.specs.Loops.{length-rows}
 use Rattle.rounds.specs.FabitnLaws.{length-keyRow}
 use Rattle.rounds.specs.HaandLaws.{length-leakyRow}
+use Rattle.rounds.specs.FlaandLaws.{length-ownComms, own-row}
 use Rattle.rounds.specs.Toss as Toss
 use Rattle.rounds.specs.Fabitn as Fabitn
 use Rattle.rounds.specs.Fashare as Fashare
@@ -38,6 +39,7 @@ use Rattle.rounds.specs.Table.{delta, lent, held, written}
 use Rattle.haand.specs.Given.{Work}
 use Rattle.haand.specs.GivenLaws.{area}
 use Rattle.send.specs.Plain.{plain}
+use Rattle.send.specs.Held.{LeakyKept, CommsKept, Held}
 
 -- ---- the sections that are lent
 pub three-lent : {A B C D : Type 0} (g : A → B → C → D) {a a′ : A} {b b′ : B} {c c′ : C} → a ≡ a′ → b ≡ b′ → c ≡ c′ → g a b c ≡ g a′ b′ c′
@@ -56,10 +58,6 @@ module _ {n i l : ℕ} {w : List ℕ} (h : Work n i l w) where
   length-at s b = length-sec (sizeOf (frame n l i)) SECTIONS w (area h) s b
 
   module _ (x : List ℕ) where
-    pub delta-long : x ≡ at (frame n l i) DELTA w → length x ≡ 16
-    unfolding sizeOf sizes
-    delta-long e = ap length e ∙ length-at DELTA (omega arith)
-
     pub seed-long : x ≡ at (frame n l i) SEED w → length x ≡ 32
     unfolding sizeOf sizes
     seed-long e = ap length e ∙ length-at SEED (omega arith)
@@ -92,6 +90,10 @@ module _ {n i l : ℕ} {w : List ℕ} (h : Work n i l w) where
     unfolding sizeOf sizes
     hs-long e = ap length e ∙ length-at HS (omega arith)
 
+    pub h-comms-long : x ≡ at (frame n l i) H-COMMS w → length x ≡ n * (leaky l * 32)
+    unfolding sizeOf sizes
+    h-comms-long e = ap length e ∙ length-at H-COMMS (omega arith)
+
     pub perm-long : x ≡ at (frame n l i) PERM w → length x ≡ leaky l * 4
     unfolding sizeOf sizes
     perm-long e = ap length e ∙ length-at PERM (omega arith)
@@ -116,9 +118,9 @@ perm-lent k n l q e h = eqb-true _ _ (taken-next (eqb (length (q .r)) 0) _ (isPe
 
 -- ---- what is held
 module _ (f : Frame) (q : Loan) (w : List ℕ) where
-  pub held-none : (k : ℕ) → k ≢ 6 → k ≢ 14 → k ≢ 21 → k ≢ 22 → w ≡ held k f q w
+  pub held-none : (k : ℕ) → k ≢ 6 → k ≢ 14 → k ≢ 17 → k ≢ 21 → k ≢ 22 → w ≡ held k f q w
   unfolding held
-  held-none k a b c d = rw (ne-eqb k 6 a, ne-eqb k 14 b, ne-eqb k 21 c, ne-eqb k 22 d) refl
+  held-none k a b c d e = rw (ne-eqb k 6 a, ne-eqb k 14 b, ne-eqb k 17 c, ne-eqb k 21 d, ne-eqb k 22 e) refl
 
   module _ (k : ℕ) (x : List ℕ) where
     pub held-sums : k ≡ 6 → x ≡ keep f KEY-SUMS (Fabitn.keySums f (q .r) (at f BITS w)) w → x ≡ held k f q w
@@ -128,6 +130,10 @@ module _ (f : Frame) (q : Loan) (w : List ℕ) where
     pub held-leaky : k ≡ 14 → x ≡ keep f LEAKY (Haand.leakyRows f (delta f w) (at f BITS w)) w → x ≡ held k f q w
     unfolding held
     held-leaky e h = h ∙ sym (ap (λ j. held j f q w) e)
+
+    pub held-comms : k ≡ 17 → x ≡ keep f H-COMMS (Flaand.ownComms f (at f HS w) (at f H-COMMS w)) w → x ≡ held k f q w
+    unfolding held
+    held-comms e h = h ∙ sym (ap (λ j. held j f q w) e)
 
     pub held-perm : k ≡ 21 → x ≡ keep f PERM (Buckets.permBytes f (q .perm)) w → x ≡ held k f q w
     unfolding held
@@ -167,6 +173,11 @@ module _ {n i l : ℕ} {w : List ℕ} (h : Work n i l w) where
   unfolding keep
   length-keep s x b e = length-putSec (sizeOf (frame n l i)) SECTIONS w (area h) s x b e ∙ sym (area h)
 
+  length-own : length (Flaand.ownComms (frame n l i) (at (frame n l i) HS w) (at (frame n l i) H-COMMS w)) ≡ sizeOf (frame n l i) H-COMMS
+  unfolding sizeOf sizes
+  length-own =
+      length-ownComms (frame n l i) (at (frame n l i) HS w) (at (frame n l i) H-COMMS w) (h .ranges .own) (h-comms-long h _ refl)
+
   -- `hold` leaves the work area's length
   pub hold-length : (k : ℕ) (q : Loan) → length (held k (frame n l i) q w) ≡ length w
   unfolding held
@@ -182,11 +193,11 @@ module _ {n i l : ℕ} {w : List ℕ} (h : Work n i l w) where
       refl
       (length-keep LEAKY _ (omega arith) (length-leaky (frame n l i) _ _))
       refl
-      refl
+      (length-keep H-COMMS _ (omega arith) length-own)
       refl
       (length-keep PERM _ (omega arith) (length-perm (frame n l i) (q .perm)))
       (length-keep TRIPLES _ (omega arith) (length-triples (frame n l i) _ _ _ _ _ _))
-      (λ j r. ap length (sym (held-none (frame n l i) q w j (r .not6) (r .not14) (r .not21) (r .not22))))
+      (λ j r. ap length (sym (held-none (frame n l i) q w j (r .not6) (r .not14) (r .not17) (r .not21) (r .not22))))
       k
 
   pub hold-work : (k : ℕ) (q : Loan) → Work n i l (held k (frame n l i) q w)
@@ -200,10 +211,8 @@ module _ {n i l : ℕ} {w : List ℕ} (h : Work n i l w) where
   unfolding at keep
   at-other s t x b ne e = sec-other (sizeOf (frame n l i)) SECTIONS w (area h) s t x b ne e
 
-  -- what `hold` kept for round 14 is what `write` asks for
-  pub leaky-held : (q : Loan)
-      → at (frame n l i) LEAKY (held 14 (frame n l i) q w)
-      ≡ Haand.leakyRows (frame n l i) (delta (frame n l i) (held 14 (frame n l i) q w)) (at (frame n l i) BITS (held 14 (frame n l i) q w))
+  -- what `hold` kept is what `write` asks for
+  leaky-held : (q : Loan) → LeakyKept (frame n l i) (held 14 (frame n l i) q w)
   unfolding held delta
   leaky-held q =
       let d = delta (frame n l i) w in
@@ -214,10 +223,20 @@ module _ {n i l : ℕ} {w : List ℕ} (h : Work n i l w) where
       (sym (at-other DELTA LEAKY rows (omega arith) (λ e. omega (arith, e)) long))
       (sym (at-other BITS LEAKY rows (omega arith) (λ e. omega (arith, e)) long))
 
-  pub leaky-for : (k : ℕ) (q : Loan) → k ≡ 14
-      → at (frame n l i) LEAKY (held k (frame n l i) q w)
-      ≡ Haand.leakyRows (frame n l i) (delta (frame n l i) (held k (frame n l i) q w)) (at (frame n l i) BITS (held k (frame n l i) q w))
-  leaky-for k q e = rw e (leaky-held q)
+  comms-held : (q : Loan) → CommsKept (frame n l i) (held 17 (frame n l i) q w)
+  unfolding held
+  comms-held q =
+      let f = frame n l i in
+      let x = Flaand.ownComms f (at f HS w) (at f H-COMMS w) in
+      ap (chunk (leaky l * 32) i) (at-same H-COMMS x (omega arith) length-own)
+      ∙ own-row f (at f HS w) (at f H-COMMS w) (h .ranges .own) (h-comms-long h _ refl)
+      ∙ ap (Flaand.comms f) (sym (at-other HS H-COMMS x (omega arith) (λ e. omega (arith, e)) length-own))
+
+  pub held-for : (k : ℕ) (q : Loan) → Held k (frame n l i) (held k (frame n l i) q w)
+  held-for k q = record {
+    rows = λ e. subst (λ j. LeakyKept (frame n l i) (held j (frame n l i) q w)) (sym e) (leaky-held q);
+    own = λ e. subst (λ j. CommsKept (frame n l i) (held j (frame n l i) q w)) (sym e) (comms-held q);
+  }
 
 -- ---- the length of a round's messages
 module _ (n l k : ℕ) (x : List ℕ) (h : length x ≡ (n - 1) * msgLen n l k) where
@@ -341,9 +360,9 @@ module _ (n i l k : ℕ) (q : Loan) (w x : List ℕ) where
   unfolding written
   wrote-15 e h = wrote n i k 15 f q w x e h
 
-  pub wrote-17 : (y : List ℕ) → y ≡ at f HS w → k ≡ 17 → Sent (λ r. Flaand.commMsg f y) → Sent (written k f q w)
+  pub wrote-17 : k ≡ 17 → Sent (λ r. Flaand.commMsg f (at f HS w)) → Sent (written k f q w)
   unfolding written
-  wrote-17 y s e h = wrote n i k 17 f q w x e (h ∙ ap (λ (z : List ℕ). toOthers n i (λ r. Flaand.commMsg f z)) s)
+  wrote-17 e h = wrote n i k 17 f q w x e h
 
   pub wrote-19 : (y : List ℕ) → y ≡ at f HS w → k ≡ 19 → Sent (λ r. Flaand.hashMsg f y) → Sent (written k f q w)
   unfolding written

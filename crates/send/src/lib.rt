@@ -7,7 +7,7 @@ ghost use lib.ListN.{length};
 ghost use Rattle.plan.specs.Plan.{rLen, leaky, msgLen};
 ghost use Rattle.engine.specs.Step.{frame};
 ghost use Rattle.engine.specs.Area.{toOthers};
-ghost use Rattle.rounds.specs.Area.{MASKS, BITS, KEY-SUMS, DMS, LEAKY, ZS, ES, PERM, DS, TRIPLES, at, keep};
+ghost use Rattle.rounds.specs.Area.{MASKS, BITS, KEY-SUMS, DMS, LEAKY, ZS, ES, HS, H-COMMS, PERM, DS, TRIPLES, at, keep};
 ghost use Rattle.rounds.specs.Table as Table;
 ghost use Rattle.rounds.specs.Fabitn as Fabitn;
 ghost use Rattle.rounds.specs.Fashare as Fashare;
@@ -16,11 +16,9 @@ ghost use Rattle.rounds.specs.Flaand as Flaand;
 ghost use Rattle.rounds.specs.Buckets as Buckets;
 ghost use Rattle.haand.specs.Given.{Work};
 ghost use Rattle.send.specs.Plain.{plain};
-use block::Block;
+ghost use Rattle.send.specs.Held.{LeakyKept, CommsKept, Held};
 
 // Sections of the work area.
-const DELTA: usize = 0;
-
 const SEED: usize = 1;
 
 const PAIRS: usize = 2;
@@ -39,19 +37,13 @@ const ZS: usize = 15;
 
 const HS: usize = 17;
 
-const PERM: usize = 19;
+const H_COMMS: usize = 18;
 
-// Own delta.
-fn delta(work: &[u8], n: usize, i: usize, l: usize) -> Block
-    requires { ⌜ Work n i l (now work) ⌝ }
-    ensures { λ r. ⌜ r ≡ Table.delta (frame n l i) (now (work .entry)) ⌝ }
-{
-    block::load(area::section(work, n, i, l, DELTA), 0)
-}
+const PERM: usize = 19;
 
 // ---- what is kept when the messages are made
 
-// Round 6: the sums of the keys, "so that r is needed in one call alone".
+// Round 6: the sums of the keys, so that r is needed in one call alone.
 fn hold_key_sums(work: &mut [u8], r: &[u8], n: usize, i: usize, l: usize)
     requires { ⌜ Work n i l (now work) ⌝ }
     requires { ⌜ length (now r) ≡ rLen l ⌝ }
@@ -69,10 +61,21 @@ fn hold_leaky(work: &mut [u8], n: usize, i: usize, l: usize)
     ensures { λ _. ⌜ now (work .exit) ≡ keep (frame n l i) LEAKY
         (Haand.leakyRows (frame n l i) (Table.delta (frame n l i) (now (work .entry))) (at (frame n l i) BITS (now (work .entry)))) (now (work .entry)) ⌝ }
 {
-    let d = delta(work, n, i, l);
+    let d = area::delta(work, n, i, l);
     let recs = area::section_at(n, l, BITS);
     let rows = area::section_at(n, l, LEAKY);
     haand::keep_leaky(work, recs, rows, d, n, i, l);
+}
+
+// Round 17: the commitments to h.
+fn hold_h_comms(work: &mut [u8], n: usize, i: usize, l: usize)
+    requires { ⌜ Work n i l (now work) ⌝ }
+    ensures { λ _. ⌜ now (work .exit) ≡ keep (frame n l i) H-COMMS
+        (Flaand.ownComms (frame n l i) (at (frame n l i) HS (now (work .entry))) (at (frame n l i) H-COMMS (now (work .entry)))) (now (work .entry)) ⌝ }
+{
+    let hs = area::section_at(n, l, HS);
+    let comms = area::section_at(n, l, H_COMMS);
+    flaand::hold_h_comms(work, hs, comms, n, i, l);
 }
 
 // Round 21: the permutation.
@@ -94,7 +97,7 @@ fn hold_triples(work: &mut [u8], n: usize, i: usize, l: usize)
         (at (frame n l i) ZS (now (work .entry))) (at (frame n l i) ES (now (work .entry))) (at (frame n l i) PERM (now (work .entry)))
         (at (frame n l i) DS (now (work .entry)))) (now (work .entry)) ⌝ }
 {
-    let d = delta(work, n, i, l);
+    let d = area::delta(work, n, i, l);
     triples::keep_triples(work, d, n, i, l);
 }
 
@@ -107,6 +110,7 @@ pub fn hold(work: &mut [u8], r: &[u8], perm: &[u32], n: usize, i: usize, l: usiz
     match k {
         6 => hold_key_sums(work, r, n, i, l),
         14 => hold_leaky(work, n, i, l),
+        17 => hold_h_comms(work, n, i, l),
         21 => hold_perm(work, perm, n, i, l),
         22 => hold_triples(work, n, i, l),
         _ => {}
@@ -122,7 +126,7 @@ fn write_comms(out: &mut [u8], work: &[u8], n: usize, i: usize, l: usize)
     ensures { λ _. ⌜ now (out .exit) ≡ toOthers n i (λ _. Fashare.commMsg (frame n l i) (Table.delta (frame n l i) (now (work .entry)))
         (at (frame n l i) BITS (now (work .entry)))) ⌝ }
 {
-    let d = delta(work, n, i, l);
+    let d = area::delta(work, n, i, l);
     fashare::write_comms(out, area::section(work, n, i, l, BITS), d, n, i, l);
 }
 
@@ -133,7 +137,7 @@ fn write_dibi(out: &mut [u8], work: &[u8], n: usize, i: usize, l: usize)
     ensures { λ _. ⌜ now (out .exit) ≡ toOthers n i (λ _. Fashare.dibiMsg (frame n l i) (Table.delta (frame n l i) (now (work .entry)))
         (at (frame n l i) BITS (now (work .entry))) (at (frame n l i) DMS (now (work .entry)))) ⌝ }
 {
-    let d = delta(work, n, i, l);
+    let d = area::delta(work, n, i, l);
     let recs = area::section(work, n, i, l, BITS);
     let dms = area::section(work, n, i, l, DMS);
     fashare_open::write_dibi(out, recs, dms, d, n, i, l);
@@ -143,7 +147,7 @@ fn write_dibi(out: &mut [u8], work: &[u8], n: usize, i: usize, l: usize)
 fn write_haand(out: &mut [u8], work: &[u8], n: usize, i: usize, l: usize)
     requires { ⌜ Work n i l (now work) ⌝ }
     requires { ⌜ length (now out) ≡ (n - 1) * msgLen n l 14 ⌝ }
-    requires { ⌜ at (frame n l i) LEAKY (now work) ≡ Haand.leakyRows (frame n l i) (Table.delta (frame n l i) (now work)) (at (frame n l i) BITS (now work)) ⌝ }
+    requires { ⌜ LeakyKept (frame n l i) (now work) ⌝ }
     ensures { λ _. ⌜ now (out .exit) ≡ toOthers n i (Haand.haandMsg (frame n l i) (Table.delta (frame n l i) (now (work .entry)))
         (at (frame n l i) MASKS (now (work .entry))) (at (frame n l i) BITS (now (work .entry)))) ⌝ }
 {
@@ -166,6 +170,20 @@ fn write_flaand(out: &mut [u8], work: &[u8], n: usize, i: usize, l: usize)
     flaand::write_flaand(out, recs, rows, zs, n, i, l);
 }
 
+// Round 17, from the own row that `hold` kept.
+fn write_h_comms(out: &mut [u8], work: &[u8], n: usize, i: usize, l: usize)
+    requires { ⌜ Work n i l (now work) ⌝ }
+    requires { ⌜ length (now out) ≡ (n - 1) * msgLen n l 17 ⌝ }
+    requires { ⌜ CommsKept (frame n l i) (now work) ⌝ }
+    ensures { λ _. ⌜ now (out .exit) ≡ toOthers n i (λ _. Flaand.commMsg (frame n l i) (at (frame n l i) HS (now (work .entry)))) ⌝ }
+{
+    let rows = area::section(work, n, i, l, H_COMMS);
+    let len = plan::leaky(l) * 32;
+    let a = i * len;
+    let e = a + len;
+    flaand::write_h_comms(out, &rows[a..e], n, i, l);
+}
+
 // Round 21.
 fn write_dvalues(out: &mut [u8], work: &[u8], n: usize, i: usize, l: usize)
     requires { ⌜ Work n i l (now work) ⌝ }
@@ -178,7 +196,7 @@ fn write_dvalues(out: &mut [u8], work: &[u8], n: usize, i: usize, l: usize)
     buckets::write_dvalues(out, recs, perm, n, i, l);
 }
 
-// The messages of round k. Round 14 is made from the rows that `hold` kept of its keys.
+// The messages of round k. Rounds 14 and 17 are made from what `hold` kept.
 pub fn write(
     out: &mut [u8],
     work: &[u8],
@@ -192,8 +210,7 @@ pub fn write(
     requires { ⌜ Work n i l (now work) ⌝ }
     requires { ⌜ (plain k ≡ true) × (length (now out) ≡ (n - 1) * msgLen n l k) ⌝ }
     requires { ⌜ Table.lent k n l (record { r = now r; perm = now perm }) ≡ 0 ⌝ }
-    requires { ⌜ (k ≡ 14 → at (frame n l i) LEAKY (now work)
-        ≡ Haand.leakyRows (frame n l i) (Table.delta (frame n l i) (now work)) (at (frame n l i) BITS (now work))) ⌝ }
+    requires { ⌜ Held k (frame n l i) (now work) ⌝ }
     ensures { λ _. ⌜ now (out .exit) ≡ toOthers n i (Table.written k (frame n l i) (record { r = now (r .entry); perm = now (perm .entry) }) (now (work .entry))) ⌝ }
 {
     match k {
@@ -207,7 +224,7 @@ pub fn write(
         12 => write_dibi(out, work, n, i, l),
         14 => write_haand(out, work, n, i, l),
         15 => write_flaand(out, work, n, i, l),
-        17 => flaand::write_h_comms(out, area::section(work, n, i, l, HS), n, i, l),
+        17 => write_h_comms(out, work, n, i, l),
         19 => flaand::write_hs(out, area::section(work, n, i, l, HS), n, i, l),
         21 => write_dvalues(out, work, n, i, l),
         22 => beaver::write_faand(out, work, n, i, l),

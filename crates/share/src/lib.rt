@@ -57,6 +57,13 @@ impl Key {
     {
         Mac(self.0.xor(d.0))
     }
+
+    // "in `flaand` z's key, a key plus a delta, stays a key"
+    pub fn z_key(self, d: Delta) -> Key
+        ensures { λ r. ⌜ r .0 ≡ blocks .op (self .0) (d .0) ⌝ }
+    {
+        Key(self.0.xor(d.0))
+    }
 }
 
 // The bytes of a record among n parties.

@@ -18,9 +18,9 @@ ghost use Rattle.buckets.specs.Given.{Ranged};
 ghost use Rattle.buckets.specs.Place.{Place};
 ghost use Rattle.triples.specs.Given.{Kept, Bucketed};
 ghost use Rattle.triples.specs.Laws.{leakyAt, abcRow};
-use block::Block;
 use buckets::Span;
 use engine::Frame;
+use share::Delta;
 use share::Key;
 
 // Sections of the work area.
@@ -45,20 +45,20 @@ fn r_at(f: Frame, t: usize) -> usize
 }
 
 // z's key of party k at position t: that of the r record at `at`, plus delta where k's e is 1.
-fn z_key(recs: &[u8], at: usize, es: &[u8], delta: Block, l: usize, t: usize, k: usize) -> Key
+fn z_key(recs: &[u8], at: usize, es: &[u8], delta: Delta, l: usize, t: usize, k: usize) -> Key
     requires { ⌜ (k < 8) × (at + recordLen (k + 1) ≤ length (now recs)) ⌝ }
     requires { ⌜ (l ≤ 300000) × (k * leaky l + t < length (now es)) ⌝ }
-    ensures { λ r. ⌜ r .0 ≡ blocks .op (keyAt (now (recs .entry)) at k) (sel blocks (odd (getD (now (es .entry)) (k * leaky l + t) 0)) delta) ⌝ }
+    ensures { λ r. ⌜ r .0 ≡ blocks .op (keyAt (now (recs .entry)) at k) (sel blocks (odd (getD (now (es .entry)) (k * leaky l + t) 0)) (delta .0)) ⌝ }
 {
     let e = block::bit(es, k * plan::leaky(l) + t);
-    Key(share::key_at(recs, at, k).0.xor(delta.const_mul(e)))
+    share::key_at(recs, at, k).z_key(delta.times(e))
 }
 
 // z's record at position t: r's MACs, the own bit z.
-fn put_z_record(out: &mut [u8], recs: &[u8], zs: &[u8], es: &[u8], delta: Block, f: Frame, t: usize)
+fn put_z_record(out: &mut [u8], recs: &[u8], zs: &[u8], es: &[u8], delta: Delta, f: Frame, t: usize)
     requires { ⌜ (Ranged f) × (t < leaky (f .l)) × (length (now out) ≡ recordLen (f .n)) ⌝ }
     requires { ⌜ Kept f (now recs) (now zs) (now es) ⌝ }
-    ensures { λ _. ⌜ now (out .exit) ≡ recordOf (f .n) (f .i) (B.zShare f delta (now (recs .entry)) (now (zs .entry)) (now (es .entry)) t) ⌝ }
+    ensures { λ _. ⌜ now (out .exit) ≡ recordOf (f .n) (f .i) (B.zShare f (delta .0) (now (recs .entry)) (now (zs .entry)) (now (es .entry)) t) ⌝ }
 {
     let at = r_at(f, t);
     let n = f.n;
@@ -76,10 +76,10 @@ fn put_z_record(out: &mut [u8], recs: &[u8], zs: &[u8], es: &[u8], delta: Block,
 }
 
 // The same by value, with zeros behind it.
-fn z_record(recs: &[u8], zs: &[u8], es: &[u8], delta: Block, f: Frame, t: usize) -> [u8; 257]
+fn z_record(recs: &[u8], zs: &[u8], es: &[u8], delta: Delta, f: Frame, t: usize) -> [u8; 257]
     requires { ⌜ (Ranged f) × (t < leaky (f .l)) ⌝ }
     requires { ⌜ Kept f (now recs) (now zs) (now es) ⌝ }
-    ensures { λ r. ⌜ r ≡ recordOf (f .n) (f .i) (B.zShare f delta (now (recs .entry)) (now (zs .entry)) (now (es .entry)) t)
+    ensures { λ r. ⌜ r ≡ recordOf (f .n) (f .i) (B.zShare f (delta .0) (now (recs .entry)) (now (zs .entry)) (now (es .entry)) t)
         ++ replicate (257 - recordLen (f .n)) 0 ⌝ }
 {
     let mut z = [0u8; 257];
@@ -89,10 +89,10 @@ fn z_record(recs: &[u8], zs: &[u8], es: &[u8], delta: Block, f: Frame, t: usize)
 }
 
 // The records x and z at position t.
-fn put_first(pair: &mut [u8], recs: &[u8], zs: &[u8], es: &[u8], delta: Block, f: Frame, t: usize)
+fn put_first(pair: &mut [u8], recs: &[u8], zs: &[u8], es: &[u8], delta: Delta, f: Frame, t: usize)
     requires { ⌜ (Ranged f) × (t < leaky (f .l)) × (length (now pair) ≡ 2 * recordLen (f .n)) ⌝ }
     requires { ⌜ Kept f (now recs) (now zs) (now es) ⌝ }
-    ensures { λ _. ⌜ now (pair .exit) ≡ B.tripleRow f (leakyAt f delta (now (recs .entry)) (now (zs .entry)) (now (es .entry)) t) ⌝ }
+    ensures { λ _. ⌜ now (pair .exit) ≡ B.tripleRow f (leakyAt f (delta .0) (now (recs .entry)) (now (zs .entry)) (now (es .entry)) t) ⌝ }
 {
     let len = share::record_len(f.n);
     share::copy_record(&mut pair[0..len], recs, t * len, f.n, f.i);
@@ -105,7 +105,7 @@ fn add_entry(
     recs: &[u8],
     zs: &[u8],
     es: &[u8],
-    delta: Block,
+    delta: Delta,
     f: Frame,
     t: usize,
     d: bool,
@@ -113,7 +113,7 @@ fn add_entry(
     requires { ⌜ (Ranged f) × (t < leaky (f .l)) × (length (now pair) ≡ 2 * recordLen (f .n)) ⌝ }
     requires { ⌜ Kept f (now recs) (now zs) (now es) ⌝ }
     ensures { λ _. ⌜ ((g : B.Triple) → Holds (f .n) (f .i) (recordLen (f .n)) g (now (pair .entry))
-        → Holds (f .n) (f .i) (recordLen (f .n)) (B.two g (leakyAt f delta (now (recs .entry)) (now (zs .entry)) (now (es .entry)) t) d) (now (pair .exit))) ⌝ }
+        → Holds (f .n) (f .i) (recordLen (f .n)) (B.two g (leakyAt f (delta .0) (now (recs .entry)) (now (zs .entry)) (now (es .entry)) t) d) (now (pair .exit))) ⌝ }
 {
     let z = z_record(recs, zs, es, delta, f, t);
     let len = share::record_len(f.n);
@@ -128,13 +128,13 @@ fn put_triple(
     es: &[u8],
     perm: &[u8],
     opened: &[u8],
-    delta: Block,
+    delta: Delta,
     f: Frame,
     j: usize,
 )
     requires { ⌜ (Ranged f) × (j < f .l) × (length (now pair) ≡ 2 * recordLen (f .n)) ⌝ }
     requires { ⌜ Bucketed f (now recs) (now zs) (now es) (now perm) (now opened) ⌝ }
-    ensures { λ _. ⌜ now (pair .exit) ≡ B.tripleRow f (B.abc f delta (now (recs .entry)) (now (zs .entry)) (now (es .entry)) (now (perm .entry)) (now (opened .entry)) j) ⌝ }
+    ensures { λ _. ⌜ now (pair .exit) ≡ B.tripleRow f (B.abc f (delta .0) (now (recs .entry)) (now (zs .entry)) (now (es .entry)) (now (perm .entry)) (now (opened .entry)) j) ⌝ }
 {
     let due = plan::bucket_size(f.l) - 1;
     put_first(pair, recs, zs, es, delta, f, buckets::entry(perm, f, j, 0));
@@ -155,14 +155,14 @@ fn triple_row(
     es: Span,
     perm: Span,
     opened: Span,
-    delta: Block,
+    delta: Delta,
     f: Frame,
     j: usize,
 ) -> [u8; 514]
     requires { ⌜ (Work (f .n) (f .i) (f .l) (now work)) × (j < f .l) ⌝ }
     requires { ⌜ (Place f Area.BITS (recs .0) (recs .1)) × (Place f Area.ZS (zs .0) (zs .1)) × (Place f Area.ES (es .0) (es .1)) ⌝ }
     requires { ⌜ (Place f Area.PERM (perm .0) (perm .1)) × (Place f Area.DS (opened .0) (opened .1)) ⌝ }
-    ensures { λ r. ⌜ r ≡ abcRow f delta (Area.at f Area.BITS (now (work .entry))) (Area.at f Area.ZS (now (work .entry)))
+    ensures { λ r. ⌜ r ≡ abcRow f (delta .0) (Area.at f Area.BITS (now (work .entry))) (Area.at f Area.ZS (now (work .entry)))
         (Area.at f Area.ES (now (work .entry))) (Area.at f Area.PERM (now (work .entry))) (Area.at f Area.DS (now (work .entry))) j
         ++ replicate (514 - 2 * recordLen (f .n)) 0 ⌝ }
 {
@@ -193,9 +193,9 @@ fn triple_row(
 }
 
 // Keeps the triples of all buckets in TRIPLES.
-pub fn keep_triples(work: &mut [u8], delta: Block, n: usize, i: usize, l: usize)
+pub fn keep_triples(work: &mut [u8], delta: Delta, n: usize, i: usize, l: usize)
     requires { ⌜ Work n i l (now work) ⌝ }
-    ensures { λ _. ⌜ now (work .exit) ≡ Area.keep (frame n l i) Area.TRIPLES (B.tripleRows (frame n l i) delta
+    ensures { λ _. ⌜ now (work .exit) ≡ Area.keep (frame n l i) Area.TRIPLES (B.tripleRows (frame n l i) (delta .0)
         (Area.at (frame n l i) Area.BITS (now (work .entry))) (Area.at (frame n l i) Area.ZS (now (work .entry)))
         (Area.at (frame n l i) Area.ES (now (work .entry))) (Area.at (frame n l i) Area.PERM (now (work .entry)))
         (Area.at (frame n l i) Area.DS (now (work .entry)))) (now (work .entry)) ⌝ }

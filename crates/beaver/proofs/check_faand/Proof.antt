@@ -31,7 +31,7 @@ returns c =
     let r = p .before in
     let a = r .before .before .before .before .before .args in
     subst (λ (x : Fault). Finds (c .first-fault .result .code) (c .first-fault .result .party) x)
-    (five (λ v w x y z. R.deFaults (frame (a .n) (a .l) (a .i)) (a .delta) v w x y z (letter (now (a .incoming)) (now (a .starts)) (now (a .lens))))
+    (five (λ v w x y z. R.deFaults (frame (a .n) (a .l) (a .i)) (a .delta .0) v w x y z (letter (now (a .incoming)) (now (a .starts)) (now (a .lens))))
     (r .section .ensures) (p .section2 .ensures) (t .section3 .ensures) (d .section4 .ensures) (e .section5 .ensures))
     (c .first-fault .ensures)
 

@@ -20,7 +20,7 @@ module _ (s : tie.Start) where
   m = letter (now (s .args .incoming)) (now (s .args .starts)) (now (s .args .lens))
 
   abbrev g : ℕ → ℕ
-  g = deFault (s .args .f) (s .args .delta) (now (s .args .recs)) (now (s .args .perm)) (now (s .args .triples)) (now (s .args .alpha)) (now (s .args .beta)) m
+  g = deFault (s .args .f) (s .args .delta .0) (now (s .args .recs)) (now (s .args .perm)) (now (s .args .triples)) (now (s .args .alpha)) (now (s .args .beta)) m
 
 returns : tie.Need-returns
 returns c =
@@ -57,7 +57,7 @@ answers c x e =
     let a = s .args in
     fault-other (a .f .i) (a .k) x (g s) (c .before .before .if1 .left)
     (e ∙ ap (λ (b : Bool). pick {A = ℕ} b 0 12) (c .message-holds .ensures
-    ∙ ap (λ (l : List ℕ). allOf (a .f .l) (holds (a .f) (a .delta) (now (a .recs)) (now (a .perm)) (now (a .triples)) (now (a .alpha)) (now (a .beta)) l (a .k))) (c .before .letter .ensures)))
+    ∙ ap (λ (l : List ℕ). allOf (a .f .l) (holds (a .f) (a .delta .0) (now (a .recs)) (now (a .perm)) (now (a .triples)) (now (a .alpha)) (now (a .beta)) l (a .k))) (c .before .letter .ensures)))
 
 returns-2 : tie.Need-returns-2
 returns-2 c = answers (c .before) 0 (ap (λ (b : Bool). pick {A = ℕ} b 0 12) (sym (c .if2 .taken)))

@@ -22,7 +22,7 @@ of f delta recs perm triples alpha beta incoming starts lens = deFault f delta r
 
 abbrev Inv-loop : tie.InvT-loop
 Inv-loop recs perm triples alpha beta incoming starts lens f delta n k₀ k =
-    (k ≤ f .n) × (scan k (faultAt (f .i) (of f delta recs perm triples alpha beta incoming starts lens)) .code ≡ 0)
+    (k ≤ f .n) × (scan k (faultAt (f .i) (of f (delta .0) recs perm triples alpha beta incoming starts lens)) .code ≡ 0)
 
 abbrev μ-loop : tie.MeasureT-loop
 μ-loop recs perm triples alpha beta incoming starts lens f delta n k₀ k = f .n - k
@@ -30,13 +30,13 @@ abbrev μ-loop : tie.MeasureT-loop
 module _ (s : tie.Start Inv-loop μ-loop) where
   abbrev g : ℕ → ℕ
   g =
-      of (s .args .f) (s .args .delta) (now (s .args .recs)) (now (s .args .perm)) (now (s .args .triples)) (now (s .args .alpha)) (now (s .args .beta)) (now (s .args .incoming))
+      of (s .args .f) (s .args .delta .0) (now (s .args .recs)) (now (s .args .perm)) (now (s .args .triples)) (now (s .args .alpha)) (now (s .args .beta)) (now (s .args .incoming))
       (now (s .args .starts)) (now (s .args .lens))
 
-  by : R.deFaults (s .args .f) (s .args .delta) (now (s .args .recs)) (now (s .args .perm)) (now (s .args .triples)) (now (s .args .alpha)) (now (s .args .beta))
+  by : R.deFaults (s .args .f) (s .args .delta .0) (now (s .args .recs)) (now (s .args .perm)) (now (s .args .triples)) (now (s .args .alpha)) (now (s .args .beta))
       (letter (now (s .args .incoming)) (now (s .args .starts)) (now (s .args .lens))) ≡ byParty (s .args .f) g
   by =
-      faults-by (s .args .f) (s .args .delta) (now (s .args .recs)) (now (s .args .perm)) (now (s .args .triples)) (now (s .args .alpha)) (now (s .args .beta))
+      faults-by (s .args .f) (s .args .delta .0) (now (s .args .recs)) (now (s .args .perm)) (now (s .args .triples)) (now (s .args .alpha)) (now (s .args .beta))
       (letter (now (s .args .incoming)) (now (s .args .starts)) (now (s .args .lens)))
 
 loop-holds : tie.Need-loop-holds Inv-loop μ-loop

@@ -61,8 +61,8 @@ returns c =
     B.e-read (a .f) (now (a .recs)) (now (a .perm)) (now (a .beta)) (a .j) (p .before .before .share-at .result) (p .y-at .result)
     (p .before .before .share-at .ensures) (p .y-at .ensures) in
     ap₂ _&&_
-    (c .before .mac-holds .ensures ∙ ap (λ (g : Share). eqBlock (blockAt m (i + 2)) (blocks .op (g .key (a .k)) (sel blocks (odd (getD m i 0)) (a .delta)))) d)
-    (c .mac-holds2 .ensures ∙ ap (λ (g : Share). eqBlock (blockAt m (i + 18)) (blocks .op (g .key (a .k)) (sel blocks (odd (getD m (i + 1) 0)) (a .delta)))) e)
+    (c .before .mac-holds .ensures ∙ ap (λ (g : Share). eqBlock (blockAt m (i + 2)) (blocks .op (g .key (a .k)) (sel blocks (odd (getD m i 0)) (a .delta .0)))) d)
+    (c .mac-holds2 .ensures ∙ ap (λ (g : Share). eqBlock (blockAt m (i + 18)) (blocks .op (g .key (a .k)) (sel blocks (odd (getD m (i + 1) 0)) (a .delta .0)))) e)
 
 pub item-holds-spec : {M : Type 1} → statement M
 item-holds-spec =

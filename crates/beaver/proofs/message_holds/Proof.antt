@@ -11,7 +11,7 @@ use Rattle.beaver.proofs.message_holds.Statement.{statement}
 use Rattle.beaver.proofs.message_holds.Tie as tie
 
 abbrev Inv-loop : tie.InvT-loop
-Inv-loop m recs perm triples alpha beta f k delta count ok₀ j₀ ok j = (j ≤ f .l) × (ok ≡ allOf j (holds f delta recs perm triples alpha beta m k))
+Inv-loop m recs perm triples alpha beta f k delta count ok₀ j₀ ok j = (j ≤ f .l) × (ok ≡ allOf j (holds f (delta .0) recs perm triples alpha beta m k))
 
 abbrev μ-loop : tie.MeasureT-loop
 μ-loop m recs perm triples alpha beta f k delta count ok₀ j₀ ok j = f .l - j
@@ -20,7 +20,7 @@ abbrev μ-loop : tie.MeasureT-loop
 module _ (s : tie.Start Inv-loop μ-loop) where
   abbrev g : ℕ → Bool
   g =
-      holds (s .args .f) (s .args .delta) (now (s .args .recs)) (now (s .args .perm)) (now (s .args .triples)) (now (s .args .alpha)) (now (s .args .beta)) (now (s .args .m))
+      holds (s .args .f) (s .args .delta .0) (now (s .args .recs)) (now (s .args .perm)) (now (s .args .triples)) (now (s .args .alpha)) (now (s .args .beta)) (now (s .args .m))
       (s .args .k)
 
 loop-holds : tie.Need-loop-holds Inv-loop μ-loop

@@ -16,7 +16,7 @@ use Rattle.buckets.proofs.bucket_holds.Statement.{statement}
 use Rattle.buckets.proofs.bucket_holds.Tie as tie
 
 abbrev Inv-loop : tie.InvT-loop
-Inv-loop m recs perm delta f k j due bits macs y0 ok₀ e₀ ok e = (e ≤ due) × (ok ≡ allOf e (dHolds f delta recs perm m k j))
+Inv-loop m recs perm delta f k j due bits macs y0 ok₀ e₀ ok e = (e ≤ due) × (ok ≡ allOf e (dHolds f (delta .0) recs perm m k j))
 
 abbrev μ-loop : tie.MeasureT-loop
 μ-loop m recs perm delta f k j due bits macs y0 ok₀ e₀ ok e = due - e
@@ -120,8 +120,8 @@ loop-again c =
     let a = start i .args in
     let l = i .before .loop in (
       omega (arith, i .loop-test .taken),
-      all-more (dHolds (a .f) (a .delta) (now (a .recs)) (now (a .perm)) (now (a .m)) (a .k) (a .j)) (l .e) (l .ok) _ (l .inv .1)
-          (d-holds (a .f) (a .delta) (now (a .recs)) (now (a .perm)) (now (a .m)) (a .k) (a .j) (l .e) (first i .y-at .result) (y .y-at2 .result)
+      all-more (dHolds (a .f) (a .delta .0) (now (a .recs)) (now (a .perm)) (now (a .m)) (a .k) (a .j)) (l .e) (l .ok) _ (l .inv .1)
+          (d-holds (a .f) (a .delta .0) (now (a .recs)) (now (a .perm)) (now (a .m)) (a .k) (a .j) (l .e) (first i .y-at .result) (y .y-at2 .result)
           (p .bucket-at .result + 8 + l .e) (p .bucket-at .result + 8 + due p + 8 + l .e * 16) _ (first i .y-at .ensures) (y .y-at2 .ensures)
           (omega (arith, p .bucket-at .ensures)) (omega (arith, p .bucket-at .ensures, due-is (sized p))) (c .mac-holds .ensures)),
     )
@@ -132,7 +132,7 @@ returns c =
     let l = c .before .loop in
     let z = c .before .before .before .before in
     let a = z .before .before .before .before .args in
-    l .inv .1 ∙ ap (λ e. allOf e (dHolds (a .f) (a .delta) (now (a .recs)) (now (a .perm)) (now (a .m)) (a .k) (a .j)))
+    l .inv .1 ∙ ap (λ e. allOf e (dHolds (a .f) (a .delta .0) (now (a .recs)) (now (a .perm)) (now (a .m)) (a .k) (a .j)))
     (let e : l .e ≡ later (a .f) = omega (arith, due-is z) in e)
 
 pub bucket-holds-spec : {M : Type 1} → statement M

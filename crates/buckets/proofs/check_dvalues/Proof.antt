@@ -19,7 +19,7 @@ abbrev of : List ℕ → List ℕ → Block → List ℕ → List ℕ → List �
 of recs perm delta incoming starts lens n i l = dFault (frame n l i) delta recs perm (letter incoming starts lens)
 
 abbrev Inv-loop : tie.InvT-loop
-Inv-loop recs perm delta incoming starts lens n i l k₀ k = (k ≤ n) × (scan k (faultAt i (of recs perm delta incoming starts lens n i l)) .code ≡ 0)
+Inv-loop recs perm delta incoming starts lens n i l k₀ k = (k ≤ n) × (scan k (faultAt i (of recs perm (delta .0) incoming starts lens n i l)) .code ≡ 0)
 
 abbrev μ-loop : tie.MeasureT-loop
 μ-loop recs perm delta incoming starts lens n i l k₀ k = n - k
@@ -30,7 +30,7 @@ module _ (s : tie.Start Inv-loop μ-loop) where
   m = letter (now (s .args .incoming)) (now (s .args .starts)) (now (s .args .lens))
 
   abbrev g : ℕ → ℕ
-  g = dFault (frame (s .args .n) (s .args .l) (s .args .i)) (s .args .delta) (now (s .args .recs)) (now (s .args .perm)) m
+  g = dFault (frame (s .args .n) (s .args .l) (s .args .i)) (s .args .delta .0) (now (s .args .recs)) (now (s .args .perm)) m
 
 loop-holds : tie.Need-loop-holds Inv-loop μ-loop
 loop-holds c =
@@ -46,7 +46,7 @@ returns : tie.Need-returns Inv-loop μ-loop
 returns c =
     let s = c .before .before .before .before .before .before .before .before .before in
     let a = s .args in
-    rw (faults-by (frame (a .n) (a .l) (a .i)) (a .delta) (now (a .recs)) (now (a .perm)) (m s))
+    rw (faults-by (frame (a .n) (a .l) (a .i)) (a .delta .0) (now (a .recs)) (now (a .perm)) (m s))
     (finds-first (a .n) (a .i) (g s) (a .l) (c .before .before .before .loop .k) (c .before .d-fault .result)
     (c .before .before .loop-test .taken) (c .before .before .before .loop .inv .1) (c .before .d-fault .ensures) (c .if1 .taken))
 
@@ -61,7 +61,7 @@ returns-2 : tie.Need-returns-2 Inv-loop μ-loop
 returns-2 c =
     let s = c .before .before .before .before .before .before .before in
     let a = s .args in
-    rw (faults-by (frame (a .n) (a .l) (a .i)) (a .delta) (now (a .recs)) (now (a .perm)) (m s))
+    rw (faults-by (frame (a .n) (a .l) (a .i)) (a .delta .0) (now (a .recs)) (now (a .perm)) (m s))
     (finds-none (a .n) (a .i) (g s) (a .l) (c .before .loop .k) 0 (c .before .loop .inv .1) (omega arith))
 
 pub check-dvalues-spec : {M : Type 1} → statement M

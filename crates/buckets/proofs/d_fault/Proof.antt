@@ -20,7 +20,7 @@ module _ (s : tie.Start) where
   m = letter (now (s .args .incoming)) (now (s .args .starts)) (now (s .args .lens))
 
   abbrev of : ℕ → ℕ
-  of = dFault (frame (s .args .n) (s .args .l) (s .args .i)) (s .args .delta) (now (s .args .recs)) (now (s .args .perm)) m
+  of = dFault (frame (s .args .n) (s .args .l) (s .args .i)) (s .args .delta .0) (now (s .args .recs)) (now (s .args .perm)) m
 
 returns : tie.Need-returns
 returns c =
@@ -60,7 +60,7 @@ answers c x e =
     let a = s .args in
     fault-other (a .i) (a .k) x (of s) (c .before .before .if1 .left)
     (e ∙ ap (λ (b : Bool). pick {A = ℕ} b 0 11)
-    (c .message-holds .ensures ∙ ap (λ (t : List ℕ). messageHolds (frame (a .n) (a .l) (a .i)) (a .delta) (now (a .recs)) (now (a .perm)) t (a .k)) (c .before .letter .ensures)))
+    (c .message-holds .ensures ∙ ap (λ (t : List ℕ). messageHolds (frame (a .n) (a .l) (a .i)) (a .delta .0) (now (a .recs)) (now (a .perm)) t (a .k)) (c .before .letter .ensures)))
 
 returns-2 : tie.Need-returns-2
 returns-2 c = answers (c .before) 0 (ap (λ (b : Bool). pick {A = ℕ} b 0 11) (sym (c .if2 .taken)))

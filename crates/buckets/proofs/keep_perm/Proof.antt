@@ -1,12 +1,12 @@
-use mathlib.Core.Path.{_≡_, refl, sym, ap, _∙_}
+use mathlib.Core.Path.{_≡_, refl, ap}
 use mathlib.Core.List.{List}
 use Prim.Native.Nat.{ℕ, _+_, _-_, _*_, _≤_}
 use lib.ListN.{length, getD}
 use native.Mathlib.Omega.{arith}
 use borrow.Author.Needs.{needs}
 use denote.Ref.{now}
-use Rattle.lists.specs.Over.{cat, Written, written-zero, written-turn, written-end, length-take-drop}
-use Rattle.rounds.specs.Buckets.{le4, permBytes}
+use Rattle.lists.specs.Over.{Written, written-zero, written-turn, written-end, length-take-drop}
+use Rattle.rounds.specs.Buckets.{le4}
 use Rattle.buckets.proofs.keep_perm.Statement.{statement}
 use Rattle.buckets.proofs.keep_perm.Tie as tie
 
@@ -48,12 +48,10 @@ same-length : tie.Need-same-length Inv-loop μ-loop
 same-length c = c .before .loop .inv .1 .same
 
 returns : tie.Need-returns Inv-loop μ-loop
-unfolding permBytes
-returns c n l i h =
+returns c =
     let s = c .before .before .before .before in
     written-end (row (now (s .args .perm))) (c .before .loop .t) (length (now (s .args .perm))) (c .before .loop .t * 4) (now (s .args .section)) (c .before .loop .section)
     (c .before .loop .inv .1) (omega arith) (omega (arith, s .pre))
-    ∙ ap (λ k. cat k (row (now (s .args .perm)))) h
 
 pub keep-perm-spec : {M : Type 1} → statement M
 keep-perm-spec =

@@ -13,7 +13,7 @@ returns c =
     let t = x .before in
     let b = t .before in
     let s = b .before in
-    let delta = s .before .before .before .before .args .delta in
+    let delta = s .before .before .before .before .args .delta .0 in
     c .equals .ensures
     ∙ ap₂ eqBlock (c .before .load .ensures)
     (x .xor-delta .ensures ∙ ap₂ (blocks .op) (s .sum-key .ensures) (t .times .ensures ∙ ap (λ (v : Bool). sel blocks v delta) (b .bit .ensures)))

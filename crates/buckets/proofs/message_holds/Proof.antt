@@ -10,7 +10,7 @@ use Rattle.buckets.proofs.message_holds.Statement.{statement}
 use Rattle.buckets.proofs.message_holds.Tie as tie
 
 abbrev Inv-loop : tie.InvT-loop
-Inv-loop m recs perm delta f k count ok₀ j₀ ok j = (j ≤ f .l) × (ok ≡ allOf j (bucketHolds f delta recs perm m k))
+Inv-loop m recs perm delta f k count ok₀ j₀ ok j = (j ≤ f .l) × (ok ≡ allOf j (bucketHolds f (delta .0) recs perm m k))
 
 abbrev μ-loop : tie.MeasureT-loop
 μ-loop m recs perm delta f k count ok₀ j₀ ok j = f .l - j
@@ -28,7 +28,7 @@ loop-again c =
     let l = c .before .before .loop in
     let a = c .before .before .before .before .before .before .args in (
       omega (arith, c .before .loop-test .taken),
-      all-more (bucketHolds (a .f) (a .delta) (now (a .recs)) (now (a .perm)) (now (a .m)) (a .k)) (l .j) (l .ok) _ (l .inv .1) (c .bucket-holds .ensures),
+      all-more (bucketHolds (a .f) (a .delta .0) (now (a .recs)) (now (a .perm)) (now (a .m)) (a .k)) (l .j) (l .ok) _ (l .inv .1) (c .bucket-holds .ensures),
     )
 
 returns : tie.Need-returns Inv-loop μ-loop
@@ -36,7 +36,7 @@ unfolding messageHolds
 returns c =
     let l = c .before .loop in
     let a = c .before .before .before .before .before .args in
-    l .inv .1 ∙ ap (λ j. allOf j (bucketHolds (a .f) (a .delta) (now (a .recs)) (now (a .perm)) (now (a .m)) (a .k))) (let e : l .j ≡ a .f .l = omega arith in e)
+    l .inv .1 ∙ ap (λ j. allOf j (bucketHolds (a .f) (a .delta .0) (now (a .recs)) (now (a .perm)) (now (a .m)) (a .k))) (let e : l .j ≡ a .f .l = omega arith in e)
 
 pub message-holds-spec : {M : Type 1} → statement M
 message-holds-spec =

@@ -15,7 +15,7 @@ use Rattle.fabitn.proofs.abit_fault.Tie as tie
 
 -- what the test says, in the definition's words
 said : (c : tie.After-equals) → let a = c .before .before .before .before .before .before .before .before .args in
-    Fabitn.abitFault (a .delta) (now (a .sums)) (λ _. now (a .m)) (a .j) (a .k) ≡ pick (c .equals .result) 0 8
+    Fabitn.abitFault (a .delta .0) (now (a .sums)) (λ _. now (a .m)) (a .j) (a .k) ≡ pick (c .equals .result) 0 8
 unfolding Fabitn.abitFault
 said c =
     let d = c .before in
@@ -26,7 +26,7 @@ said c =
     ap (λ t. pick t 0 8)
     (sym (c .equals .ensures
     ∙ ap₂ eqBlock (m .load2 .ensures ∙ ap (blockAt (now (a .m))) e)
-    (d .xor-delta .ensures ∙ ap₂ (blocks .op) (k .load .ensures) (d .before .times .ensures ∙ ap (λ t. sel blocks t (a .delta)) (m .before .bit .ensures)))))
+    (d .xor-delta .ensures ∙ ap₂ (blocks .op) (k .load .ensures) (d .before .times .ensures ∙ ap (λ t. sel blocks t (a .delta .0)) (m .before .bit .ensures)))))
 
 returns : tie.Need-returns
 returns c = sym (said (c .before) ∙ ap (λ t. pick t 0 8) (c .if1 .taken))

@@ -15,7 +15,7 @@ use Rattle.fabitn.proofs.check_abits.Tie as tie
 
 abbrev Inv-loop : tie.InvT-loop
 Inv-loop delta sums incoming starts lens n i j₀ j =
-    (j ≤ 120) × ((l : ℕ) → firstOf j (λ j. byParty (frame n l i) (Fabitn.abitFault delta sums (letter incoming starts lens) j)) .code ≡ 0)
+    (j ≤ 120) × ((l : ℕ) → firstOf j (λ j. byParty (frame n l i) (Fabitn.abitFault (delta .0) sums (letter incoming starts lens) j)) .code ≡ 0)
 
 abbrev μ-loop : tie.MeasureT-loop
 μ-loop delta sums incoming starts lens n i j₀ j = 120 - j

@@ -15,7 +15,7 @@ use Rattle.fabitn.proofs.check_string.Statement.{statement}
 use Rattle.fabitn.proofs.check_string.Tie as tie
 
 abbrev Inv-loop : tie.InvT-loop
-Inv-loop delta sums incoming starts lens n i j k₀ k = (k ≤ n) × (scan k (ofParty i (Fabitn.abitFault delta sums (letter incoming starts lens) j)) .code ≡ 0)
+Inv-loop delta sums incoming starts lens n i j k₀ k = (k ≤ n) × (scan k (ofParty i (Fabitn.abitFault (delta .0) sums (letter incoming starts lens) j)) .code ≡ 0)
 
 abbrev μ-loop : tie.MeasureT-loop
 μ-loop delta sums incoming starts lens n i j k₀ k = n - k

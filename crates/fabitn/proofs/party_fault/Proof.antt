@@ -36,7 +36,7 @@ returns-2 c =
     let s = c .before .before .before .before .before .before .before in
     let a = s .args in
     other-has (a .i) (a .k) _ _ (c .before .before .if1 .left)
-    (c .abit-fault .ensures ∙ ap (λ (m : List ℕ). Fabitn.abitFault (a .delta) (now (a .sums)) (λ _. m) (a .j) (a .k)) (c .before .letter .ensures))
+    (c .abit-fault .ensures ∙ ap (λ (m : List ℕ). Fabitn.abitFault (a .delta .0) (now (a .sums)) (λ _. m) (a .j) (a .k)) (c .before .letter .ensures))
 
 pub party-fault-spec : {M : Type 1} → statement M
 party-fault-spec = tie.close (tie.spec returns letter-requires abit-fault-requires returns-2)

@@ -3,6 +3,7 @@ use mathlib.Core.List.{List}
 use Prim.Native.Nat.{_+_, _-_, _<_, _≤_}
 use native.Mathlib.Omega.{arith}
 use lib.ListN.{length, take, drop, replicate}
+use lib.Seq.{take-all}
 use denote.Ref.{now}
 use borrow.Author.Needs.{needs}
 use Rattle.lists.specs.Sect.{length-get}
@@ -12,12 +13,10 @@ use Rattle.fashare.proofs.comm_row.Statement.{statement}
 use Rattle.fashare.proofs.comm_row.Tie as tie
 use Rattle.fashare.proofs.comm_row.Reads as reads
 use Rattle.fashare.proofs.comm_row.Lts as lts
-use Rattle.fashare.proofs.copy.Reads as copy-reads
-use Rattle.fashare.proofs.zero.Reads as zero-reads
 use Rattle.rounds.proofs.letter.Reads as letter-reads
 
-zero-requires : tie.Need-zero-requires
-zero-requires c κs = search needs
+clear-requires : tie.Need-clear-requires
+clear-requires c κs = search needs
 
 letter-requires : tie.Need-letter-requires
 letter-requires c κs =
@@ -42,7 +41,9 @@ part-copy-end : tie.Need-part-copy-end
 part-copy-end c = long (c .before)
 
 copy-requires : tie.Need-copy-requires
-copy-requires c κs = let m = c .before .before in c .before .before .before .before .before .before .before .before .pre .0 .0 ∙ sym (length-get 8 3840 (now (m .letter .result)) (long m))
+copy-requires c κs =
+    let m = c .before .before in
+    omega (arith, m .before .before .before .before .before .before .pre .0 .0, length-get 8 3840 (now (m .letter .result)) (long m))
 
 same-length : tie.Need-same-length
 same-length c = search needs
@@ -51,7 +52,7 @@ returns : tie.Need-returns
 returns c =
     let z = c .before .before in
     let s = z .before .before .before .before .before .before .before in
-    z .zero .ensures ∙ ap (λ m. replicate m 0) (s .pre .0 .0) ∙ sym (pick-own (s .args .i) (s .args .k) _ _ (z .before .before .if1 .taken))
+    z .clear .ensures ∙ ap (λ m. replicate m 0) (s .pre .0 .0) ∙ sym (pick-own (s .args .i) (s .args .k) _ _ (z .before .before .if1 .taken))
 
 same-length-2 : tie.Need-same-length-2
 same-length-2 c = search needs
@@ -60,14 +61,16 @@ returns-2 : tie.Need-returns-2
 returns-2 c =
     let w = c .before .before in
     let m = w .before .before .before in
-    let a = m .before .before .before .before .before .before .args in
-    w .copy .ensures ∙ ap (λ (x : List _). take 3840 (drop 8 x)) (m .letter .ensures) ∙ sym (pick-other (a .i) (a .k) _ _ (m .before .if1 .left))
+    let s = m .before .before .before .before .before .before in
+    let a = s .args in
+    w .copy .ensures ∙ take-all (length (now (a .row))) (take 3840 (drop 8 (now (m .letter .result)))) (omega (arith, s .pre .0 .0, length-get 8 3840 (now (m .letter .result)) (long m)))
+    ∙ ap (λ (x : List _). take 3840 (drop 8 x)) (m .letter .ensures) ∙ sym (pick-other (a .i) (a .k) _ _ (m .before .if1 .left))
 
 pub comm-row-spec : {M : Type 1} → statement M
 comm-row-spec =
     tie.close
     (tie.spec
-    zero-requires
+    clear-requires
     letter-requires
     sub-copy
     part-copy-start

@@ -87,7 +87,7 @@ returns c =
     let r = now (a .args .recs) in
     three-written _ _ _ (now (a .args .out)) _ _ _ 32 64 96 (a .pre .0) (length-hash (bytesOf (S.d0 f r (a .args .q)))) (length-hash _) (omega arith) (omega arith)
     (x .store .ensures ∙ ap T.bytes (x .before .before .hash-block .ensures ∙ ap (λ b. T.digest (bytesOf b)) (d .d0 .ensures)))
-    (y .store2 .ensures ∙ ap T.bytes (y .before .before .hash-block2 .ensures ∙ ap (λ b. T.digest (bytesOf b)) (x .before .before .before .xor-delta .ensures ∙ ap (λ b. blocks .op b (a .args .delta)) (d .d0 .ensures))))
+    (y .store2 .ensures ∙ ap T.bytes (y .before .before .hash-block2 .ensures ∙ ap (λ b. T.digest (bytesOf b)) (x .before .before .before .xor-delta .ensures ∙ ap (λ b. blocks .op b (a .args .delta .0)) (d .d0 .ensures))))
     (z .store3 .ensures ∙ ap T.bytes (z .before .before .dm-digest .ensures))
 
 pub write-comm-spec : {M : Type 1} → statement M

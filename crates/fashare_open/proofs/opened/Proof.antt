@@ -19,7 +19,7 @@ returns c =
     let x = c .before in
     let b = x .before .before in
     let a = b .before .before .before .before .args in
-    x .xor-delta .ensures ∙ ap₂ (blocks .op) (b .before .d0 .ensures) (x .before .times .ensures ∙ ap (λ t. sel blocks t (a .delta)) (b .others-bit .ensures (a .l)))
+    x .xor-delta .ensures ∙ ap₂ (blocks .op) (b .before .d0 .ensures) (x .before .times .ensures ∙ ap (λ t. sel blocks t (a .delta .0)) (b .others-bit .ensures (a .l)))
 
 pub opened-spec : {M : Type 1} → statement M
 opened-spec = tie.close (tie.spec d0-requires others-bit-requires (λ c κs. search needs) (λ c κs. search needs) returns)

@@ -15,7 +15,7 @@ use Rattle.fashare_open.proofs.write_dibi.Statement.{statement}
 use Rattle.fashare_open.proofs.write_dibi.Tie as tie
 
 abbrev Inv-loop : tie.InvT-loop
-Inv-loop out₀ recs dms delta n i l last t₀ out t = (t ≤ n - 1) × Written (sentTo i (λ k. Fashare.dibiMsg (frame n l i) delta recs dms)) t (t * 648) out₀ out
+Inv-loop out₀ recs dms delta n i l last t₀ out t = (t ≤ n - 1) × Written (sentTo i (λ k. Fashare.dibiMsg (frame n l i) (delta .0) recs dms)) t (t * 648) out₀ out
 
 abbrev μ-loop : tie.MeasureT-loop
 μ-loop out₀ recs dms delta n i l last t₀ out t = n - 1 - t
@@ -55,7 +55,7 @@ loop-again c =
     let a = s .args in
     let t = l .loop .t in (
       omega (arith, p .loop-test .taken),
-      chunks-turn (sentTo (a .i) (λ k. Fashare.dibiMsg (frame (a .n) (a .l) (a .i)) (a .delta) (now (a .recs)) (now (a .dms)))) (a .n - 1) 648 t (t * 648 + 648) (now (a .out)) (l .loop .out) (w .write-msg .last .0)
+      chunks-turn (sentTo (a .i) (λ k. Fashare.dibiMsg (frame (a .n) (a .l) (a .i)) (a .delta .0) (now (a .recs)) (now (a .dms)))) (a .n - 1) 648 t (t * 648 + 648) (now (a .out)) (l .loop .out) (w .write-msg .last .0)
           (s .pre .0) (p .loop-test .taken) (l .loop .inv .1) (length-dibi _ _ _ _) (w .write-msg .ensures) refl,
     )
 

@@ -22,7 +22,7 @@ abbrev item : Frame → Block → List ℕ → List ℕ → ℕ → List ℕ
 item f delta recs dms q = bytesOf (blocks .op (Fashare.d0 f recs q) (sel blocks (Fashare.others1 f dms q) delta))
 
 abbrev Inv-loop : tie.InvT-loop
-Inv-loop out₀ recs dms delta n i l q₀ out q = (q ≤ 40) × (length out₀ ≡ 648) × Stretch 40 (item (frame n l i) delta recs dms) q (8 + q * 16) out₀ out
+Inv-loop out₀ recs dms delta n i l q₀ out q = (q ≤ 40) × (length out₀ ≡ 648) × Stretch 40 (item (frame n l i) (delta .0) recs dms) q (8 + q * 16) out₀ out
 
 abbrev μ-loop : tie.MeasureT-loop
 μ-loop out₀ recs dms delta n i l q₀ out q = 40 - q
@@ -32,7 +32,7 @@ loop-holds c =
     let p = c .before .before in
     let s = p .before .before .before .before .before in
     let a = s .args in
-    let w = stretch-count 40 (item (frame (a .n) (a .l) (a .i)) (a .delta) (now (a .recs)) (now (a .dms))) (now (a .out)) (p .put-count .last .0) (omega arith) (p .put-count .ensures) in
+    let w = stretch-count 40 (item (frame (a .n) (a .l) (a .i)) (a .delta .0) (now (a .recs)) (now (a .dms))) (now (a .out)) (p .put-count .last .0) (omega arith) (p .put-count .ensures) in
     (search needs, w .same ∙ s .pre .0, stretch-self 40 _ 0 8 _ _ w)
 
 opened-requires : tie.Need-opened-requires Inv-loop μ-loop
@@ -47,7 +47,7 @@ loop-again c =
     let q = l .loop .q in (
       omega arith,
       l .loop .inv .1,
-      even-turn 40 (item (frame (a .n) (a .l) (a .i)) (a .delta) (now (a .recs)) (now (a .dms))) 16 (λ t h. length-bytesOf _) q (8 + q * 16 + 16) _ (l .loop .out) (p .store .last .0)
+      even-turn 40 (item (frame (a .n) (a .l) (a .i)) (a .delta .0) (now (a .recs)) (now (a .dms))) 16 (λ t h. length-bytesOf _) q (8 + q * 16 + 16) _ (l .loop .out) (p .store .last .0)
           (l .loop .inv .1) (t .loop-test .taken) (l .loop .inv .2) (p .store .ensures ∙ ap bytesOf (p .before .opened .ensures)) refl,
     )
 

@@ -56,10 +56,10 @@ returns c =
     ∙ ap₂ (blocks .op)
     (c .before .before .xor .ensures
     ∙ ap₂ (blocks .op)
-    (y .z-terms .ensures ∙ ap (λ at. others blocks (a .i) (a .n) (zTerm (now (a .recs)) at (a .delta) m (a .t))) (y .before .r-at .ensures))
+    (y .z-terms .ensures ∙ ap (λ at. others blocks (a .i) (a .n) (zTerm (now (a .recs)) at (a .delta .0) m (a .t))) (y .before .r-at .ensures))
     (c .before .before .before .hashes .ensures))
-    (c .before .masked .ensures ∙ ap (λ (z : Bool). maskedAt f (a .delta) z (now (a .rows)) (now (a .zs)) m (a .t)) x)
-    ∙ h-parts f (a .delta) (now (a .recs)) (now (a .rows)) (now (a .zs)) m (a .t)
+    (c .before .masked .ensures ∙ ap (λ (z : Bool). maskedAt f (a .delta .0) z (now (a .rows)) (now (a .zs)) m (a .t)) x)
+    ∙ h-parts f (a .delta .0) (now (a .recs)) (now (a .rows)) (now (a .zs)) m (a .t)
 
 pub h-spec : {M : Type 1} → statement M
 h-spec =

@@ -106,8 +106,8 @@ returns c =
     let m = letter (now (a .incoming)) (now (a .starts)) (now (a .lens)) in
     let w = now (a .work) in
     c .h .ensures
-    ∙ ap₂ (λ (x z : List ℕ). F.h (f y) (a .delta) x (take (a .rows + rows y - a .rows) (drop (a .rows) w)) z m (a .t)) (bits-sec y _ refl) (zs-sec y _ refl)
-    ∙ ap (λ (x : List ℕ). F.h (f y) (a .delta) (sec (sizeOf (f y)) BITS w) x (sec (sizeOf (f y)) ZS w) m (a .t)) (rows-sec y _ refl)
+    ∙ ap₂ (λ (x z : List ℕ). F.h (f y) (a .delta .0) x (take (a .rows + rows y - a .rows) (drop (a .rows) w)) z m (a .t)) (bits-sec y _ refl) (zs-sec y _ refl)
+    ∙ ap (λ (x : List ℕ). F.h (f y) (a .delta .0) (sec (sizeOf (f y)) BITS w) x (sec (sizeOf (f y)) ZS w) m (a .t)) (rows-sec y _ refl)
 
 pub h-at-spec : {M : Type 1} → statement M
 h-at-spec =

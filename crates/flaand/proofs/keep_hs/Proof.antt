@@ -32,7 +32,7 @@ hOf f delta w m t = F.h f delta (sec (sizeOf f) BITS w) (sec (sizeOf f) LEAKY w)
 abbrev Inv-loop : tie.InvT-loop
 Inv-loop work₀ recs rows zs hs delta incoming starts lens n i l count t₀ work t =
     (t ≤ leaky l)
-    × Keeping (sizeOf (frame n l i)) SECTIONS HS (λ t. bytesOf (hOf (frame n l i) delta work₀ (letter incoming starts lens) t)) t (t * 16) work₀ work
+    × Keeping (sizeOf (frame n l i)) SECTIONS HS (λ t. bytesOf (hOf (frame n l i) (delta .0) work₀ (letter incoming starts lens) t)) t (t * 16) work₀ work
 
 abbrev μ-loop : tie.MeasureT-loop
 μ-loop work₀ recs rows zs hs delta incoming starts lens n i l count t₀ work t = leaky l - t
@@ -99,15 +99,15 @@ loop-again c =
     let i = b .before .before in
     let a = start i .args in
     let m = letter (now (a .incoming)) (now (a .starts)) (now (a .lens)) in
-    let g : ℕ → List ℕ = λ t. bytesOf (hOf (f i) (a .delta) (w i) m t) in
+    let g : ℕ → List ℕ = λ t. bytesOf (hOf (f i) (a .delta .0) (w i) m t) in
     let at = a .hs + t i * 16 in (
       omega (arith, below i),
       keeping-turn (sizeOf (f i)) SECTIONS HS (omega arith) (w i) (area (start i .pre .0 .0)) g (t i) (t i * 16) 16 at (at + 16) ((t i + 1) * 16)
           (i .before .loop .work) (p .store .last .0) (i .before .loop .inv .1)
           (p .store .ensures ∙ ap bytesOf (b .h-at .ensures
-          ∙ ap₂ (λ (x y : List ℕ). F.h (f i) (a .delta) x y (sec (sizeOf (f i)) ZS (i .before .loop .work)) m (t i)) (same-sec i BITS (λ e. omega arith)) (same-sec i LEAKY (λ e. omega arith))
-          ∙ ap (λ (x : List ℕ). F.h (f i) (a .delta) (sec (sizeOf (f i)) BITS (w i)) (sec (sizeOf (f i)) LEAKY (w i)) x m (t i)) (same-sec i ZS (λ e. omega arith))))
-          (length-bytesOf (hOf (f i) (a .delta) (w i) m (t i))) (ap (λ z. z + t i * 16) (start i .pre .0 .1)) refl (sym (next-chunk (t i) 16))
+          ∙ ap₂ (λ (x y : List ℕ). F.h (f i) (a .delta .0) x y (sec (sizeOf (f i)) ZS (i .before .loop .work)) m (t i)) (same-sec i BITS (λ e. omega arith)) (same-sec i LEAKY (λ e. omega arith))
+          ∙ ap (λ (x : List ℕ). F.h (f i) (a .delta .0) (sec (sizeOf (f i)) BITS (w i)) (sec (sizeOf (f i)) LEAKY (w i)) x m (t i)) (same-sec i ZS (λ e. omega arith))))
+          (length-bytesOf (hOf (f i) (a .delta .0) (w i) m (t i))) (ap (λ z. z + t i * 16) (start i .pre .0 .1)) refl (sym (next-chunk (t i) 16))
           (omega (arith, in-chunks (t i) (leaky (a .l)) 16 (below i), size-hs (f i), next-chunk (t i) 16)),
     )
 

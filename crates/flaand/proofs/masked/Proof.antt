@@ -71,8 +71,8 @@ const-mul-requires : tie.Need-const-mul-requires
 const-mul-requires c κs = search needs
 
 -- src/lib.rt:603:34
-const-mul-requires-2 : tie.Need-const-mul-requires-2
-const-mul-requires-2 c κs = search needs
+times-requires : tie.Need-times-requires
+times-requires c κs = search needs
 
 -- src/lib.rt:603:5
 xor-requires-2 : tie.Need-xor-requires-2
@@ -89,7 +89,7 @@ returns c =
     ∙ ap₂ (blocks .op)
     (c .before .before .const-mul .ensures
     ∙ ap (sel blocks (a .x)) (c .before .before .before .xor .ensures ∙ ap₂ (blocks .op) (y .before .u-sum .ensures) (d .load .ensures ∙ ap (λ m. blockAt (now (a .rows)) (a .t * m)) (y .leaky-len .ensures))))
-    (c .before .const-mul2 .ensures ∙ ap (λ (b : Bool). sel blocks b (a .delta)) (c .before .before .before .before .bit .ensures))
+    (c .before .times .ensures ∙ ap (λ (b : Bool). sel blocks b (a .delta .0)) (c .before .before .before .before .bit .ensures))
 
 pub masked-spec : {M : Type 1} → statement M
 masked-spec =
@@ -103,6 +103,6 @@ masked-spec =
     bit-requires
     xor-requires
     const-mul-requires
-    const-mul-requires-2
+    times-requires
     xor-requires-2
     returns)

@@ -23,7 +23,7 @@ returns : tie.Need-returns
 returns c =
     let a = c .before .before .before .before .before .before .args in
     c .zero .ensures
-    ∙ sym (ap (λ (b : Bool). sel blocks b (zTerm (now (a .recs)) (a .at) (a .delta) (letter (now (a .incoming)) (now (a .starts)) (now (a .lens))) (a .t) (a .k))) (neq-same (a .i) (a .k) (c .before .if1 .taken)))
+    ∙ sym (ap (λ (b : Bool). sel blocks b (zTerm (now (a .recs)) (a .at) (a .delta .0) (letter (now (a .incoming)) (now (a .starts)) (now (a .lens))) (a .t) (a .k))) (neq-same (a .i) (a .k) (c .before .if1 .taken)))
 
 letter-requires : tie.Need-letter-requires
 letter-requires c κs =
@@ -62,9 +62,9 @@ returns-2 c =
     let a = t .before .before .before .before .before .before .args in
     let r = now (a .recs) in
     c .term .ensures
-    ∙ ap (λ (e : Bool). blocks .op (macAt r (a .at) (a .k)) (blocks .op (keyAt r (a .at) (a .k)) (sel blocks e (a .delta))))
+    ∙ ap (λ (e : Bool). blocks .op (macAt r (a .at) (a .k)) (blocks .op (keyAt r (a .at) (a .k)) (sel blocks e (a .delta .0))))
     (c .before .bit .ensures ∙ ap (λ (s : List ℕ). odd (getD s (8 + a .t * 17) 0)) (t .letter .ensures))
-    ∙ sym (ap (λ (b : Bool). sel blocks b (zTerm r (a .at) (a .delta) (letter (now (a .incoming)) (now (a .starts)) (now (a .lens))) (a .t) (a .k)))
+    ∙ sym (ap (λ (b : Bool). sel blocks b (zTerm r (a .at) (a .delta .0) (letter (now (a .incoming)) (now (a .starts)) (now (a .lens))) (a .t) (a .k)))
     (neq-true (a .i) (a .k) (λ e. t .before .if1 .left (sym e))))
 
 pub z-term-spec : {M : Type 1} → statement M

@@ -24,7 +24,7 @@ use Rattle.haand.proofs.keep_leaky.Tie as tie
 abbrev Inv-loop : tie.InvT-loop
 Inv-loop work₀ recs rows delta n i l count end len t₀ work t =
     (t ≤ leaky l)
-    × Keeping (sizeOf (frame n l i)) SECTIONS LEAKY (R.leakyRow (frame n l i) delta (sec (sizeOf (frame n l i)) BITS work₀)) t (t * leakyLen n) work₀ work
+    × Keeping (sizeOf (frame n l i)) SECTIONS LEAKY (R.leakyRow (frame n l i) (delta .0) (sec (sizeOf (frame n l i)) BITS work₀)) t (t * leakyLen n) work₀ work
 
 abbrev μ-loop : tie.MeasureT-loop
 μ-loop work₀ recs rows delta n i l count end len t₀ work t = leaky l - t
@@ -116,7 +116,7 @@ copy-requires : tie.Need-copy-requires Inv-loop μ-loop
 copy-requires c κs =
     let r = c .before .before in
     let i = r .before .before .before in
-    row-fits (f i) (start i .args .delta) _ (t i) _ (r .leaky-row .result) (r .leaky-row .ensures) (lent i)
+    row-fits (f i) (start i .args .delta .0) _ (t i) _ (r .leaky-row .result) (r .leaky-row .ensures) (lent i)
 
 loop-again : tie.Need-loop-again Inv-loop μ-loop
 loop-again c =
@@ -126,15 +126,15 @@ loop-again c =
     let n = start i .args .n in
     let len = i .before .before .leaky-len in
     let w = now (start i .args .work) in
-    let g : ℕ → List ℕ = R.leakyRow (f i) (start i .args .delta) (sec (sizeOf (f i)) BITS w) in
-    let long : length (g (t i)) ≡ leakyLen n = length-leakyRow (f i) (start i .args .delta) (sec (sizeOf (f i)) BITS w) (t i) in
+    let g : ℕ → List ℕ = R.leakyRow (f i) (start i .args .delta .0) (sec (sizeOf (f i)) BITS w) in
+    let long : length (g (t i)) ≡ leakyLen n = length-leakyRow (f i) (start i .args .delta .0) (sec (sizeOf (f i)) BITS w) (t i) in
     let p = start i .args .rows + t i * len .result in
     let eq : p ≡ off (sizeOf (f i)) LEAKY + t i * leakyLen n = ap₂ (λ a m. a + t i * m) (start i .pre .1 .1) (len .ensures) in (
       omega (arith, below i),
       keeping-turn (sizeOf (f i)) SECTIONS LEAKY (omega arith) w (area (start i .pre .0)) g (t i) (t i * leakyLen n) (leakyLen n) p (p + len .result) ((t i + 1) * leakyLen n)
           (i .before .loop .work) (cp .copy .last .0) (i .before .loop .inv .1)
           (row-copied _ (leakyLen n) _ (g (t i)) (replicate (176 - leakyLen n) 0) (r .leaky-row .result) (cp .copy .ensures)
-          (r .leaky-row .ensures ∙ ap (λ (x : List ℕ). R.leakyRow (f i) (start i .args .delta) x (t i) ++ replicate (176 - leakyLen n) 0) (records i _ refl)) long (lent i))
+          (r .leaky-row .ensures ∙ ap (λ (x : List ℕ). R.leakyRow (f i) (start i .args .delta .0) x (t i) ++ replicate (176 - leakyLen n) 0) (records i _ refl)) long (lent i))
           long eq (ap (λ m. p + m) (len .ensures)) (sym (next-chunk (t i) (leakyLen n))) (omega (arith, in-chunks (t i) (leaky (start i .args .l)) (leakyLen n) (below i), size-leaky (f i), next-chunk (t i) (leakyLen n))),
     )
 

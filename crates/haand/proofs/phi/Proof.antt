@@ -32,7 +32,7 @@ returns c =
     c .xor .ensures
     ∙ ap₂ (blocks .op)
     (k .keys-and-macs .ensures ∙ ap (λ at. others blocks (a .i) (a .n) (λ k. blocks .op (keyAt s at k) (macAt s at k))) (k .before .y-at .ensures))
-    (c .before .const-mul .ensures ∙ ap (λ (b : Bool). sel blocks b (a .delta)) (c .before .before .bit-at .ensures ∙ ap (bitAt s) (k .before .y-at .ensures)))
+    (c .before .times .ensures ∙ ap (λ (b : Bool). sel blocks b (a .delta .0)) (c .before .before .bit-at .ensures ∙ ap (bitAt s) (k .before .y-at .ensures)))
 
 pub phi-spec : {M : Type 1} → statement M
 phi-spec = tie.close (tie.spec y-at-requires keys-and-macs-requires bit-at-requires (λ c κs. search needs) (λ c κs. search needs) returns)

@@ -18,7 +18,7 @@ use Rattle.haand.proofs.put_entries.Tie as tie
 
 abbrev Inv-loop : tie.InvT-loop
 Inv-loop out₀ recs at n i delta p sum₀ k₀ out sum k =
-    (k ≤ n) × Written (rowOf i 18 (λ k. entry (keyAt recs at k) delta p)) k (k * 18) out₀ out × (sum ≡ others blocks i k (λ k. G (keyAt recs at k)))
+    (k ≤ n) × Written (rowOf i 18 (λ k. entry (keyAt recs at k) (delta .0) p)) k (k * 18) out₀ out × (sum ≡ others blocks i k (λ k. G (keyAt recs at k)))
 
 abbrev μ-loop : tie.MeasureT-loop
 μ-loop out₀ recs at n i delta p sum₀ k₀ out sum k = n - k
@@ -32,8 +32,8 @@ loop-again c =
     let l = p .before .before .before in
     let a = l .before .before .before .before .args in
     let k = l .loop .k in
-    let g : ℕ → List ℕ = rowOf (a .i) 18 (λ k. entry (keyAt (now (a .recs)) (a .at) k) (a .delta) (a .p)) in
-    let long = length-rowOf (a .i) 18 (λ k. entry (keyAt (now (a .recs)) (a .at) k) (a .delta) (a .p)) k (length-entry (keyAt (now (a .recs)) (a .at) k) (a .delta) (a .p)) in (
+    let g : ℕ → List ℕ = rowOf (a .i) 18 (λ k. entry (keyAt (now (a .recs)) (a .at) k) (a .delta .0) (a .p)) in
+    let long = length-rowOf (a .i) 18 (λ k. entry (keyAt (now (a .recs)) (a .at) k) (a .delta .0) (a .p)) k (length-entry (keyAt (now (a .recs)) (a .at) k) (a .delta .0) (a .p)) in (
       omega arith,
       written-turn g k (k * 18) (k * 18 + 18) ((k + 1) * 18) (now (a .out)) (l .loop .out) (p .put-entry-of .last .0) (l .loop .inv .1) (p .put-entry-of .ensures .0) (omega (arith, long)) (omega arith) (omega arith),
       c .xor .ensures ∙ others-turn blocks (a .i) (λ k. G (keyAt (now (a .recs)) (a .at) k)) k (l .loop .sum) _ (l .loop .inv .2) (p .put-entry-of .ensures .1),

@@ -20,10 +20,10 @@ returns c =
     let h2 = s .before .before .before .before in
     let h = h2 .before .before in
     let a = h .before .before .args in (
-      two-parts 16 2 (bytesOf (blocks .op (blocks .op (G (a .key)) (G (blocks .op (a .key) (a .delta)))) (a .p))) _ _ _ (now (a .out)) (h .before .before .pre) (length-bytesOf _)
-          (s .store .ensures ∙ ap bytesOf (s .before .xor3 .ensures ∙ ap (λ (x : Block). blocks .op x (a .p))
-          (s .before .before .xor2 .ensures ∙ ap₂ (blocks .op) (h .hashed .ensures .0) (h2 .hashed2 .ensures .0 ∙ ap G (h2 .before .xor .ensures)))))
-          (t .put-two-bits .ensures ∙ ap₂ twoBits (h .hashed .ensures .1) (h2 .hashed2 .ensures .1 ∙ ap H (h2 .before .xor .ensures))),
+      two-parts 16 2 (bytesOf (blocks .op (blocks .op (G (a .key .0)) (G (blocks .op (a .key .0) (a .delta .0)))) (a .p))) _ _ _ (now (a .out)) (h .before .before .pre) (length-bytesOf _)
+          (s .store .ensures ∙ ap bytesOf (s .before .xor2 .ensures ∙ ap (λ (x : Block). blocks .op x (a .p))
+          (s .before .before .xor .ensures ∙ ap₂ (blocks .op) (h .hashed .ensures .0) (h2 .hashed2 .ensures .0 ∙ ap G (h2 .before .xor-delta .ensures)))))
+          (t .put-two-bits .ensures ∙ ap₂ twoBits (h .hashed .ensures .1) (h2 .hashed2 .ensures .1 ∙ ap H (h2 .before .xor-delta .ensures))),
       h .hashed .ensures .0,
     )
 

@@ -24,8 +24,8 @@ returns-2 c =
     let p = c .before .before in
     let s = p .before .before .before in
     let a = s .before .before .before .args in (
-      p .put-entry .ensures .0 ∙ ap (λ (x : Block). entry x (a .delta) (a .p)) (p .before .key-at .ensures)
-          ∙ sym (row-other (a .i) 18 (λ k. entry (keyAt (now (a .recs)) (a .at) k) (a .delta) (a .p)) (a .k) (s .if1 .left)),
+      p .put-entry .ensures .0 ∙ ap (λ (x : Block). entry x (a .delta .0) (a .p)) (p .before .key-at .ensures)
+          ∙ sym (row-other (a .i) 18 (λ k. entry (keyAt (now (a .recs)) (a .at) k) (a .delta .0) (a .p)) (a .k) (s .if1 .left)),
       sel-other blocks (a .i) (a .k) _ _ (s .if1 .left) (p .put-entry .ensures .1 ∙ ap G (p .before .key-at .ensures)),
     )
 

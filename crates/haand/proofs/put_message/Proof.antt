@@ -11,7 +11,7 @@ use Rattle.encode.specs.Stretch.{Stretch, stretch-count, stretch-self, even-tur
 use Rattle.plan.specs.Plan.{leaky}
 use Rattle.engine.specs.Step.{frame}
 use Rattle.rounds.specs.Loops.{lent-part}
-use Rattle.haand.specs.Sent.{item, length-item}
+use Rattle.haand.specs.Sent.{item, message, length-item}
 use Rattle.haand.proofs.put_message.Statement.{statement}
 use Rattle.haand.proofs.put_message.Tie as tie
 
@@ -59,6 +59,7 @@ same-length : tie.Need-same-length Inv-loop μ-loop
 same-length c = let l = c .before .loop in l .inv .2 .same ∙ l .inv .1 ∙ sym (c .before .before .before .before .before .before .before .before .before .before .before .pre .0 .0)
 
 returns : tie.Need-returns Inv-loop μ-loop
+unfolding message
 returns c =
     let a = c .before .before .before .before .before .before .before .before .before .before .before .args in
     let l = c .before .loop in

@@ -62,15 +62,15 @@ returns c =
     let a = s .args in
     let r = now (a .recs) in
     let f : Frame = frame (a .n) (a .l) (a .i) in
-    let front : List ℕ = bytesOf (R.phi f (a .delta) r (a .t)) in
+    let front : List ℕ = bytesOf (R.phi f (a .delta .0) r (a .t)) in
     let sums : List ℕ = bytesOf (others blocks (a .i) (a .n) (λ j. R.G (keyAt r (a .t * recordLen (a .n)) j))) in
-    let entries : List ℕ = rows f 18 (R.leakyEntry f (a .delta) r (a .t)) in
-    three-parts 16 (length (now (a .out)) - 32) front sums entries _ _ _ (now (a .out)) (omega arith) (length-bytesOf (R.phi f (a .delta) r (a .t)))
+    let entries : List ℕ = rows f 18 (R.leakyEntry f (a .delta .0) r (a .t)) in
+    three-parts 16 (length (now (a .out)) - 32) front sums entries _ _ _ (now (a .out)) (omega arith) (length-bytesOf (R.phi f (a .delta .0) r (a .t)))
     (st .store .ensures ∙ ap bytesOf (x .before .phi .ensures))
     (c .before .before .store2 .ensures ∙ ap bytesOf (p .put-entries .ensures .1 ∙ ap (λ at. others blocks (a .i) (a .n) (λ j. R.G (keyAt r at j))) (x .x-at .ensures)))
     (p .put-entries .ensures .0
-    ∙ ap₂ (λ at (q : Block). cat (a .n) (rowOf (a .i) 18 (λ k. entry (keyAt r at k) (a .delta) q))) (x .x-at .ensures) (x .before .phi .ensures)
-    ∙ entries-of f (a .delta) r (a .t))
+    ∙ ap₂ (λ at (q : Block). cat (a .n) (rowOf (a .i) 18 (λ k. entry (keyAt r at k) (a .delta .0) q))) (x .x-at .ensures) (x .before .phi .ensures)
+    ∙ entries-of f (a .delta .0) r (a .t))
     ∙ over-full (front ++ (sums ++ entries)) (now (a .out)) (32 + (length (now (a .out)) - 32)) (omega arith)
 
 pub put-row-spec : {M : Type 1} → statement M

@@ -7,30 +7,25 @@ use native.Mathlib.Omega.{arith}
 use lib.ListN.{length}
 use denote.Ref.{now}
 use borrow.Author.Needs.{needs}
-use Rattle.encode.specs.Encode.{encode}
 use Rattle.plan.specs.Plan.{leaky}
 use Rattle.plan.specs.PlanLaws.{leaky-most, other-below}
 use Rattle.engine.specs.declared.Frame.{Frame}
 use Rattle.engine.specs.Step.{frame}
 use Rattle.rounds.specs.Loops.{Sent, sent-none, sent-in, sent-turn, sent-end, lent-part}
-use Rattle.haand.specs.Sent.{item, length-message, sent-is}
+use Rattle.haand.specs.Sent.{message, length-message}
 use Rattle.haand.proofs.write_haand.Statement.{statement}
 use Rattle.haand.proofs.write_haand.Tie as tie
 
--- the message to party k
-abbrev message : ℕ → ℕ → ℕ → List ℕ → List ℕ → List ℕ → ℕ → List ℕ
-message n i l rows masks recs k = encode (leaky l) (item (frame n l i) rows masks recs k)
-
 abbrev Inv-loop : tie.InvT-loop
 Inv-loop out₀ rows masks recs n i l len last q₀ out q =
-    (q ≤ n - 1) × Sent n i (8 + leaky l * 2) (message n i l rows masks recs) q out₀ out
+    (q ≤ n - 1) × Sent n i (8 + leaky l * 2) (message (frame n l i) rows masks recs) q out₀ out
 
 abbrev μ-loop : tie.MeasureT-loop
 μ-loop out₀ rows masks recs n i l len last q₀ out q = n - 1 - q
 
 -- of a call
 abbrev msg : tie.Start Inv-loop μ-loop → ℕ → List ℕ
-msg s = message (s .args .n) (s .args .i) (s .args .l) (now (s .args .rows)) (now (s .args .masks)) (now (s .args .recs))
+msg s = message (frame (s .args .n) (s .args .l) (s .args .i)) (now (s .args .rows)) (now (s .args .masks)) (now (s .args .recs))
 
 loop-holds : tie.Need-loop-holds Inv-loop μ-loop
 loop-holds c = let s = c .before .before .before .before .before in let a = s .args in (omega arith, sent-none (a .n) (a .i) (8 + leaky (a .l) * 2) (msg s) (now (a .out)))
@@ -86,13 +81,12 @@ same-length : tie.Need-same-length Inv-loop μ-loop
 same-length c = c .before .loop .inv .1 .same
 
 returns : tie.Need-returns Inv-loop μ-loop
-returns c delta e =
+returns c =
     let s = c .before .before .before .before .before .before .before in
     let a = s .args in
     let l = c .before .loop in
     sent-end (a .n) (a .i) (8 + leaky (a .l) * 2) (msg s)
     (8 + leaky (a .l) * 2) (l .q) (now (a .out)) (l .out) refl (s .pre .0) (l .inv .1) (omega arith)
-    ∙ sent-is (frame (a .n) (a .l) (a .i)) delta (now (a .rows)) (now (a .masks)) (now (a .recs)) e
 
 pub write-haand-spec : {M : Type 1} → statement M
 write-haand-spec =

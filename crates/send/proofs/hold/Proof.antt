@@ -1,7 +1,7 @@
 use denote.Ref.{now}
 use borrow.Author.Needs.{needs}
 use Rattle.engine.specs.Step.{frame, Loan}
-use Rattle.send.specs.SendLaws.{strings-lent, perm-lent, held-none, held-sums, held-leaky, held-perm, held-triples}
+use Rattle.send.specs.SendLaws.{strings-lent, perm-lent, held-none, held-sums, held-leaky, held-comms, held-perm, held-triples}
 use Rattle.send.proofs.hold.Statement.{statement}
 use Rattle.send.proofs.hold.Tie as tie
 
@@ -17,10 +17,13 @@ hold-key-sums-requires c κs =
 hold-leaky-requires : tie.Need-hold-leaky-requires
 hold-leaky-requires c κs = c .before .before .before .before .before .pre .0
 
+hold-h-comms-requires : tie.Need-hold-h-comms-requires
+hold-h-comms-requires c κs = c .before .before .before .before .before .pre .0
+
 hold-perm-requires : tie.Need-hold-perm-requires
 hold-perm-requires c κs =
     let s = c .before .before .before .before .before in
-    (s .pre .0, perm-lent (s .args .k) (s .args .n) (s .args .l) (loan s) (c .before .match .keys3) (s .pre .1))
+    (s .pre .0, perm-lent (s .args .k) (s .args .n) (s .args .l) (loan s) (c .before .match .keys4) (s .pre .1))
 
 hold-triples-requires : tie.Need-hold-triples-requires
 hold-triples-requires c κs = c .before .before .before .before .before .pre .0
@@ -41,20 +44,26 @@ returns-3 : tie.Need-returns-3
 returns-3 c =
     let s = c .before .before .before .before .before .before .before .before in
     let a = s .args in
-    held-perm (frame (a .n) (a .l) (a .i)) (loan s) (now (a .work)) (a .k) _ (c .before .before .before .before .match .keys3) (c .before .before .hold-perm .ensures)
+    held-comms (frame (a .n) (a .l) (a .i)) (loan s) (now (a .work)) (a .k) _ (c .before .before .before .before .match .keys3) (c .before .before .hold-h-comms .ensures)
 
 returns-4 : tie.Need-returns-4
 returns-4 c =
     let s = c .before .before .before .before .before .before .before .before in
     let a = s .args in
-    held-triples (frame (a .n) (a .l) (a .i)) (loan s) (now (a .work)) (a .k) _ (c .before .before .before .before .match .keys4) (c .before .before .hold-triples .ensures)
+    held-perm (frame (a .n) (a .l) (a .i)) (loan s) (now (a .work)) (a .k) _ (c .before .before .before .before .match .keys4) (c .before .before .hold-perm .ensures)
 
 returns-5 : tie.Need-returns-5
 returns-5 c =
+    let s = c .before .before .before .before .before .before .before .before in
+    let a = s .args in
+    held-triples (frame (a .n) (a .l) (a .i)) (loan s) (now (a .work)) (a .k) _ (c .before .before .before .before .match .keys5) (c .before .before .hold-triples .ensures)
+
+returns-6 : tie.Need-returns-6
+returns-6 c =
     let s = c .before .before .before .before in
     let a = s .args in
     let r = c .match .rest in
-    held-none (frame (a .n) (a .l) (a .i)) (loan s) (now (a .work)) (a .k) (r .0 .0 .0 .1) (r .0 .0 .1) (r .0 .1) (r .1)
+    held-none (frame (a .n) (a .l) (a .i)) (loan s) (now (a .work)) (a .k) (r .0 .0 .0 .0 .1) (r .0 .0 .0 .1) (r .0 .0 .1) (r .0 .1) (r .1)
 
 pub hold-spec : {M : Type 1} → statement M
 hold-spec =
@@ -62,6 +71,7 @@ hold-spec =
     (tie.spec
     hold-key-sums-requires
     hold-leaky-requires
+    hold-h-comms-requires
     hold-perm-requires
     hold-triples-requires
     (λ c. search needs)
@@ -72,4 +82,6 @@ hold-spec =
     returns-3
     (λ c. search needs)
     returns-4
-    returns-5)
+    (λ c. search needs)
+    returns-5
+    returns-6)

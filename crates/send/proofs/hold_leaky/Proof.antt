@@ -31,7 +31,7 @@ pub hold-leaky-spec : {M : Type 1} → statement M
 hold-leaky-spec =
     tie.close
     (tie.spec
-    (λ c κs. c .before .before .pre)
+    (λ c κs. (range (c .before .before .pre), c .before .before .pre .whole))
     section-at-requires
     section-at-requires-2
     keep-leaky-requires

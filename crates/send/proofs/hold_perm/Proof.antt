@@ -1,11 +1,13 @@
 use mathlib.Core.Path.{_≡_, sym, ap, _∙_}
 use Prim.Native.Nat.{_+_, _*_, _≤_}
 use native.Mathlib.Omega.{arith}
-use lib.ListN.{length}
+use lib.ListN.{length, getD}
 use denote.Ref.{now}
 use borrow.Author.Needs.{needs}
+use Rattle.lists.specs.Over.{cat}
 use Rattle.engine.specs.Step.{frame}
 use Rattle.rounds.specs.Area.{PERM, sizeOf, keep}
+use Rattle.rounds.specs.Buckets.{le4, permBytes}
 use Rattle.area.specs.SectionLaws.{section-ends, is-section, puts-section}
 use Rattle.send.specs.SendLaws.{range, perm-long}
 use Rattle.send.proofs.hold_perm.Statement.{statement}
@@ -44,12 +46,14 @@ keep-perm-requires c κs =
     perm-long (s .pre .0) _ (is-section (a .n) (a .l) (a .i) PERM _ _ (p .before .section-at .ensures) (end p) (now (a .work))) ∙ ap (λ m. m * 4) (sym (s .pre .1))
 
 returns : tie.Need-returns
+unfolding permBytes
 returns c =
     let p = c .before .before .before .before in
     let s = start p in
     let a = s .args in
     puts-section (a .n) (a .l) (a .i) PERM _ _ (p .before .section-at .ensures) (end p) _ (now (a .work))
-    ∙ ap (λ x. keep (frame (a .n) (a .l) (a .i)) PERM x (now (a .work))) (c .before .before .keep-perm .ensures (a .n) (a .l) (a .i) (s .pre .1))
+    ∙ ap (λ x. keep (frame (a .n) (a .l) (a .i)) PERM x (now (a .work)))
+    (c .before .before .keep-perm .ensures ∙ ap (λ m. cat m (λ t. le4 (getD (now (a .perm)) t 0))) (s .pre .1))
 
 pub hold-perm-spec : {M : Type 1} → statement M
 hold-perm-spec =

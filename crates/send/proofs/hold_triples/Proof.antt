@@ -4,6 +4,7 @@ use borrow.Author.Needs.{needs}
 use Rattle.engine.specs.Step.{frame}
 use Rattle.rounds.specs.Area.{BITS, ZS, ES, PERM, DS, TRIPLES, at, keep}
 use Rattle.rounds.specs.Buckets.{tripleRows}
+use Rattle.send.specs.SendLaws.{range}
 use Rattle.send.proofs.hold_triples.Statement.{statement}
 use Rattle.send.proofs.hold_triples.Tie as tie
 
@@ -16,4 +17,4 @@ returns c =
     ∙ ap (λ d. keep f TRIPLES (tripleRows f d (at f BITS w) (at f ZS w) (at f ES w) (at f PERM w) (at f DS w)) w) (c .before .before .before .before .delta .ensures)
 
 pub hold-triples-spec : {M : Type 1} → statement M
-hold-triples-spec = tie.close (tie.spec (λ c κs. c .before .before .pre) (λ c κs. c .before .before .before .before .pre) (λ c. search needs) returns)
+hold-triples-spec = tie.close (tie.spec (λ c κs. (range (c .before .before .pre), c .before .before .pre .whole)) (λ c κs. c .before .before .before .before .pre) (λ c. search needs) returns)

@@ -97,7 +97,7 @@ write-haand-requires c κs =
     let s = c .before .before .before .before .before .before in
     let a = s .args in
     let h = s .pre .0 in
-    (h, (due s 14 (c .before .match .keys9), s .pre .1 .1 .1 (c .before .match .keys9)))
+    (h, (due s 14 (c .before .match .keys9), s .pre .1 .1 .1 .rows (c .before .match .keys9)))
 
 write-flaand-requires : tie.Need-write-flaand-requires
 write-flaand-requires c κs =
@@ -106,25 +106,20 @@ write-flaand-requires c κs =
     let h = s .pre .0 in
     (h, due s 15 (c .before .match .keys10))
 
-section-requires-7 : tie.Need-section-requires-7
-section-requires-7 c κs = S.asks (c .before .before .before .before .before .before .pre .0) HS refl
-
 write-h-comms-requires : tie.Need-write-h-comms-requires
 write-h-comms-requires c κs =
-    let s = c .before .before .before .before .before .before .before in
-    let a = s .args in
-    let h = s .pre .0 in
-    (S.due-17 (a .n) (a .l) (a .k) (now (a .out)) (s .pre .1 .0 .1) (c .before .before .match .keys11), record { ranges = h .ranges; blocks = S.hs-long h (now (c .section7 .result)) (c .section7 .ensures) })
+    let s = c .before .before .before .before .before .before in
+    (s .pre .0, (due s 17 (c .before .match .keys11), s .pre .1 .1 .1 .own (c .before .match .keys11)))
 
-section-requires-8 : tie.Need-section-requires-8
-section-requires-8 c κs = S.asks (c .before .before .before .before .before .before .pre .0) HS refl
+section-requires-7 : tie.Need-section-requires-7
+section-requires-7 c κs = S.asks (c .before .before .before .before .before .before .pre .0) HS refl
 
 write-hs-requires : tie.Need-write-hs-requires
 write-hs-requires c κs =
     let s = c .before .before .before .before .before .before .before in
     let a = s .args in
     let h = s .pre .0 in
-    (S.due-19 (a .n) (a .l) (a .k) (now (a .out)) (s .pre .1 .0 .1) (c .before .before .match .keys12), record { ranges = h .ranges; blocks = S.hs-long h (now (c .section8 .result)) (c .section8 .ensures) })
+    (S.due-19 (a .n) (a .l) (a .k) (now (a .out)) (s .pre .1 .0 .1) (c .before .before .match .keys12), record { ranges = h .ranges; blocks = S.hs-long h (now (c .section7 .result)) (c .section7 .ensures) })
 
 write-dvalues-requires : tie.Need-write-dvalues-requires
 write-dvalues-requires c κs =
@@ -202,15 +197,15 @@ returns-10 c =
 
 returns-11 : tie.Need-returns-11
 returns-11 c =
-    let s = c .before .before .before .before .before .before .before .before .before .before in
+    let s = c .before .before .before .before .before .before .before .before .before in
     let a = s .args in
-    S.wrote-17 (a .n) (a .i) (a .l) (a .k) (loan s) (now (a .work)) _ (now (c .before .before .before .section7 .result)) (c .before .before .before .section7 .ensures) (c .before .before .before .before .before .match .keys11) (c .before .before .write-h-comms .ensures)
+    S.wrote-17 (a .n) (a .i) (a .l) (a .k) (loan s) (now (a .work)) _ (c .before .before .before .before .match .keys11) (c .before .before .write-h-comms .ensures)
 
 returns-12 : tie.Need-returns-12
 returns-12 c =
     let s = c .before .before .before .before .before .before .before .before .before .before in
     let a = s .args in
-    S.wrote-19 (a .n) (a .i) (a .l) (a .k) (loan s) (now (a .work)) _ (now (c .before .before .before .section8 .result)) (c .before .before .before .section8 .ensures) (c .before .before .before .before .before .match .keys12) (c .before .before .write-hs .ensures)
+    S.wrote-19 (a .n) (a .i) (a .l) (a .k) (loan s) (now (a .work)) _ (now (c .before .before .before .section7 .result)) (c .before .before .before .section7 .ensures) (c .before .before .before .before .before .match .keys12) (c .before .before .write-hs .ensures)
 
 returns-13 : tie.Need-returns-13
 returns-13 c =
@@ -267,9 +262,8 @@ write-spec =
     write-dibi-requires
     write-haand-requires
     write-flaand-requires
-    section-requires-7
     write-h-comms-requires
-    section-requires-8
+    section-requires-7
     write-hs-requires
     write-dvalues-requires
     write-faand-requires

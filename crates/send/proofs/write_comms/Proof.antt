@@ -26,4 +26,4 @@ returns c =
 
 pub write-comms-spec : {M : Type 1} → statement M
 write-comms-spec =
-    tie.close (tie.spec (λ c κs. c .before .before .pre .0) section-requires write-comms-requires (λ c. search needs) returns)
+    tie.close (tie.spec (λ c κs. (range (c .before .before .pre .0), c .before .before .pre .0 .whole)) section-requires write-comms-requires (λ c. search needs) returns)

@@ -33,4 +33,4 @@ returns c =
 pub write-dibi-spec : {M : Type 1} → statement M
 write-dibi-spec =
     tie.close
-    (tie.spec (λ c κs. c .before .before .pre .0) section-requires section-requires-2 write-dibi-requires (λ c. search needs) returns)
+    (tie.spec (λ c κs. (range (c .before .before .pre .0), c .before .before .pre .0 .whole)) section-requires section-requires-2 write-dibi-requires (λ c. search needs) returns)

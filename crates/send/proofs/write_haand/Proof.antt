@@ -6,6 +6,7 @@ use Rattle.engine.specs.Area.{toOthers}
 use Rattle.rounds.specs.Area.{MASKS, BITS, LEAKY}
 use Rattle.rounds.specs.Haand.{leakyRows, haandMsg}
 use Rattle.rounds.specs.Table.{delta}
+use Rattle.haand.specs.Sent.{sent-is}
 use Rattle.send.specs.SendLaws.{asks, bits-long, leaky-long, masks-long, due-14}
 use Rattle.send.proofs.write_haand.Statement.{statement}
 use Rattle.send.proofs.write_haand.Tie as tie
@@ -43,7 +44,8 @@ returns c =
     let rows = c .before .before .before .before .before .before .section in
     let masks = c .before .before .before .before .before .section2 in
     let recs = c .before .before .before .before .section3 in
-    c .before .before .write-haand .ensures d (rows .ensures ∙ s .pre .1 .1 ∙ sym (ap (leakyRows f d) (recs .ensures)))
+    c .before .before .write-haand .ensures
+    ∙ sent-is f d (now (rows .result)) (now (masks .result)) (now (recs .result)) (rows .ensures ∙ s .pre .1 .1 ∙ sym (ap (leakyRows f d) (recs .ensures)))
     ∙ ap₂ (λ x y. toOthers (a .n) (a .i) (haandMsg f d x y)) (masks .ensures) (recs .ensures)
 
 pub write-haand-spec : {M : Type 1} → statement M

@@ -1,14 +1,13 @@
-use mathlib.Core.Path.{_≡_, sym, ap, _∙_, subst}
+use mathlib.Core.Path.{sym, ap, _∙_, subst}
 use mathlib.Core.List.{List}
 use Prim.Native.Nat.{ℕ}
 use denote.Ref.{now}
 use Rattle.engine.specs.Step.{frame}
 use Rattle.engine.specs.Area.{toOthers}
-use Rattle.rounds.specs.Area.{LEAKY, BITS, at}
-use Rattle.rounds.specs.Haand as Haand
 use Rattle.rounds.specs.Table as Table
 use Rattle.session.specs.Given.{loan}
-use Rattle.send.specs.SendLaws.{leaky-for}
+use Rattle.send.specs.Held.{Held}
+use Rattle.send.specs.SendLaws.{held-for}
 use borrow.Author.Needs.{needs}
 use Rattle.session.proofs.make.Statement.{statement}
 use Rattle.session.proofs.make.Tie as tie
@@ -32,7 +31,7 @@ write-requires c κs =
       record { ranges = s .pre .0 .ranges; whole = h .hold .kept .0 ∙ s .pre .0 .whole },
       (
         s .pre .1 .0,
-        (s .pre .1 .1, λ e. subst (λ (w : List ℕ). at f LEAKY w ≡ Haand.leakyRows f (Table.delta f w) (at f BITS w)) (sym (h .hold .ensures)) (leaky-for (s .pre .0) (a .next) q e)),
+        (s .pre .1 .1, subst (Held (a .next) f) (sym (h .hold .ensures)) (held-for (s .pre .0) (a .next) q)),
       ),
     )
 

@@ -31,7 +31,7 @@ rowOf f delta w = abcRow f delta (at f BITS w) (at f ZS w) (at f ES w) (at f PER
 
 abbrev Inv-loop : tie.InvT-loop
 Inv-loop work₀ delta n i l f recs zs es perm opened rows len j₀ work j =
-    (j ≤ l) × Keeping (sizeOf (frame n l i)) SECTIONS TRIPLES (rowOf (frame n l i) delta work₀) j (j * (2 * recordLen n)) work₀ work
+    (j ≤ l) × Keeping (sizeOf (frame n l i)) SECTIONS TRIPLES (rowOf (frame n l i) (delta .0) work₀) j (j * (2 * recordLen n)) work₀ work
 
 abbrev μ-loop : tie.MeasureT-loop
 μ-loop work₀ delta n i l f recs zs es perm opened rows len j₀ work j = l - j
@@ -45,7 +45,7 @@ module _ (s : tie.Start Inv-loop μ-loop) where
   w₀ = now (s .args .work)
 
   abbrev g : ℕ → List ℕ
-  g = rowOf f (s .args .delta) w₀
+  g = rowOf f (s .args .delta .0) w₀
 
   abbrev size : ℕ
   size = 2 * recordLen (s .args .n)
@@ -122,9 +122,9 @@ module _ (c : tie.In-loop Inv-loop μ-loop) where
   same-at s ne =
       keeping-other (sizeOf (f start)) SECTIONS TRIPLES (omega arith) (w₀ start) (area (start .pre)) (g start) j (j * size start) s w (c .before .loop .inv .1) ne
 
-  same-row : rowOf (f start) (start .args .delta) w j ≡ g start j
+  same-row : rowOf (f start) (start .args .delta .0) w j ≡ g start j
   same-row =
-      row-same (f start) (start .args .delta) _ _ _ _ _ _ _ _ _ _ j
+      row-same (f start) (start .args .delta .0) _ _ _ _ _ _ _ _ _ _ j
       (same-at BITS (λ e. omega arith)) (same-at ZS (λ e. omega arith)) (same-at ES (λ e. omega arith)) (same-at PERM (λ e. omega arith)) (same-at DS (λ e. omega arith))
 
   lent : length (take (rows + j * len + len - (rows + j * len)) (drop (rows + j * len) w)) ≡ size start
@@ -159,7 +159,7 @@ copy-requires c κs =
     let r = c .before .before in
     let i = r .before .before in
     let s = start i in
-    row-long (f s) (s .args .delta) (at (f s) BITS (w i)) (at (f s) ZS (w i)) (at (f s) ES (w i)) (at (f s) PERM (w i)) (at (f s) DS (w i)) (j i) _ (r .triple-row .result) (r .triple-row .ensures) (lent i)
+    row-long (f s) (s .args .delta .0) (at (f s) BITS (w i)) (at (f s) ZS (w i)) (at (f s) ES (w i)) (at (f s) PERM (w i)) (at (f s) DS (w i)) (j i) _ (r .triple-row .result) (r .triple-row .ensures) (lent i)
 
 add-j : tie.Need-add-j Inv-loop μ-loop
 add-j c =
@@ -177,7 +177,7 @@ loop-again c =
     let s = start i in
     let k = size s in
     let p = rows i + j i * len i in
-    let long : length (g s (j i)) ≡ k = length-abcRow (f s) (s .args .delta) (at (f s) BITS (w₀ s)) (at (f s) ZS (w₀ s)) (at (f s) ES (w₀ s)) (at (f s) PERM (w₀ s)) (at (f s) DS (w₀ s)) (j i) in (
+    let long : length (g s (j i)) ≡ k = length-abcRow (f s) (s .args .delta .0) (at (f s) BITS (w₀ s)) (at (f s) ZS (w₀ s)) (at (f s) ES (w₀ s)) (at (f s) PERM (w₀ s)) (at (f s) DS (w₀ s)) (j i) in (
       omega (arith, i .loop-test .taken),
       keeping-turn (sizeOf (f s)) SECTIONS TRIPLES (omega arith) (w₀ s) (area (s .pre)) (g s) (j i) (j i * k) k p (p + len i) ((j i + 1) * k)
           (w i) (cp .copy .last .0) (i .before .loop .inv .1)
@@ -198,7 +198,7 @@ returns c =
     let e : l .j ≡ s .args .l = omega arith in
     keeping-end (sizeOf (f s)) SECTIONS TRIPLES (omega arith) (w₀ s) (area (s .pre)) (g s) (l .j) (s .args .l) (l .j * size s) (l .work) (l .inv .1) e
     (omega (arith, full s, ap (λ k. k * size s) e))
-    ∙ ap (λ (x : List ℕ). keep (f s) TRIPLES x (w₀ s)) (rows-are (f s) (s .args .delta) (at (f s) BITS (w₀ s)) (at (f s) ZS (w₀ s)) (at (f s) ES (w₀ s)) (at (f s) PERM (w₀ s)) (at (f s) DS (w₀ s)))
+    ∙ ap (λ (x : List ℕ). keep (f s) TRIPLES x (w₀ s)) (rows-are (f s) (s .args .delta .0) (at (f s) BITS (w₀ s)) (at (f s) ZS (w₀ s)) (at (f s) ES (w₀ s)) (at (f s) PERM (w₀ s)) (at (f s) DS (w₀ s)))
 
 pub keep-triples-spec : {M : Type 1} → statement M
 keep-triples-spec =

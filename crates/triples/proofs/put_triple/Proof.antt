@@ -21,7 +21,7 @@ use Rattle.triples.proofs.put_triple.Tie as tie
 
 abbrev Inv-loop : tie.InvT-loop
 Inv-loop pair₀ recs zs es perm opened delta f j due e₀ pair e =
-    (e ≤ due) × (length pair ≡ 2 * recordLen (f .n)) × Holds (f .n) (f .i) (recordLen (f .n)) (done f delta recs zs es perm opened j e) pair
+    (e ≤ due) × (length pair ≡ 2 * recordLen (f .n)) × Holds (f .n) (f .i) (recordLen (f .n)) (done f (delta .0) recs zs es perm opened j e) pair
 
 abbrev μ-loop : tie.MeasureT-loop
 μ-loop pair₀ recs zs es perm opened delta f j due e₀ pair e = due - e
@@ -32,7 +32,7 @@ module _ (c : tie.After-bucket-size Inv-loop μ-loop) where
   s = c .before .before .before .before .before .before .before
 
   abbrev g : ℕ → Triple
-  g = done (s .args .f) (s .args .delta) (now (s .args .recs)) (now (s .args .zs)) (now (s .args .es)) (now (s .args .perm)) (now (s .args .opened)) (s .args .j)
+  g = done (s .args .f) (s .args .delta .0) (now (s .args .recs)) (now (s .args .zs)) (now (s .args .es)) (now (s .args .perm)) (now (s .args .opened)) (s .args .j)
 
   abbrev due : ℕ
   due = c .bucket-size .result - 1
@@ -44,7 +44,7 @@ module _ (c : tie.After-bucket-size Inv-loop μ-loop) where
   bytes : Bytes (now (s .args .recs))
   bytes = λ j. c .before .before .before .before .before .shared-slice-known .given j .fits
 
-  small : Small (s .args .delta)
+  small : Small (s .args .delta .0)
   small = record { low = omega (arith, s .good); high = omega (arith, s .good) }
 
   -- an entry is a position
@@ -71,14 +71,14 @@ loop-holds c =
     let b = p .before .before .before in
     let a = s b .args in
     let t = p .before .entry .result in
-    let first : Triple = leakyAt (a .f) (a .delta) (now (a .recs)) (now (a .zs)) (now (a .es)) t in
+    let first : Triple = leakyAt (a .f) (a .delta .0) (now (a .recs)) (now (a .zs)) (now (a .es)) t in
     let is : first ≡ g b 0 =
-    ap (leakyAt (a .f) (a .delta) (now (a .recs)) (now (a .zs)) (now (a .es))) (p .before .entry .ensures)
-    ∙ done-none (a .f) (a .delta) (now (a .recs)) (now (a .zs)) (now (a .es)) (now (a .perm)) (now (a .opened)) (a .j) in (
+    ap (leakyAt (a .f) (a .delta .0) (now (a .recs)) (now (a .zs)) (now (a .es))) (p .before .entry .ensures)
+    ∙ done-none (a .f) (a .delta .0) (now (a .recs)) (now (a .zs)) (now (a .es)) (now (a .perm)) (now (a .opened)) (a .j) in (
       omega arith,
       ap length (p .put-first .ensures) ∙ length-row (a .f) first,
       subst (λ (h : Triple). Holds (a .f .n) (a .f .i) (recordLen (a .f .n)) h (p .put-first .last .0)) is
-          (holds-first (a .f) first (p .put-first .last .0) (p .put-first .ensures) (small-leaky (a .f) (a .delta) (now (a .recs)) (now (a .zs)) (now (a .es)) (bytes b) (small b) t)),
+          (holds-first (a .f) first (p .put-first .last .0) (p .put-first .ensures) (small-leaky (a .f) (a .delta .0) (now (a .recs)) (now (a .zs)) (now (a .es)) (bytes b) (small b) t)),
     )
 
 -- in a turn
@@ -132,7 +132,7 @@ loop-again c =
       omega (arith, i .loop-test .taken),
       n .add-entry .kept .0 ∙ l .inv .1,
       subst (λ (h : Triple). Holds (a .f .n) (a .f .i) (recordLen (a .f .n)) h (n .add-entry .last .0))
-          (done-more (a .f) (a .delta) (now (a .recs)) (now (a .zs)) (now (a .es)) (now (a .perm)) (now (a .opened)) (a .j) (l .e) (y .entry2 .result) (b .bit .result) (y .entry2 .ensures)
+          (done-more (a .f) (a .delta .0) (now (a .recs)) (now (a .zs)) (now (a .es)) (now (a .perm)) (now (a .opened)) (a .j) (l .e) (y .entry2 .result) (b .bit .result) (y .entry2 .ensures)
           (b .bit .ensures ∙ ap (λ m. odd (getD (now (a .opened)) (a .j * m + l .e) 0)) (due-is z)))
           (n .add-entry .ensures (g z (l .e)) (l .inv .2)),
     )
@@ -147,7 +147,7 @@ returns c =
     let l = c .before .loop in
     let e : l .e ≡ later (a .f) = omega (arith, c .loop-test .left, due-is b) in
     holds-end (a .f) (g b (l .e)) (l .pair) (l .inv .1) (l .inv .2)
-    ∙ ap (tripleRow (a .f)) (ap (g b) e ∙ done-all (a .f) (a .delta) (now (a .recs)) (now (a .zs)) (now (a .es)) (now (a .perm)) (now (a .opened)) (a .j))
+    ∙ ap (tripleRow (a .f)) (ap (g b) e ∙ done-all (a .f) (a .delta .0) (now (a .recs)) (now (a .zs)) (now (a .es)) (now (a .perm)) (now (a .opened)) (a .j))
 
 pub put-triple-spec : {M : Type 1} → statement M
 put-triple-spec =

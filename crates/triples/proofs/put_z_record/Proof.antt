@@ -21,7 +21,7 @@ use Rattle.triples.proofs.put_z_record.Statement.{statement}
 use Rattle.triples.proofs.put_z_record.Tie as tie
 
 abbrev Inv-loop : tie.InvT-loop
-Inv-loop out₀ recs zs es delta t at n i l k₀ out k = (k ≤ n) × Filled (entryOf i (zShare (frame n l i) delta recs zs es t)) n k out₀ out
+Inv-loop out₀ recs zs es delta t at n i l k₀ out k = (k ≤ n) × Filled (entryOf i (zShare (frame n l i) (delta .0) recs zs es t)) n k out₀ out
 
 abbrev μ-loop : tie.MeasureT-loop
 μ-loop out₀ recs zs es delta t at n i l k₀ out k = n - k
@@ -29,7 +29,7 @@ abbrev μ-loop : tie.MeasureT-loop
 -- of a call
 module _ (s : tie.Start Inv-loop μ-loop) where
   abbrev z : Share
-  z = zShare (s .args .f) (s .args .delta) (now (s .args .recs)) (now (s .args .zs)) (now (s .args .es)) (s .args .t)
+  z = zShare (s .args .f) (s .args .delta .0) (now (s .args .recs)) (now (s .args .zs)) (now (s .args .es)) (s .args .t)
 
   below : s .args .t < leaky (s .args .f .l)
   below = s .pre .0 .1
@@ -100,7 +100,7 @@ loop-again c =
           (p .put-entry-of .ensures
           ∙ ap₂ (entryBytes (a .f .i) (k i))
           (p .before .mac-at .ensures ∙ ap (λ q. macAt (now (a .recs)) q (k i)) (at .ensures))
-          (y .z-key .ensures ∙ ap (λ q. blocks .op (keyAt (now (a .recs)) q (k i)) (sel blocks (odd (getD (now (a .es)) (k i * leaky (a .f .l) + a .t) 0)) (a .delta))) (at .ensures))),
+          (y .z-key .ensures ∙ ap (λ q. blocks .op (keyAt (now (a .recs)) q (k i)) (sel blocks (odd (getD (now (a .es)) (k i * leaky (a .f .l) + a .t) 0)) (a .delta .0))) (at .ensures))),
     )
 
 -- z lies within

@@ -89,8 +89,8 @@ returns c =
     let s = z .before .before in
     let a = s .args in
     ap₂ _++_
-    (c .before .put-triple .ensures ∙ row-is (f s) (a .delta) _ _ _ _ _ (a .j)
-    ∙ row-same (f s) (a .delta) _ _ _ _ _ _ _ _ _ _ (a .j) (recs-are s) (zs-are s) (es-are s) (perm-is s) (ds-are s))
+    (c .before .put-triple .ensures ∙ row-is (f s) (a .delta .0) _ _ _ _ _ (a .j)
+    ∙ row-same (f s) (a .delta .0) _ _ _ _ _ _ _ _ _ _ (a .j) (recs-are s) (zs-are s) (es-are s) (perm-is s) (ds-are s))
     (drop-replicate (2 * z .record-len .result) 514 0 ∙ ap (λ m. replicate (514 - 2 * m) 0) (z .record-len .ensures))
 
 pub triple-row-spec : {M : Type 1} → statement M

@@ -29,10 +29,10 @@ returns : tie.Need-returns
 returns c =
     let b = c .before .before .before in
     let a = b .before .before .before .before .args in
-    c .xor .ensures
+    c .z-key .ensures
     ∙ ap₂ (blocks .op) (c .before .before .key-at .ensures)
-    (c .before .const-mul .ensures
-    ∙ ap (λ (v : Bool). sel blocks v (a .delta)) (b .bit .ensures ∙ ap (λ m. odd (getD (now (a .es)) (a .k * m + a .t) 0)) (b .before .leaky .ensures)))
+    (c .before .times .ensures
+    ∙ ap (λ (v : Bool). sel blocks v (a .delta .0)) (b .bit .ensures ∙ ap (λ m. odd (getD (now (a .es)) (a .k * m + a .t) 0)) (b .before .leaky .ensures)))
 
 pub z-key-spec : {M : Type 1} → statement M
 z-key-spec =
