@@ -12,7 +12,7 @@ use lib.Dec.{ltb, leb, eqb}
 use borrow.Author.Tests.{ltb-true, ltb-false, leb-true, le-leb, lt-leb, eqb-true, eqb-false, eq-eqb, ne-eqb}
 use Rattle.lists.specs.Pick.{pick, pick-else}
 use Rattle.lists.specs.All.{allOf, of-all, all-turn, all-false, all-ext, true-false}
-use Rattle.lists.specs.Over.{tab, length-tab, getD-tab, tab-zero, tab-step}
+use Rattle.lists.specs.Over.{tab, length-tab, length-over, getD-tab, tab-zero, tab-step}
 use Rattle.algebra.specs.Sum.{neq-true}
 use Rattle.message.specs.declared.Kind.{Kind}
 use Rattle.message.specs.declared.Kind.the-variants.{Options}
@@ -143,6 +143,10 @@ len-is n l k = ap (λ b. pick b (msgLen n 1 2) (msgLen n l k)) (echo-is k) ∙ g
 pub round-low : (n k : ℕ) → Plan.isRound n k ≡ true → k ≤ 22
 unfolding Plan.isRound
 round-low n k h = leb-true k 22 (and-second (leb 1 k) (leb k 22) (and-first (leb 1 k && leb k 22) (not (eqb n 2 && echo? k)) h))
+
+pub round-one : (n k : ℕ) → Plan.isRound n k ≡ true → 1 ≤ k
+unfolding Plan.isRound
+round-one n k h = leb-true 1 k (and-first (leb 1 k) (leb k 22) (and-first (leb 1 k && leb k 22) (not (eqb n 2 && echo? k)) h))
 
 pub out-len-is : (n l i k : ℕ) → InRange n l → Plan.isRound n k ≡ true → outLenOf table k (frame n l i) ≡ outLen n l k
 unfolding outLenOf
@@ -356,8 +360,12 @@ module _ (i : ℕ) (K : Kind) (q : Lent) where
   unfolding usedOf
   used-end n j d e h = e ∙ ap (λ m. tab m (usedAt i K q) ++ drop m (replicate 8 0)) h
 
-  -- what a round is lent of them
-  pub used-first : (n : ℕ) → take n (usedOf n i K q) ≡ tab n (usedAt i K q)
+  pub length-used : (n : ℕ) → n ≤ 8 → length (usedOf n i K q) ≡ 8
+  unfolding usedOf
+  length-used n h = length-over (tab n (usedAt i K q)) (replicate 8 0) n (length-tab n (usedAt i K q)) h
+
+  -- the first n of them
+  used-first : (n : ℕ) → take n (usedOf n i K q) ≡ tab n (usedAt i K q)
   unfolding usedOf
   used-first n = take-at (tab n (usedAt i K q)) _ n (length-tab n (usedAt i K q))
 
@@ -408,7 +416,7 @@ module _ (n i l k : ℕ) (q : Lent) (z : byParty (frame n l i) (formFault (ruleO
   none-gone j h ne = clean j h ne .0
 
   -- the bytes of the lists
-  abbrev pub used : List ℕ
+  abbrev used : List ℕ
   used = tab n (usedAt i (kindOf l k) q)
 
   used-is : (j : ℕ) → j < n → i ≢ j → getD used j 0 ≡ Format.listLen (kindOf l k) (part q j)
@@ -431,22 +439,32 @@ module _ (n i l k : ℕ) (q : Lent) (z : byParty (frame n l i) (formFault (ruleO
       let e = used-is j h ne in
       ap (λ v. take v d) e ∙ sym (take-take (Format.listLen (kindOf l k) (part q j)) (getD (q .lens) j 0) d (omega (arith, e, used-le j h ne)))
 
-  -- what a round is given
-  pub mask-used : mask (frame n l i) (Mail.letter (q .incoming) (q .starts) used) ≡ mask (frame n l i) (heard (ruleOf table k) (frame n l i) q)
-  unfolding heard
-  mask-used = mask-ext (frame n l i) _ _ (λ j h ne. used-letter j h ne ∙ sym (list-is k n l i (part q j)))
+  used-inside : partsIn (frame n l i) q ≡ true → (j : ℕ) → j < n → i ≢ j → getD (q .starts) j 0 + getD used j 0 ≤ length (q .incoming)
+  used-inside p j h ne = omega (arith, parts-inside n l i q p j h ne (none-gone j h ne), used-le j h ne)
 
-  pub received : length (q .starts) ≡ n → partsIn (frame n l i) q ≡ true
-      → Received (kindOf l k) (countDue n l k) n i (q .incoming) (q .starts) used
-  received a p = record {
-    arrived = record { starts-n = a; lens-n = length-tab n (usedAt i (kindOf l k) q); inside = within; long = λ j h ne. omega arith };
-    formed-is = λ j h ne.
-        ap (Format.formOf (kindOf l k) (countDue n l k)) (used-letter j h ne)
-        ∙ list-form (kindOf l k) (countDue n l k) (part q j) (sym (form-is k n l i (part q j)) ∙ clean j h ne .1);
-  }
-    where
-      within : (j : ℕ) → j < n → i ≢ j → getD (q .starts) j 0 + getD used j 0 ≤ length (q .incoming)
-      within j h ne = omega (arith, parts-inside n l i q p j h ne (clean j h ne .0), used-le j h ne)
+  used-formed : (j : ℕ) → j < n → i ≢ j → Format.formOf (kindOf l k) (countDue n l k) (Mail.letter (q .incoming) (q .starts) used j) ≡ 0
+  used-formed j h ne =
+      ap (Format.formOf (kindOf l k) (countDue n l k)) (used-letter j h ne)
+      ∙ list-form (kindOf l k) (countDue n l k) (part q j) (sym (form-is k n l i (part q j)) ∙ clean j h ne .1)
+
+  -- what a round is lent: the starts, and of u, which the reader handed back, the first n
+  module _ (u : List ℕ) (e : u ≡ usedOf n i (kindOf l k) q) where
+    first-is : take n u ≡ used
+    first-is = ap (take n) e ∙ used-first i (kindOf l k) q n
+
+    pub received : length (q .starts) ≡ n → partsIn (frame n l i) q ≡ true
+        → Received (kindOf l k) (countDue n l k) n i (q .incoming) (q .starts) (take n u)
+    received a p = subst (Received (kindOf l k) (countDue n l k) n i (q .incoming) (q .starts)) (sym first-is) (record {
+      arrived = record { starts-n = a; lens-n = length-tab n (usedAt i (kindOf l k) q); inside = used-inside p; long = λ j h ne. omega arith };
+      formed-is = used-formed;
+    })
+
+    -- they are the lists that the definition speaks of
+    pub lists-heard : mask (frame n l i) (Mail.letter (q .incoming) (q .starts) (take n u)) ≡ mask (frame n l i) (heard (ruleOf table k) (frame n l i) q)
+    unfolding heard
+    lists-heard =
+        ap (λ (x : List ℕ). mask (frame n l i) (Mail.letter (q .incoming) (q .starts) x)) first-is
+        ∙ mask-ext (frame n l i) _ _ (λ j h ne. used-letter j h ne ∙ sym (list-is k n l i (part q j)))
 
 -- ---- a call that is not refused
 fine-ranges : (f : Frame) → fine f ≡ true → Ranges (f .n) (f .i) (f .l)

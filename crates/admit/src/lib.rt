@@ -1,6 +1,6 @@
 // What a round call refuses before it looks at content (document 01, "The call"): 20, 19, 17, 18 of the call itself, which leave everything as it was,
-// and then, party by party, 14, 13 and 6 of what was received. The definitions are those of crates/engine (Step, Plain) over the table of crates/rounds.
-// Nothing here is secret. A host may lend anything: every number is taken as it comes, and no sum wraps.
+// and then, party by party, 14, 13 and 6 of what was received, with the bytes of each list. The definitions are those of crates/engine (Step, Plain)
+// over the table of crates/rounds. Nothing here is secret. A host may lend anything: every number is taken as it comes, and no sum wraps.
 ghost use mathlib.Core.Path.{_≡_};
 ghost use mathlib.Core.Bool.{true, _&&_};
 ghost use mathlib.Core.List.{List, []};
