@@ -1,9 +1,11 @@
 -- What a call is given as one record, and the tests of it that the code makes one by one.
 use mathlib.Core.Bool.{Bool, true, _&&_}
-use mathlib.Core.List.{List}
+use mathlib.Core.List.{List, _++_}
 use Prim.Native.Nat.{ℕ}
+use lib.ListN.{drop, replicate}
 use lib.Dec.{eqb}
 use Rattle.lists.specs.Pick.{pick}
+use Rattle.lists.specs.Over.{tab}
 use Rattle.algebra.specs.Sum.{neq}
 use Rattle.message.specs.declared.Kind.{Kind}
 use Rattle.message.specs.Format as Format
@@ -31,3 +33,11 @@ fits i q k = pick (neq i k) (pick (gone q k) true (inside q k)) true
 -- 14, 13 or 6 of party k, where items of a kind are due
 unfoldable pub kindFault : Kind → ℕ → Lent → ℕ → ℕ
 kindFault kind count q k = pick (gone q k) 14 (Format.formOf kind count (part q k))
+
+-- the bytes of the list in party k's message, where items of a kind are due; 0 for the own one
+unfoldable pub usedAt : ℕ → Kind → Lent → ℕ → ℕ
+usedAt i kind q k = pick (neq i k) (pick (gone q k) 0 (Format.listLen kind (part q k))) 0
+
+-- those of n parties, in eight numbers
+unfoldable pub usedOf : ℕ → ℕ → Kind → Lent → List ℕ
+usedOf n i kind q = tab n (usedAt i kind q) ++ drop n (replicate 8 0)

@@ -2,19 +2,23 @@
 use mathlib.Core.Path.{_≡_, refl, sym, ap, ap₂, _∙_, subst, fun-ext}
 use mathlib.Core.Logic.{_≢_}
 use mathlib.Core.Bool.{Bool, true, false, not, _&&_, _||_}
-use mathlib.Core.List.{List, []}
+use mathlib.Core.List.{List, [], _++_}
 use Prim.Native.Nat.{ℕ, zero, suc, _+_, _-_, _*_, _<_, _≤_}
 use native.Mathlib.Numerals.{add-one}
 use native.Mathlib.Omega.{arith}
-use lib.ListN.{length, getD}
+use lib.ListN.{length, getD, take, drop, set, replicate, length-take}
+use lib.Seq.{take-at, take-take}
 use lib.Dec.{ltb, leb, eqb}
 use borrow.Author.Tests.{ltb-true, ltb-false, leb-true, le-leb, lt-leb, eqb-true, eqb-false, eq-eqb, ne-eqb}
 use Rattle.lists.specs.Pick.{pick, pick-else}
 use Rattle.lists.specs.All.{allOf, of-all, all-turn, all-false, all-ext, true-false}
+use Rattle.lists.specs.Over.{tab, length-tab, length-over, getD-tab, tab-zero, tab-step}
 use Rattle.algebra.specs.Sum.{neq-true}
 use Rattle.message.specs.declared.Kind.{Kind}
 use Rattle.message.specs.declared.Kind.the-variants.{Options}
 use Rattle.message.specs.Format as Format
+use Rattle.message.specs.FormatLaws.{list-le}
+use Rattle.message.specs.PrefixLaws.{list-form}
 use Rattle.message.specs.Read as Read
 use Rattle.permutation.specs.Permutation.{isPerm}
 use Rattle.plan.specs.Plan as Plan
@@ -22,10 +26,10 @@ use Rattle.plan.specs.Plan.{echo?, nextRound, kindOf, countDue, msgLen, outLen,
 use Rattle.plan.specs.PlanLaws.{no-echo, Rest, kind-rest, count-rest, out-len-last, out-len}
 use Rattle.engine.specs.declared.Frame.{Frame}
 use Rattle.engine.specs.declared.Session.{Session}
-use Rattle.engine.specs.Step.{Lent, Loan, frame, gone, part, inside, partsIn, sizes, reasonOf, orElse, scan, byParty, formFault}
-use Rattle.engine.specs.StepLaws.{other-is}
+use Rattle.engine.specs.Step.{Lent, Loan, frame, mask, gone, part, heard, inside, partsIn, sizes, reasonOf, orElse, scan, byParty, formFault}
+use Rattle.engine.specs.StepLaws.{other-is, mask-ext}
 use Rattle.engine.specs.Area.{mem}
-use Rattle.engine.specs.Plain.{noLoan, isEcho, nextOf, isRound, toEcho, lenOf, outLenOf, lentOf, formOf, ruleOf, protocolOf}
+use Rattle.engine.specs.Plain.{noLoan, isEcho, nextOf, isRound, toEcho, lenOf, outLenOf, lentOf, formOf, listOf, ruleOf, protocolOf}
 use Rattle.rounds.specs.Area.{workLen}
 use Rattle.rounds.specs.Mail as Mail
 use Rattle.rounds.specs.RowsLaws.{other-neq}
@@ -36,7 +40,7 @@ use Rattle.rounds.specs.EchoLaws.{Received}
 use Rattle.rounds.specs.Table.{table, lent, fine}
 use Rattle.area.specs.AreaLaws.{work-any}
 use Rattle.haand.specs.Given.{Ranges}
-use Rattle.admit.specs.Admit.{loan, given, lengthsFit, fits, kindFault}
+use Rattle.admit.specs.Admit.{loan, given, lengthsFit, fits, kindFault, usedAt, usedOf}
 
 and-first : (a b : Bool) → (a && b) ≡ true → a ≡ true
 and-first true b h = refl
@@ -139,6 +143,10 @@ len-is n l k = ap (λ b. pick b (msgLen n 1 2) (msgLen n l k)) (echo-is k) ∙ g
 pub round-low : (n k : ℕ) → Plan.isRound n k ≡ true → k ≤ 22
 unfolding Plan.isRound
 round-low n k h = leb-true k 22 (and-second (leb 1 k) (leb k 22) (and-first (leb 1 k && leb k 22) (not (eqb n 2 && echo? k)) h))
+
+pub round-one : (n k : ℕ) → Plan.isRound n k ≡ true → 1 ≤ k
+unfolding Plan.isRound
+round-one n k h = leb-true 1 k (and-first (leb 1 k) (leb k 22) (and-first (leb 1 k && leb k 22) (not (eqb n 2 && echo? k)) h))
 
 pub out-len-is : (n l i k : ℕ) → InRange n l → Plan.isRound n k ≡ true → outLenOf table k (frame n l i) ≡ outLen n l k
 unfolding outLenOf
@@ -243,6 +251,15 @@ form-is k n l i m = ap (λ b. pick b (Format.formOf Options n m) (Format.formOf 
     go true e = sym (ap₂ (λ K c. Format.formOf K c m) (echo-kind k e l) (echo-count k e n l))
     go false e = refl
 
+-- the list in one message
+list-is : (k n l i : ℕ) (m : List ℕ) → listOf table k (frame n l i) m ≡ Format.listOf (kindOf l k) m
+unfolding listOf echo
+list-is k n l i m = ap (λ b. pick b (Format.listOf Options m) (Format.listOf (kindOf l k) m)) (echo-is k) ∙ go (echo? k) refl
+  where
+    go : (b : Bool) → echo? k ≡ b → pick b (Format.listOf Options m) (Format.listOf (kindOf l k) m) ≡ Format.listOf (kindOf l k) m
+    go true e = ap (λ K. Format.listOf K m) (sym (echo-kind k e l))
+    go false e = refl
+
 pub fault-is : (k n l i : ℕ) (q : Lent) (j : ℕ) → formFault (ruleOf table k) (frame n l i) q j ≡ kindFault (kindOf l k) (countDue n l k) q j
 unfolding formFault kindFault
 fault-is k n l i q j = ap (pick (gone q j) 14) (form-is k n l i (part q j))
@@ -261,6 +278,10 @@ module _ (incoming starts lens missing r perm out : List ℕ) where
   pub fault-any : (K : Kind) (c j : ℕ) → kindFault K c (given incoming starts lens missing [] [] []) j ≡ kindFault K c (given incoming starts lens missing r perm out) j
   unfolding kindFault gone part
   fault-any K c j = refl
+
+  pub used-any : (n i : ℕ) (K : Kind) → usedOf n i K (given incoming starts lens missing [] [] []) ≡ usedOf n i K (given incoming starts lens missing r perm out)
+  unfolding usedOf usedAt gone part
+  used-any n i K = refl
 
 -- ---- the parts lie inside
 module _ (n l i : ℕ) (q : Lent) where
@@ -302,7 +323,7 @@ module _ (i : ℕ) (q : Lent) (k : ℕ) where
       (sym (ap₂ (λ a b. pick a (pick (not b) true (leb (getD (q .starts) k 0 + getD (q .lens) k 0) (length (q .incoming)))) true)
       (neq-true i k (λ e. ne (sym e))) (eq-eqb (getD (q .missing) k 0) 0 h)) ∙ e)
 
-  -- ---- one message: missing, or what `check` says
+  -- ---- one message: the own one, missing, or what the reader says
   pub fault-gone : (K : Kind) (c : ℕ) → getD (q .missing) k 0 ≢ 0 → 14 ≡ kindFault K c q k
   unfolding kindFault gone
   fault-gone K c h = rw (ne-eqb _ _ h) refl
@@ -311,6 +332,42 @@ module _ (i : ℕ) (q : Lent) (k : ℕ) where
       → x ≡ kindFault K c q k
   unfolding kindFault gone
   fault-there K c h x e = rw (eq-eqb _ _ h) (e ∙ ap (Format.formOf K c) (sym (part-letter q k)))
+
+  module _ (K : Kind) where
+    pub used-own : k ≡ i → 0 ≡ usedAt i K q k
+    unfolding usedAt
+    used-own e = ap (λ b. pick b (pick (gone q k) 0 (Format.listLen K (part q k))) 0) (sym (neq-same i k e))
+
+    pub used-gone : k ≢ i → getD (q .missing) k 0 ≢ 0 → 0 ≡ usedAt i K q k
+    unfolding usedAt gone
+    used-gone ne h = rw (neq-true i k (λ e. ne (sym e)), ne-eqb _ _ h) refl
+
+    pub used-there : k ≢ i → getD (q .missing) k 0 ≡ 0 → (x : ℕ) → x ≡ Format.listLen K (Mail.letter (q .incoming) (q .starts) (q .lens) k)
+        → x ≡ usedAt i K q k
+    unfolding usedAt gone
+    used-there ne h x e = rw (neq-true i k (λ e. ne (sym e)), eq-eqb _ _ h) (e ∙ ap (Format.listLen K) (sym (part-letter q k)))
+
+-- ---- the lengths of the lists, one after another in eight numbers
+module _ (i : ℕ) (K : Kind) (q : Lent) where
+  pub used-none : replicate 8 0 ≡ tab 0 (usedAt i K q) ++ drop 0 (replicate 8 0)
+  used-none = tab-zero (usedAt i K q) (replicate 8 0)
+
+  pub used-turn : (j : ℕ) (d : List ℕ) (x : ℕ) → j < 8 → d ≡ tab j (usedAt i K q) ++ drop j (replicate 8 0) → x ≡ usedAt i K q j
+      → set d j x ≡ tab (j + 1) (usedAt i K q) ++ drop (j + 1) (replicate 8 0)
+  used-turn j d x h e ex = ap₂ (λ (y : List ℕ) v. set y j v) e ex ∙ tab-step j (usedAt i K q) (replicate 8 0) h
+
+  pub used-end : (n j : ℕ) (d : List ℕ) → d ≡ tab j (usedAt i K q) ++ drop j (replicate 8 0) → j ≡ n → d ≡ usedOf n i K q
+  unfolding usedOf
+  used-end n j d e h = e ∙ ap (λ m. tab m (usedAt i K q) ++ drop m (replicate 8 0)) h
+
+  pub length-used : (n : ℕ) → n ≤ 8 → length (usedOf n i K q) ≡ 8
+  unfolding usedOf
+  length-used n h = length-over (tab n (usedAt i K q)) (replicate 8 0) n (length-tab n (usedAt i K q)) h
+
+  -- the first n of them
+  used-first : (n : ℕ) → take n (usedOf n i K q) ≡ tab n (usedAt i K q)
+  unfolding usedOf
+  used-first n = take-at (tab n (usedAt i K q)) _ n (length-tab n (usedAt i K q))
 
 -- the loop's answer
 module _ (incoming starts lens missing : List ℕ) (n i l k : ℕ) (K : Kind) (c : ℕ) (kind-is : K ≡ kindOf l k) (count-is : c ≡ countDue n l k) where
@@ -358,15 +415,56 @@ module _ (n i l k : ℕ) (q : Lent) (z : byParty (frame n l i) (formFault (ruleO
   pub none-gone : (j : ℕ) → j < n → i ≢ j → gone q j ≡ false
   none-gone j h ne = clean j h ne .0
 
-  pub received : length (q .starts) ≡ n → length (q .lens) ≡ n → partsIn (frame n l i) q ≡ true
-      → Received (kindOf l k) (countDue n l k) n i (q .incoming) (q .starts) (q .lens)
-  received a b p = record {
-    arrived = record { starts-n = a; lens-n = b; inside = within; long = λ j h ne. omega arith };
-    formed-is = λ j h ne. ap (Format.formOf (kindOf l k) (countDue n l k)) (sym (part-letter q j)) ∙ sym (form-is k n l i (part q j)) ∙ clean j h ne .1;
-  }
-    where
-      within : (j : ℕ) → j < n → i ≢ j → getD (q .starts) j 0 + getD (q .lens) j 0 ≤ length (q .incoming)
-      within j h ne = parts-inside n l i q p j h ne (clean j h ne .0)
+  -- the bytes of the lists
+  abbrev used : List ℕ
+  used = tab n (usedAt i (kindOf l k) q)
+
+  used-is : (j : ℕ) → j < n → i ≢ j → getD used j 0 ≡ Format.listLen (kindOf l k) (part q j)
+  unfolding usedAt
+  used-is j h ne =
+      getD-tab n j (usedAt i (kindOf l k) q) 0 h
+      ∙ ap₂ (λ a b. pick a (pick b 0 (Format.listLen (kindOf l k) (part q j))) 0) (neq-true i j ne) (none-gone j h ne)
+
+  -- a list is no longer than its message
+  used-le : (j : ℕ) → j < n → i ≢ j → getD used j 0 ≤ getD (q .lens) j 0
+  unfolding part
+  used-le j h ne =
+      omega (arith, used-is j h ne, list-le (kindOf l k) (part q j), length-take (getD (q .lens) j 0) (drop (getD (q .starts) j 0) (q .incoming)))
+
+  -- "Reading hands back the part of the incoming buffer that holds one list"
+  used-letter : (j : ℕ) → j < n → i ≢ j → Mail.letter (q .incoming) (q .starts) used j ≡ Format.listOf (kindOf l k) (part q j)
+  unfolding Mail.letter Format.listOf part
+  used-letter j h ne =
+      let d : List ℕ = drop (getD (q .starts) j 0) (q .incoming) in
+      let e = used-is j h ne in
+      ap (λ v. take v d) e ∙ sym (take-take (Format.listLen (kindOf l k) (part q j)) (getD (q .lens) j 0) d (omega (arith, e, used-le j h ne)))
+
+  used-inside : partsIn (frame n l i) q ≡ true → (j : ℕ) → j < n → i ≢ j → getD (q .starts) j 0 + getD used j 0 ≤ length (q .incoming)
+  used-inside p j h ne = omega (arith, parts-inside n l i q p j h ne (none-gone j h ne), used-le j h ne)
+
+  used-formed : (j : ℕ) → j < n → i ≢ j → Format.formOf (kindOf l k) (countDue n l k) (Mail.letter (q .incoming) (q .starts) used j) ≡ 0
+  used-formed j h ne =
+      ap (Format.formOf (kindOf l k) (countDue n l k)) (used-letter j h ne)
+      ∙ list-form (kindOf l k) (countDue n l k) (part q j) (sym (form-is k n l i (part q j)) ∙ clean j h ne .1)
+
+  -- what a round is lent: the starts, and of u, which the reader handed back, the first n
+  module _ (u : List ℕ) (e : u ≡ usedOf n i (kindOf l k) q) where
+    first-is : take n u ≡ used
+    first-is = ap (take n) e ∙ used-first i (kindOf l k) q n
+
+    pub received : length (q .starts) ≡ n → partsIn (frame n l i) q ≡ true
+        → Received (kindOf l k) (countDue n l k) n i (q .incoming) (q .starts) (take n u)
+    received a p = subst (Received (kindOf l k) (countDue n l k) n i (q .incoming) (q .starts)) (sym first-is) (record {
+      arrived = record { starts-n = a; lens-n = length-tab n (usedAt i (kindOf l k) q); inside = used-inside p; long = λ j h ne. omega arith };
+      formed-is = used-formed;
+    })
+
+    -- they are the lists that the definition speaks of
+    pub lists-heard : mask (frame n l i) (Mail.letter (q .incoming) (q .starts) (take n u)) ≡ mask (frame n l i) (heard (ruleOf table k) (frame n l i) q)
+    unfolding heard
+    lists-heard =
+        ap (λ (x : List ℕ). mask (frame n l i) (Mail.letter (q .incoming) (q .starts) x)) first-is
+        ∙ mask-ext (frame n l i) _ _ (λ j h ne. used-letter j h ne ∙ sym (list-is k n l i (part q j)))
 
 -- ---- a call that is not refused
 fine-ranges : (f : Frame) → fine f ≡ true → Ranges (f .n) (f .i) (f .l)

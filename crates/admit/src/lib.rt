@@ -1,23 +1,24 @@
 // What a round call refuses before it looks at content (document 01, "The call"): 20, 19, 17, 18 of the call itself, which leave everything as it was,
-// and then, party by party, 14, 13 and 6 of what was received. The definitions are those of crates/engine (Step, Plain) over the table of crates/rounds.
-// Nothing here is secret. A host may lend anything: every number is taken as it comes, and no sum wraps.
+// and then, party by party, 14, 13 and 6 of what was received, with the bytes of each list. The definitions are those of crates/engine (Step, Plain)
+// over the table of crates/rounds. Nothing here is secret. A host may lend anything: every number is taken as it comes, and no sum wraps.
 ghost use mathlib.Core.Path.{_≡_};
 ghost use mathlib.Core.Bool.{true, _&&_};
 ghost use mathlib.Core.List.{List, []};
 ghost use Prim.Native.Nat.{ℕ, _<_};
-ghost use lib.ListN.{length};
+ghost use lib.ListN.{length, replicate};
 ghost use lib.Dec.{eqb};
-ghost use Rattle.plan.specs.Plan.{InRange};
+ghost use Rattle.lists.specs.Pick.{pick};
+ghost use Rattle.plan.specs.Plan.{InRange, kindOf};
 ghost use Rattle.engine.specs.Step.{frame, partsIn, reasonOf, byParty, formFault};
 ghost use Rattle.engine.specs.Plain.{protocolOf, ruleOf, lentOf};
 ghost use Rattle.rounds.specs.FaultLaws.{Finds, faultAt};
 ghost use Rattle.rounds.specs.Table as T;
 ghost use Rattle.rounds.specs.Table.{table};
 ghost use Rattle.haand.specs.Given.{Ranges};
-ghost use Rattle.admit.specs.Admit.{loan, given, lengthsFit, fits, kindFault};
+ghost use Rattle.admit.specs.Admit.{loan, given, lengthsFit, fits, kindFault, usedAt, usedOf};
 use engine::Session;
 use message::Kind;
-use rounds::Fault;
+use message::Reading;
 
 // ---- 20
 
@@ -188,8 +189,8 @@ pub fn reason(
 
 // ---- 14, 13 and 6
 
-// 14, 13 or 6 of party k's message, or 0; none of the own number.
-fn form_fault(
+// What is read of party k's message: 14, 13, 6 or 0, and the bytes of its list; nothing of the own number.
+fn read_one(
     incoming: &[u8],
     starts: &[usize],
     lens: &[usize],
@@ -198,22 +199,30 @@ fn form_fault(
     count: usize,
     i: usize,
     k: usize,
-) -> u8
+) -> Reading
     requires { ⌜ (k < length (now starts)) × (k < length (now lens)) × (k < length (now missing)) ⌝ }
     requires { ⌜ fits i (given (now incoming) (now starts) (now lens) (now missing) [] [] []) k ≡ true ⌝ }
-    ensures { λ r. ⌜ r ≡ faultAt i (kindFault kind count (given (now (incoming .entry)) (now (starts .entry)) (now (lens .entry)) (now (missing .entry)) [] [] [])) k ⌝ }
+    ensures { λ r. ⌜ (r .code ≡ faultAt i (kindFault kind count (given (now (incoming .entry)) (now (starts .entry)) (now (lens .entry)) (now (missing .entry)) [] [] [])) k)
+        × (r .used ≡ usedAt i kind (given (now (incoming .entry)) (now (starts .entry)) (now (lens .entry)) (now (missing .entry)) [] [] []) k) ⌝ }
 {
     if k == i {
-        return 0;
+        return Reading { code: 0, used: 0 };
     }
     let mark = missing[k];
     if mark != 0 {
-        return 14;
+        return Reading { code: 14, used: 0 };
     }
-    message::check(kind, count, rounds::letter(incoming, starts, lens, k))
+    message::read(kind, count, rounds::letter(incoming, starts, lens, k))
 }
 
-// The first other party whose message is missing, doesn't decode, or has another count than the one due.
+// What is read of all messages: the first fault, its number 0 for none, and then for each party the bytes of its list, from its start on.
+pub struct Heard {
+    pub code: u8,
+    pub party: usize,
+    pub used: [usize; 8],
+}
+
+// The first other party whose message is missing, doesn't decode, or has another count than the one due; without one, the lists of all.
 pub fn form(
     incoming: &[u8],
     starts: &[usize],
@@ -223,26 +232,37 @@ pub fn form(
     i: usize,
     l: usize,
     k: usize,
-) -> Fault
+) -> Heard
     requires { ⌜ Ranges n i l ⌝ }
     requires { ⌜ (length (now starts) ≡ n) × (length (now lens) ≡ n) × (length (now missing) ≡ n) ⌝ }
     requires { ⌜ partsIn (frame n l i) (given (now incoming) (now starts) (now lens) (now missing) [] [] []) ≡ true ⌝ }
-    ensures { λ f. ⌜ ((r perm out : List ℕ) → Finds (f .code) (f .party) (byParty (frame n l i) (formFault (ruleOf table k) (frame n l i)
-        (given (now (incoming .entry)) (now (starts .entry)) (now (lens .entry)) (now (missing .entry)) r perm out)))) ⌝ }
+    ensures { λ f. ⌜ (((r perm out : List ℕ) → Finds (f .code) (f .party) (byParty (frame n l i) (formFault (ruleOf table k) (frame n l i)
+        (given (now (incoming .entry)) (now (starts .entry)) (now (lens .entry)) (now (missing .entry)) r perm out))))
+        × (f .used ≡ pick (eqb (f .code) 0) (usedOf n i (kindOf l k)
+        (given (now (incoming .entry)) (now (starts .entry)) (now (lens .entry)) (now (missing .entry)) [] [] [])) (replicate 8 0))) ⌝ }
 {
     let kind = plan::kind_of(l, k);
     let count = plan::count_due(n, l, k);
+    let mut used: [usize; 8] = [0; 8];
     let mut j = 0;
     while j < n {
         let next = j + 1;
-        let code = form_fault(incoming, starts, lens, missing, kind, count, i, j);
+        let r = read_one(incoming, starts, lens, missing, kind, count, i, j);
+        let code = r.code;
         if code != 0 {
-            return Fault {
+            let none: [usize; 8] = [0; 8];
+            return Heard {
                 code: code,
                 party: j,
+                used: none,
             };
         }
+        used[j] = r.used;
         j = next;
     }
-    Fault { code: 0, party: 0 }
+    Heard {
+        code: 0,
+        party: 0,
+        used: used,
+    }
 }

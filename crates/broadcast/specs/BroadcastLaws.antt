@@ -1,28 +1,28 @@
 -- What is kept for an echo, and what the echo's call finds: the definitions look at other parties' messages alone.
 use mathlib.Core.Path.{_≡_, refl, sym, ap, ap₂, _∙_}
-use mathlib.Core.Bool.{Bool, true, false}
+use mathlib.Core.Bool.{Bool, true, false, _&&_, _||_}
 use mathlib.Core.Logic.{_≢_}
 use mathlib.Core.List.{List, [], _∷_}
-use Prim.Native.Nat.{ℕ, zero, suc, _+_, _-_, _*_, _%_, _<_, _≤_}
+use Prim.Native.Nat.{ℕ, zero, suc, _+_, _-_, _*_, _<_, _≤_}
 use native.Mathlib.Nat.{le-refl}
 use native.Mathlib.Omega.{arith}
 use lib.ListN.{length, getD, replicate}
-use lib.Dec.{eqb}
-use borrow.Author.Tests.{eq-eqb, ne-eqb, eqb-true, eqb-false}
+use lib.Dec.{ltb, eqb}
+use borrow.Author.Tests.{ne-eqb, eqb-true, eqb-false}
 use Rattle.lists.specs.Pick.{pick}
 use Rattle.lists.specs.Rows.{cat-ext}
 use Rattle.engine.specs.declared.Frame.{Frame}
-use Rattle.engine.specs.Step.{Fault, frame, other, mask, orElse, scan, byParty}
+use Rattle.engine.specs.Step.{Fault, none?, frame, other, mask, orElse, scan, byParty}
 use Rattle.engine.specs.StepLaws.{other-cases, or-none, or-first}
-use Rattle.engine.specs.Plain.{rowsOf, waits, digests, hashes, pending, echoCheck}
+use Rattle.engine.specs.Plain.{rowsOf, waits, waiting, prior, digests, hashes, pending, echoCheck}
 use Rattle.lists.specs.Sect.{get}
-use Rattle.engine.specs.Area.{off, sec, length-sec}
+use Rattle.engine.specs.Area.{off, sec, length-sec, mem}
 use Rattle.rounds.specs.Area.{PENDING, HASHES, SECTIONS, sizes, sizeOf, workLen, at}
 use Rattle.area.specs.SectionLaws.{is-section}
 use Rattle.rounds.specs.Echo.{hashVec, echo, echoFault}
 use Rattle.rounds.specs.EchoLaws.{echoFaults}
 use Rattle.rounds.specs.FaultLaws.{Finds}
-use Rattle.rounds.specs.Table.{table}
+use Rattle.rounds.specs.Table.{table, faults}
 
 -- ---- other parties' messages alone
 module _ (f : Frame) (m : ℕ → List ℕ) where
@@ -48,9 +48,9 @@ module _ (f : Frame) (m : ℕ → List ℕ) where
   unfolding digests
   digests-are k = rows-masked (hashVec k)
 
-  pub echo-checks : (w : List ℕ) → echoCheck table f w (mask f m) ≡ orElse (byParty f (echoFaults (f .n) (f .i) (at f HASHES w) m)) (pending table f w)
+  pub echo-checks : (k : ℕ) (w : List ℕ) → echoCheck table k f w (mask f m) ≡ orElse (byParty f (echoFaults (f .n) (f .i) (at f HASHES w) m)) (pending table k f w)
   unfolding echoCheck hashes at echo
-  echo-checks w = ap (λ (e : Fault). orElse e (pending table f w)) (party-masked (λ j. echoFault (f .n) (f .i) j (at f HASHES w)))
+  echo-checks k w = ap (λ (e : Fault). orElse e (pending table k f w)) (party-masked (λ j. echoFault (f .n) (f .i) j (at f HASHES w)))
 
 pub hashes-at : (f : Frame) (w : List ℕ) → hashes table f w ≡ at f HASHES w
 unfolding hashes at
@@ -74,10 +74,60 @@ unfolding sizeOf sizes
 hashes-size f = refl
 
 -- ---- faults
--- a fault that was stored in two bytes is found again
-pub finds-pending : (f : Frame) (w : List ℕ) → Finds (getD (at f PENDING w) 0 0) (getD (at f PENDING w) 1 0) (pending table f w)
-unfolding pending at
-finds-pending f w = record { code-is = refl; party-is = λ _. refl }
+-- the numbers of a round, compared one by one
+mem-one : (x a : ℕ) → eqb x a ≡ mem x (a ∷ [])
+unfolding mem
+mem-one x a = go (eqb x a)
+  where
+    go : (b : Bool) → b ≡ pick b true false
+    go true = refl
+    go false = refl
+
+mem-two : (x a b : ℕ) → (eqb x a || eqb x b) ≡ mem x (a ∷ b ∷ [])
+unfolding mem
+mem-two x a b = go (eqb x a) (mem-one x b)
+  where
+    go : (t : Bool) → eqb x b ≡ mem x (b ∷ []) → (t || eqb x b) ≡ pick t true (mem x (b ∷ []))
+    go true e = refl
+    go false e = e
+
+module _ (k code : ℕ) where
+  pub faults-one : (a c : ℕ) → faults a ≡ c ∷ [] → k ≡ a → eqb code c ≡ mem code (faults k)
+  faults-one a c h e = mem-one code c ∙ sym (ap (mem code) (ap faults e ∙ h))
+
+  pub faults-two : (a c d : ℕ) → faults a ≡ c ∷ d ∷ [] → k ≡ a → (eqb code c || eqb code d) ≡ mem code (faults k)
+  faults-two a c d h e = mem-two code c d ∙ sym (ap (mem code) (ap faults e ∙ h))
+
+  pub faults-none : k ≢ 3 → k ≢ 5 → k ≢ 6 → k ≢ 10 → k ≢ 12 → k ≢ 19 → k ≢ 21 → k ≢ 22 → false ≡ mem code (faults k)
+  unfolding faults mem
+  faults-none h3 h5 h6 h10 h12 h19 h21 h22 =
+      rw (ne-eqb k 3 h3, ne-eqb k 5 h5, ne-eqb k 6 h6, ne-eqb k 10 h10, ne-eqb k 12 h12, ne-eqb k 19 h19, ne-eqb k 21 h21, ne-eqb k 22 h22) refl
+
+-- the two bytes, and whether they are a fault
+module _ (f : Frame) (k : ℕ) (w x : List ℕ) (party : ℕ) (b : Bool)
+    (one : 1 ≤ k) (x-is : x ≡ at f PENDING w) (party-is : party ≡ getD x 1 0) (b-is : b ≡ mem (getD x 0 0) (faults (k - 1))) where
+  prior-is : prior k ≡ k - 1
+  prior-is = go k
+    where
+      go : (j : ℕ) → prior j ≡ j - 1
+      go zero = refl
+      go (suc j) = omega arith
+
+  pending-is : pending table k f w ≡ pick (b && ltb party (f .n)) (record { code = getD x 0 0; party = party }) none?
+  unfolding pending waiting at
+  pending-is =
+      ap₂ (λ (j : ℕ) (y : List ℕ). waiting (faults j) (f .n) y) prior-is (sym x-is)
+      ∙ ap₂ (λ p (t : Bool). pick (t && ltb p (f .n)) (record { code = getD x 0 0; party = p }) none?) (sym party-is) (sym b-is)
+
+  pub finds-pending : (b && ltb party (f .n)) ≡ true → Finds (getD x 0 0) party (pending table k f w)
+  finds-pending e =
+      let r = pending-is ∙ ap (λ t. pick t (record { code = getD x 0 0; party = party }) none?) e in
+      record { code-is = sym (ap (λ (y : Fault). y .code) r); party-is = λ _. sym (ap (λ (y : Fault). y .party) r) }
+
+  pub finds-nothing : (b && ltb party (f .n)) ≡ false → Finds 0 0 (pending table k f w)
+  finds-nothing e =
+      let r = pending-is ∙ ap (λ t. pick t (record { code = getD x 0 0; party = party }) none?) e in
+      record { code-is = sym (ap (λ (y : Fault). y .code) r); party-is = λ _. sym (ap (λ (y : Fault). y .party) r) }
 
 -- the first of two faults
 pub finds-one : (code party : ℕ) (a b : Fault) → Finds code party a → code ≢ 0 → Finds code party (orElse a b)
@@ -87,18 +137,19 @@ pub finds-two : (code party : ℕ) (a b : Fault) → a .code ≡ 0 → Finds cod
 finds-two code party a b z h = rw (or-none a b z) h
 
 -- number and party in two bytes
-pub waits-is : (code party p : ℕ) (x : Fault) → Finds code party x → x .party < 256 → p ≡ pick (eqb code 0) 0 (party % 256) → code ∷ p ∷ [] ≡ waits x
+pub waits-is : (code party p : ℕ) → p ≡ pick (eqb code 0) 0 party → code ∷ p ∷ [] ≡ waits (record { code = code; party = party })
 unfolding waits
-waits-is code party p x h l e = go (eqb code 0) refl
+waits-is code party p e = go (eqb code 0) refl
   where
-    go : (b : Bool) → eqb code 0 ≡ b → code ∷ p ∷ [] ≡ waits x
-    go true q =
-        let z : code ≡ 0 = eqb-true code 0 q in
-        ap₂ (λ c d. c ∷ d ∷ []) z (e ∙ ap (λ b. pick b 0 (party % 256)) q)
-        ∙ sym (ap (λ b. pick b (0 ∷ 0 ∷ []) (x .code ∷ x .party ∷ [])) (eq-eqb (x .code) 0 (sym (h .code-is) ∙ z)))
-    go false q =
-        let ne : x .code ≢ 0 = λ z. eqb-false code 0 q (h .code-is ∙ z) in
-        let who : party ≡ x .party = h .party-is ne in
-        let r : p ≡ party % 256 = e ∙ ap (λ b. pick b 0 (party % 256)) q in
-        ap₂ (λ c d. c ∷ d ∷ []) (h .code-is) (let y : p ≡ x .party = omega (arith, r, who, l) in y)
-        ∙ sym (ap (λ b. pick b (0 ∷ 0 ∷ []) (x .code ∷ x .party ∷ [])) (ne-eqb (x .code) 0 ne))
+    go : (b : Bool) → eqb code 0 ≡ b → code ∷ p ∷ [] ≡ pick (eqb code 0) (0 ∷ 0 ∷ []) (code ∷ party ∷ [])
+    go true q = ap₂ (λ c d. c ∷ d ∷ []) (eqb-true code 0 q) (e ∙ ap (λ b. pick b 0 party) q) ∙ sym (ap (λ b. pick b (0 ∷ 0 ∷ []) (code ∷ party ∷ [])) q)
+    go false q = ap (λ d. code ∷ d ∷ []) (e ∙ ap (λ b. pick b 0 party) q) ∙ sym (ap (λ b. pick b (0 ∷ 0 ∷ []) (code ∷ party ∷ [])) q)
+
+-- they are those of the fault that was found
+pub waits-found : (code party : ℕ) (x : Fault) → Finds code party x → waits (record { code = code; party = party }) ≡ waits x
+unfolding waits
+waits-found code party x h = go (eqb (x .code) 0) refl
+  where
+    go : (b : Bool) → eqb (x .code) 0 ≡ b → pick (eqb code 0) (0 ∷ 0 ∷ []) (code ∷ party ∷ []) ≡ pick (eqb (x .code) 0) (0 ∷ 0 ∷ []) (x .code ∷ x .party ∷ [])
+    go true q = rw (h .code-is, q) refl
+    go false q = rw (h .code-is, h .party-is (eqb-false (x .code) 0 q)) refl

@@ -2,21 +2,21 @@
 // is echoed keeps the hashes of the lists and the fault that it found; the echo's call compares the hashes, then reports that fault. So a fault
 // is known to all before anybody stops for it. The definitions are those of crate engine, specs/Plain.antt; crate echo reads and writes the messages.
 ghost use mathlib.Core.Path.{_≡_};
-ghost use Prim.Native.Nat.{ℕ, _-_, _*_, _%_, _<_};
+ghost use mathlib.Core.Logic.{_≢_};
+ghost use Prim.Native.Nat.{_-_, _*_, _<_, _≤_};
 ghost use lib.ListN.{length};
 ghost use lib.Dec.{eqb};
 ghost use Rattle.lists.specs.Pick.{pick};
 ghost use Rattle.plan.specs.Plan.{kindOf, countDue, msgLen};
 ghost use Rattle.engine.specs.Step.{frame, mask};
-ghost use Rattle.engine.specs.Step as Step;
 ghost use Rattle.engine.specs.Plain.{waits, digests, echoCheck, hashes, pending};
-ghost use Rattle.engine.specs.Area.{toOthers};
+ghost use Rattle.engine.specs.Area.{toOthers, mem};
 ghost use Rattle.rounds.specs.Area.{PENDING, HASHES, keep};
 ghost use Rattle.rounds.specs.Mail.{letter};
 ghost use Rattle.rounds.specs.EchoLaws.{Received};
 ghost use Rattle.rounds.specs.Echo as Echo;
 ghost use Rattle.rounds.specs.FaultLaws.{Finds};
-ghost use Rattle.rounds.specs.Table.{table};
+ghost use Rattle.rounds.specs.Table.{table, faults};
 ghost use Rattle.haand.specs.Given.{Work};
 use message::Kind;
 use rounds::Fault;
@@ -48,15 +48,16 @@ fn keep_hashes(
 
 // The party of a fault in a byte, 0 for none.
 fn party_byte(code: u8, party: usize) -> u8
-    ensures { λ r. ⌜ r ≡ pick (eqb code 0) 0 (party % 256) ⌝ }
+    requires { ⌜ (code ≢ 0 → party < 256) ⌝ }
+    ensures { λ r. ⌜ r ≡ pick (eqb code 0) 0 party ⌝ }
 {
-    if code == 0 { 0 } else { (party % 256) as u8 }
+    if code == 0 { 0 } else { party as u8 }
 }
 
 // Number and party of a fault, 0 0 for none.
 fn put_fault(out: &mut [u8], code: u8, party: usize)
-    requires { ⌜ length (now out) ≡ 2 ⌝ }
-    ensures { λ _. ⌜ ((x : Step.Fault) → Finds code party x → x .party < 256 → now (out .exit) ≡ waits x) ⌝ }
+    requires { ⌜ (length (now out) ≡ 2) × (code ≢ 0 → party < 256) ⌝ }
+    ensures { λ _. ⌜ now (out .exit) ≡ waits (record { code = code; party = party }) ⌝ }
 {
     out[0] = code;
     out[1] = party_byte(code, party);
@@ -65,14 +66,15 @@ fn put_fault(out: &mut [u8], code: u8, party: usize)
 // Keeps a fault.
 fn keep_fault(work: &mut [u8], code: u8, party: usize, n: usize, i: usize, l: usize)
     requires { ⌜ Work n i l (now work) ⌝ }
-    ensures { λ _. ⌜ ((x : Step.Fault) → Finds code party x → x .party < 256 → now (work .exit) ≡ keep (frame n l i) PENDING (waits x) (now (work .entry))) ⌝ }
+    requires { ⌜ (code ≢ 0 → party < n) ⌝ }
+    ensures { λ _. ⌜ now (work .exit) ≡ keep (frame n l i) PENDING (waits (record { code = code; party = party })) (now (work .entry)) ⌝ }
 {
     let a = area::section_at(n, l, PENDING);
     let e = a + area::section_len(n, l, PENDING);
     put_fault(&mut work[a..e], code, party);
 }
 
-// Keeps what the echo of round k is about: the hashes, and the fault that was found.
+// Keeps what the echo of round k is about: the hashes, and the fault that was found, if one was, with a party of the session.
 pub fn note(
     work: &mut [u8],
     code: u8,
@@ -86,10 +88,11 @@ pub fn note(
     k: usize,
 )
     requires { ⌜ Work n i l (now work) ⌝ }
+    requires { ⌜ (code ≢ 0 → party < n) ⌝ }
     requires { ⌜ Received (kindOf l k) (countDue n l k) n i (now incoming) (now starts) (now lens) ⌝ }
-    ensures { λ _. ⌜ ((x : Step.Fault) → Finds code party x → x .party < 256 → now (work .exit) ≡ keep (frame n l i) PENDING (waits x)
+    ensures { λ _. ⌜ now (work .exit) ≡ keep (frame n l i) PENDING (waits (record { code = code; party = party }))
         (keep (frame n l i) HASHES (digests table k (frame n l i)
-        (mask (frame n l i) (letter (now (incoming .entry)) (now (starts .entry)) (now (lens .entry))))) (now (work .entry)))) ⌝ }
+        (mask (frame n l i) (letter (now (incoming .entry)) (now (starts .entry)) (now (lens .entry))))) (now (work .entry))) ⌝ }
 {
     keep_hashes(work, incoming, starts, lens, n, i, l, k);
     keep_fault(work, code, party, n, i, l);
@@ -101,19 +104,41 @@ fn wide(b: u8) -> usize
     b as usize
 }
 
-// The fault that waits for the echo.
-fn pending(work: &[u8], n: usize, i: usize, l: usize) -> Fault
-    requires { ⌜ Work n i l (now work) ⌝ }
-    ensures { λ r. ⌜ Finds (r .code) (r .party) (pending table (frame n l i) (now (work .entry))) ⌝ }
+// Whether the content check of round k can find this number.
+fn finds(k: usize, code: u8) -> bool
+    ensures { λ r. ⌜ r ≡ mem code (faults k) ⌝ }
 {
-    let p = area::section(work, n, i, l, PENDING);
-    Fault {
-        code: p[0],
-        party: wide(p[1]),
+    match k {
+        3 | 5 => code == 2,
+        6 => code == 8,
+        10 => (code == 4) | (code == 1),
+        12 => (code == 2) | (code == 9),
+        19 => (code == 2) | (code == 10),
+        21 => code == 11,
+        22 => code == 12,
+        _ => false,
     }
 }
 
-// The echo's call: 3 or 7 with the first sender whose echo has a fault, else the fault that waited.
+// The fault that waits for the echo k. A work area may hold anything: what no call left there is no fault.
+fn pending(work: &[u8], n: usize, i: usize, l: usize, k: usize) -> Fault
+    requires { ⌜ Work n i l (now work) ⌝ }
+    requires { ⌜ 1 ≤ k ⌝ }
+    ensures { λ r. ⌜ Finds (r .code) (r .party) (pending table k (frame n l i) (now (work .entry))) ⌝ }
+{
+    let p = area::section(work, n, i, l, PENDING);
+    let code = p[0];
+    let party = wide(p[1]);
+    if finds(k - 1, code) & (party < n) {
+        return Fault {
+            code: code,
+            party: party,
+        };
+    }
+    Fault { code: 0, party: 0 }
+}
+
+// The call for the echo k: 3 or 7 with the first sender whose echo has a fault, else the fault that waited.
 pub fn check(
     work: &[u8],
     incoming: &[u8],
@@ -122,10 +147,12 @@ pub fn check(
     n: usize,
     i: usize,
     l: usize,
+    k: usize,
 ) -> Fault
     requires { ⌜ Work n i l (now work) ⌝ }
+    requires { ⌜ 1 ≤ k ⌝ }
     requires { ⌜ Received Kind.Options n n i (now incoming) (now starts) (now lens) ⌝ }
-    ensures { λ r. ⌜ Finds (r .code) (r .party) (echoCheck table (frame n l i) (now (work .entry))
+    ensures { λ r. ⌜ Finds (r .code) (r .party) (echoCheck table k (frame n l i) (now (work .entry))
         (mask (frame n l i) (letter (now (incoming .entry)) (now (starts .entry)) (now (lens .entry))))) ⌝ }
 {
     let e = echo::check_echoes(
@@ -139,7 +166,7 @@ pub fn check(
     if e.code != 0 {
         return e;
     }
-    pending(work, n, i, l)
+    pending(work, n, i, l, k)
 }
 
 // The echoes to all others, from the hashes that are kept.

@@ -7,11 +7,9 @@ use lib.ListN.{length, replicate}
 use lib.Dec.{eqb}
 use Rattle.plan.specs.Plan.{nextRound}
 use Rattle.engine.specs.declared.Session.{Session}
-use Rattle.engine.specs.declared.Verdict.the-variants.{Accepted, Refused}
-use Rattle.engine.specs.Step.{Lent, outcome, part, mask, reasonOf, faultOf, ended, refused, faulted, accepted, roundSpec}
+use Rattle.engine.specs.Step.{Lent, Accepted, Refused, outcome, mask, heard, reasonOf, faultOf, ended, refused, faulted, accepted, roundSpec}
 use Rattle.engine.specs.StepLaws.{round-refuses, round-faults, round-accepts}
 use Rattle.engine.specs.Plain.{nextOf, ruleOf, protocolOf, keepOf, writeOf}
-use Rattle.rounds.specs.Mail.{letter}
 use Rattle.rounds.specs.FaultLaws.{Finds}
 use Rattle.rounds.specs.Table.{table}
 use Rattle.admit.specs.AdmitLaws.{next-is}
@@ -37,12 +35,13 @@ module _ (s : Session) (k : ℕ) (q : Lent) (w : List ℕ) where
         ∙ sym (round-faults (protocolOf table) s k q w z bad)
 
     -- accepted
-    pub call-accepted : faultOf (ruleOf table k) (s .party) q w .code ≡ 0 → k ≤ 22 → (next : ℕ) → next ≡ nextRound (s .party .n) k → (v o : List ℕ)
-        → v ≡ keepOf table k (s .party) (q .loan) w (mask (s .party) (letter (q .incoming) (q .starts) (q .lens)))
-        → o ≡ writeOf table k (s .party) (q .loan) w (mask (s .party) (letter (q .incoming) (q .starts) (q .lens)))
+    pub call-accepted : faultOf (ruleOf table k) (s .party) q w .code ≡ 0 → k ≤ 22 → (next : ℕ) → next ≡ nextRound (s .party .n) k
+        → (m : ℕ → List ℕ) → m ≡ mask (s .party) (heard (ruleOf table k) (s .party) q) → (v o : List ℕ)
+        → v ≡ keepOf table k (s .party) (q .loan) w m → o ≡ writeOf table k (s .party) (q .loan) w m
         → outcome (record { party = s .party; due = next }) Accepted v o ≡ roundSpec (protocolOf table) s k q w
-    unfolding accepted part letter
-    call-accepted y h next e v o ev eo =
+    unfolding accepted
+    call-accepted y h next e m em v o ev eo =
         ap (λ d. outcome (record { party = s .party; due = d }) Accepted v o) (e ∙ sym (next-is (s .party .n) k h))
-        ∙ ap₂ (λ (a b : List ℕ). outcome (record { party = s .party; due = nextOf table (eqb (s .party .n) 2) k }) Accepted a b) ev eo
+        ∙ ap₂ (λ (a b : List ℕ). outcome (record { party = s .party; due = nextOf table (eqb (s .party .n) 2) k }) Accepted a b)
+        (ev ∙ ap (keepOf table k (s .party) (q .loan) w) em) (eo ∙ ap (writeOf table k (s .party) (q .loan) w) em)
         ∙ sym (round-accepts (protocolOf table) s k q w z y)

@@ -16,11 +16,11 @@ abbrev pub lent : List ℕ → List ℕ → List ℕ → List ℕ → List ℕ �
 lent incoming starts lens missing r perm out =
     record { incoming = incoming; starts = starts; lens = lens; missing = missing; loan = loan r perm; out = out }
 
--- let through to the content: numbers in range, round k is one, the work area is whole, the messages are in form
-pub record Let (n i l k : ℕ) (w incoming starts lens : List ℕ) : Type 0 where
+-- let through to the content: numbers in range, round k is one, the work area is whole, the lists that were read are in form
+pub record Let (n i l k : ℕ) (w incoming starts used : List ℕ) : Type 0 where
   pub work : Work n i l w
   pub round : isRound n k ≡ true
-  pub received : Received (kindOf l k) (countDue n l k) n i incoming starts lens
+  pub received : Received (kindOf l k) (countDue n l k) n i incoming starts used
 
 -- let through to the messages: their parts lie inside
 pub record Admitted (n i l k : ℕ) (w incoming starts lens missing : List ℕ) : Type 0 where

@@ -1,14 +1,13 @@
 -- The work area after a call that writes an echo.
 use mathlib.Core.Path.{_≡_, refl, sym, ap, _∙_}
 use mathlib.Core.Bool.{Bool, true, false}
+use mathlib.Core.Logic.{_≢_}
 use mathlib.Core.List.{List, [], _∷_}
 use Prim.Native.Nat.{ℕ, suc, _*_, _<_}
 use native.Mathlib.Omega.{arith}
-use lib.ListN.{length, length-take}
+use lib.ListN.{length}
 use lib.Dec.{eqb}
 use Rattle.lists.specs.Pick.{pick}
-use Rattle.blake3.specs.ByteLaws.{length-bytes}
-use Rattle.blake3.specs.Tree.{hash, digest}
 use Rattle.engine.specs.declared.Frame.{Frame}
 use Rattle.engine.specs.Step.{Fault}
 use Rattle.engine.specs.Plain.{rowsOf, waits, kept, held, digests, hashes}
@@ -16,16 +15,11 @@ use Rattle.engine.specs.PlainLaws.{length-rows}
 use Rattle.engine.specs.Area.{sec, putSec, length-putSec, sec-same, sec-other}
 use Rattle.rounds.specs.Area.{PENDING, HASHES, SECTIONS, sizes, sizeOf, workLen, at, keep}
 use Rattle.rounds.specs.Echo.{hashVec}
+use Rattle.rounds.specs.EchoLaws.{length-hashVec}
+use Rattle.rounds.specs.FaultLaws.{Finds}
+use Rattle.rounds.specs.JudgeLaws.{Found, judge-found}
 use Rattle.rounds.specs.Table.{table}
 use Rattle.rounds.specs.Table as Table
-
-length-hash : (s : List ℕ) → length (hash s) ≡ 32
-unfolding hash
-length-hash s = length-bytes (digest s)
-
-length-hashVec : (l k : ℕ) (m : List ℕ) → length (hashVec l k m) ≡ 16
-unfolding hashVec
-length-hashVec l k m = length-take 16 (hash _) ∙ rw (length-hash _) refl
 
 length-waits : (x : Fault) → length (waits x) ≡ 2
 unfolding waits
@@ -35,10 +29,18 @@ length-waits x = go (eqb (x .code) 0)
     go true = refl
     go false = refl
 
+-- what `note` asks for: a fault names a party of the session
+pub names-party : (f : Frame) → f .i < f .n → (k : ℕ) (w : List ℕ) (m : ℕ → List ℕ) (code party : ℕ) → Finds code party (Table.judge k f w m) → code ≢ 0
+    → party < f .n
+unfolding Found
+names-party f own k w m code party h ne =
+    let bad : Table.judge k f w m .code ≢ 0 = λ z. ne (h .code-is ∙ z) in
+    omega (arith, h .party-is bad, judge-found f own k w m bad .1)
+
 module _ (f : Frame) (k : ℕ) (m : ℕ → List ℕ) where
   pub length-digests : length (digests table k f m) ≡ f .n * 16
   unfolding digests
-  length-digests = length-rows f (λ j. hashVec (f .l) k (m j)) (λ j _ _. length-hashVec (f .l) k (m j))
+  length-digests = length-rows f (λ j. hashVec k (m j)) (λ j _ _. length-hashVec k (m j))
 
   -- the hashes that were kept are read again
   pub hashes-kept : (x : Fault) (w : List ℕ) → length w ≡ workLen f → hashes table f (keep f PENDING (waits x) (keep f HASHES (digests table k f m) w)) ≡ digests table k f m

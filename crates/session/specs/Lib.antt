@@ -1,5 +1,4 @@
 pub mod CallLaws
 pub mod Given
 pub mod HeldLaws
-pub mod PartyLaws
 pub mod SessionLaws

@@ -101,7 +101,7 @@ module _ (n l i k : ℕ) where
 
 -- ---- the content
 module _ (f : Frame) (w : List ℕ) (m : ℕ → List ℕ) (k : ℕ) where
-  pub check-echo : echo? k ≡ true → checkOf table k f w m ≡ echoCheck table f w m
+  pub check-echo : echo? k ≡ true → checkOf table k f w m ≡ echoCheck table k f w m
   unfolding checkOf
   check-echo e = rw (echo-is k, e) refl
 

@@ -3,14 +3,14 @@
 // next round, or the results. The definition is `roundSpec` of crate engine at the table of crate rounds.
 ghost use mathlib.Core.Path.{_≡_};
 ghost use mathlib.Core.Bool.{true, false};
-ghost use mathlib.Core.List.{List};
+ghost use mathlib.Core.List.{List, []};
 ghost use Prim.Native.Nat.{ℕ, _-_, _*_, _≤_, _<_};
 ghost use lib.ListN.{length, replicate};
 ghost use lib.Dec.{eqb};
 ghost use Rattle.lists.specs.Pick.{pick};
 ghost use Rattle.share.specs.Record.{recordLen};
-ghost use Rattle.plan.specs.Plan.{nextRound, msgLen};
-ghost use Rattle.engine.specs.Step.{frame, mask, outcome, faultOf, roundSpec};
+ghost use Rattle.plan.specs.Plan.{nextRound, kindOf, msgLen};
+ghost use Rattle.engine.specs.Step.{frame, mask, replyOf, outcome, faultOf, roundSpec};
 ghost use Rattle.engine.specs.Plain.{protocolOf, ruleOf, isEcho, toEcho, outLenOf, lentOf, digests, hashes, checkOf, held, made, keepOf, writeOf};
 ghost use Rattle.engine.specs.Area.{toOthers};
 ghost use Rattle.rounds.specs.Mail.{letter};
@@ -18,8 +18,10 @@ ghost use Rattle.rounds.specs.FaultLaws.{Finds};
 ghost use Rattle.rounds.specs.Table as Table;
 ghost use Rattle.rounds.specs.Table.{table};
 ghost use Rattle.haand.specs.Given.{Work};
+ghost use Rattle.admit.specs.Admit.{usedOf};
 ghost use Rattle.send.specs.Plain.{plain};
 ghost use Rattle.session.specs.Given.{Let, Admitted, loan, lent};
+use admit::Heard;
 use engine::Answer;
 use engine::Session;
 use engine::Verdict;
@@ -33,28 +35,29 @@ fn to_echo(n: usize, k: usize) -> bool
     (n != 2) & plan::is_echo(k + 1)
 }
 
-// The content of the messages of round k. Where they are echoed, their faults wait for the echo.
+// The content of the messages of round k, from the lists that were read: `used` bytes of each party's message. Where they are echoed, their faults
+// wait for the echo.
 fn content(
     work: &[u8],
     incoming: &[u8],
     starts: &[usize],
-    lens: &[usize],
+    used: &[usize],
     n: usize,
     i: usize,
     l: usize,
     k: usize,
 ) -> Fault
-    requires { ⌜ Let n i l k (now work) (now incoming) (now starts) (now lens) ⌝ }
+    requires { ⌜ Let n i l k (now work) (now incoming) (now starts) (now used) ⌝ }
     ensures { λ r. ⌜ Finds (r .code) (r .party) (checkOf table k (frame n l i) (now (work .entry))
-        (mask (frame n l i) (letter (now (incoming .entry)) (now (starts .entry)) (now (lens .entry))))) ⌝ }
+        (mask (frame n l i) (letter (now (incoming .entry)) (now (starts .entry)) (now (used .entry))))) ⌝ }
 {
     if plan::is_echo(k) {
-        return broadcast::check(work, incoming, starts, lens, n, i, l);
+        return broadcast::check(work, incoming, starts, used, n, i, l, k);
     }
     if to_echo(n, k) {
         return Fault { code: 0, party: 0 };
     }
-    receive::judge(work, incoming, starts, lens, n, i, l, k)
+    receive::judge(work, incoming, starts, used, n, i, l, k)
 }
 
 // What is received for round k is kept, unless its content has a fault.
@@ -63,19 +66,19 @@ fn keep_clean(
     code: u8,
     incoming: &[u8],
     starts: &[usize],
-    lens: &[usize],
+    used: &[usize],
     n: usize,
     i: usize,
     l: usize,
     k: usize,
 )
-    requires { ⌜ Let n i l k (now work) (now incoming) (now starts) (now lens) ⌝ }
-    requires { ⌜ code ≡ Table.judge k (frame n l i) (now work) (mask (frame n l i) (letter (now incoming) (now starts) (now lens))) .code ⌝ }
+    requires { ⌜ Let n i l k (now work) (now incoming) (now starts) (now used) ⌝ }
+    requires { ⌜ code ≡ Table.judge k (frame n l i) (now work) (mask (frame n l i) (letter (now incoming) (now starts) (now used))) .code ⌝ }
     ensures { λ _. ⌜ now (work .exit) ≡ pick (eqb code 0) (Table.kept k (frame n l i) (now (work .entry))
-        (mask (frame n l i) (letter (now (incoming .entry)) (now (starts .entry)) (now (lens .entry))))) (now (work .entry)) ⌝ }
+        (mask (frame n l i) (letter (now (incoming .entry)) (now (starts .entry)) (now (used .entry))))) (now (work .entry)) ⌝ }
 {
     if code == 0 {
-        receive::keep(work, incoming, starts, lens, n, i, l, k);
+        receive::keep(work, incoming, starts, used, n, i, l, k);
     }
 }
 
@@ -84,21 +87,21 @@ fn hold_echo(
     work: &mut [u8],
     incoming: &[u8],
     starts: &[usize],
-    lens: &[usize],
+    used: &[usize],
     n: usize,
     i: usize,
     l: usize,
     k: usize,
 )
-    requires { ⌜ Let n i l k (now work) (now incoming) (now starts) (now lens) ⌝ }
+    requires { ⌜ Let n i l k (now work) (now incoming) (now starts) (now used) ⌝ }
     ensures { λ _. ⌜ (now (work .exit) ≡ held table k (frame n l i) (now (work .entry))
-        (mask (frame n l i) (letter (now (incoming .entry)) (now (starts .entry)) (now (lens .entry)))))
+        (mask (frame n l i) (letter (now (incoming .entry)) (now (starts .entry)) (now (used .entry)))))
         × (hashes table (frame n l i) (now (work .exit)) ≡ digests table k (frame n l i)
-        (mask (frame n l i) (letter (now (incoming .entry)) (now (starts .entry)) (now (lens .entry))))) ⌝ }
+        (mask (frame n l i) (letter (now (incoming .entry)) (now (starts .entry)) (now (used .entry))))) ⌝ }
 {
-    let e = receive::judge(work, incoming, starts, lens, n, i, l, k);
-    keep_clean(work, e.code, incoming, starts, lens, n, i, l, k);
-    broadcast::note(work, e.code, e.party, incoming, starts, lens, n, i, l, k);
+    let e = receive::judge(work, incoming, starts, used, n, i, l, k);
+    keep_clean(work, e.code, incoming, starts, used, n, i, l, k);
+    broadcast::note(work, e.code, e.party, incoming, starts, used, n, i, l, k);
 }
 
 // What is received for round k is kept; an echo is only compared.
@@ -106,22 +109,22 @@ fn keep_received(
     work: &mut [u8],
     incoming: &[u8],
     starts: &[usize],
-    lens: &[usize],
+    used: &[usize],
     n: usize,
     i: usize,
     l: usize,
     k: usize,
 )
-    requires { ⌜ Let n i l k (now work) (now incoming) (now starts) (now lens) ⌝ }
+    requires { ⌜ Let n i l k (now work) (now incoming) (now starts) (now used) ⌝ }
     requires { ⌜ (isEcho table k ≡ false → Table.judge k (frame n l i) (now work)
-        (mask (frame n l i) (letter (now incoming) (now starts) (now lens))) .code ≡ 0) ⌝ }
+        (mask (frame n l i) (letter (now incoming) (now starts) (now used))) .code ≡ 0) ⌝ }
     ensures { λ _. ⌜ now (work .exit) ≡ pick (isEcho table k) (now (work .entry)) (Table.kept k (frame n l i) (now (work .entry))
-        (mask (frame n l i) (letter (now (incoming .entry)) (now (starts .entry)) (now (lens .entry))))) ⌝ }
+        (mask (frame n l i) (letter (now (incoming .entry)) (now (starts .entry)) (now (used .entry))))) ⌝ }
 {
     if plan::is_echo(k) {
         return;
     }
-    receive::keep(work, incoming, starts, lens, n, i, l, k);
+    receive::keep(work, incoming, starts, used, n, i, l, k);
 }
 
 // The messages of round `next` are made: what they need is kept, then they are written.
@@ -159,18 +162,18 @@ fn finish(
     out: &mut [u8],
     incoming: &[u8],
     starts: &[usize],
-    lens: &[usize],
+    used: &[usize],
     n: usize,
     i: usize,
     l: usize,
 )
-    requires { ⌜ Let n i l 22 (now w) (now incoming) (now starts) (now lens) ⌝ }
+    requires { ⌜ Let n i l 22 (now w) (now incoming) (now starts) (now used) ⌝ }
     requires { ⌜ length (now out) ≡ l * recordLen n ⌝ }
     ensures { λ _. ⌜ (now (w .exit) ≡ replicate (length (now (w .entry))) 0)
         × (now (out .exit) ≡ table .result (frame n l i) (now (w .entry))
-        (mask (frame n l i) (letter (now (incoming .entry)) (now (starts .entry)) (now (lens .entry))))) ⌝ }
+        (mask (frame n l i) (letter (now (incoming .entry)) (now (starts .entry)) (now (used .entry))))) ⌝ }
 {
-    beaver::write_results(out, w, incoming, starts, lens, n, i, l);
+    beaver::write_results(out, w, incoming, starts, used, n, i, l);
     zero(w);
 }
 
@@ -180,7 +183,7 @@ fn step(
     out: &mut [u8],
     incoming: &[u8],
     starts: &[usize],
-    lens: &[usize],
+    used: &[usize],
     r: &[u8],
     perm: &[u32],
     n: usize,
@@ -188,26 +191,26 @@ fn step(
     l: usize,
     k: usize,
 )
-    requires { ⌜ Let n i l k (now work) (now incoming) (now starts) (now lens) ⌝ }
-    requires { ⌜ checkOf table k (frame n l i) (now work) (mask (frame n l i) (letter (now incoming) (now starts) (now lens))) .code ≡ 0 ⌝ }
+    requires { ⌜ Let n i l k (now work) (now incoming) (now starts) (now used) ⌝ }
+    requires { ⌜ checkOf table k (frame n l i) (now work) (mask (frame n l i) (letter (now incoming) (now starts) (now used))) .code ≡ 0 ⌝ }
     requires { ⌜ (length (now out) ≡ outLenOf table k (frame n l i)) × (lentOf table k n l (loan (now r) (now perm)) ≡ 0) ⌝ }
     ensures { λ _. ⌜ (now (work .exit) ≡ keepOf table k (frame n l i) (loan (now (r .entry)) (now (perm .entry))) (now (work .entry))
-        (mask (frame n l i) (letter (now (incoming .entry)) (now (starts .entry)) (now (lens .entry)))))
+        (mask (frame n l i) (letter (now (incoming .entry)) (now (starts .entry)) (now (used .entry)))))
         × (now (out .exit) ≡ writeOf table k (frame n l i) (loan (now (r .entry)) (now (perm .entry))) (now (work .entry))
-        (mask (frame n l i) (letter (now (incoming .entry)) (now (starts .entry)) (now (lens .entry))))) ⌝ }
+        (mask (frame n l i) (letter (now (incoming .entry)) (now (starts .entry)) (now (used .entry))))) ⌝ }
 {
     if k == 22 {
-        finish(work, out, incoming, starts, lens, n, i, l);
+        finish(work, out, incoming, starts, used, n, i, l);
     } else if to_echo(n, k) {
-        hold_echo(work, incoming, starts, lens, n, i, l, k);
+        hold_echo(work, incoming, starts, used, n, i, l, k);
         broadcast::write(out, work, n, i, l);
     } else {
-        keep_received(work, incoming, starts, lens, n, i, l, k);
+        keep_received(work, incoming, starts, used, n, i, l, k);
         make(work, out, r, perm, n, i, l, plan::next_round(n, k));
     }
 }
 
-// A received fault: of form, party by party, then of content.
+// A received fault: of form, party by party, then of content; without one, what the reader handed back of each message.
 fn fault(
     work: &[u8],
     incoming: &[u8],
@@ -218,16 +221,24 @@ fn fault(
     i: usize,
     l: usize,
     k: usize,
-) -> Fault
+) -> Heard
     requires { ⌜ Admitted n i l k (now work) (now incoming) (now starts) (now lens) (now missing) ⌝ }
-    ensures { λ e. ⌜ ((r perm out : List ℕ) → Finds (e .code) (e .party) (faultOf (ruleOf table k) (frame n l i)
-        (lent (now (incoming .entry)) (now (starts .entry)) (now (lens .entry)) (now (missing .entry)) r perm out) (now (work .entry)))) ⌝ }
+    ensures { λ e. ⌜ (((r perm out : List ℕ) → Finds (e .code) (e .party) (faultOf (ruleOf table k) (frame n l i)
+        (lent (now (incoming .entry)) (now (starts .entry)) (now (lens .entry)) (now (missing .entry)) r perm out) (now (work .entry)))))
+        × (e .code ≡ 0 → e .used ≡ usedOf n i (kindOf l k)
+        (lent (now (incoming .entry)) (now (starts .entry)) (now (lens .entry)) (now (missing .entry)) [] [] [])) ⌝ }
 {
-    let e = admit::form(incoming, starts, lens, missing, n, i, l, k);
-    if e.code != 0 {
-        return e;
+    let h = admit::form(incoming, starts, lens, missing, n, i, l, k);
+    if h.code != 0 {
+        return h;
     }
-    content(work, incoming, starts, lens, n, i, l, k)
+    let used = h.used;
+    let e = content(work, incoming, starts, &used[..n], n, i, l, k);
+    Heard {
+        code: e.code,
+        party: e.party,
+        used: used,
+    }
 }
 
 // The call for round k of the session s, with the messages of the other parties: each in the incoming buffer from its start on, as long as told, or
@@ -244,11 +255,12 @@ pub fn round(
     work: &mut [u8],
     out: &mut [u8],
 ) -> Answer
-    ensures { λ a. ⌜ outcome (a .session) (a .verdict) (now (work .exit)) (now (out .exit)) ≡ roundSpec (protocolOf table) s k
+    ensures { λ a. ⌜ outcome (a .session) (replyOf (a .verdict)) (now (work .exit)) (now (out .exit)) ≡ roundSpec (protocolOf table) s k
         (lent (now (incoming .entry)) (now (starts .entry)) (now (lens .entry)) (now (missing .entry)) (now (r .entry)) (now (perm .entry)) (now (out .entry)))
         (now (work .entry)) ⌝ }
 {
     let party = s.party;
+    let n = party.n;
     let code = admit::reason(s, k, incoming, starts, lens, missing, r, perm, work, out);
     if code != 0 {
         return Answer {
@@ -262,7 +274,7 @@ pub fn round(
         starts,
         lens,
         missing,
-        party.n,
+        n,
         party.i,
         party.l,
         k,
@@ -274,22 +286,23 @@ pub fn round(
             verdict: Verdict::Refused(e.code, e.party),
         };
     }
+    let used = e.used;
     step(
         work,
         out,
         incoming,
         starts,
-        lens,
+        &used[..n],
         r,
         perm,
-        party.n,
+        n,
         party.i,
         party.l,
         k,
     );
     let after = Session {
         party: party,
-        due: plan::next_round(party.n, k),
+        due: plan::next_round(n, k),
     };
     Answer {
         session: after,

@@ -31,7 +31,7 @@ check-echoes-requires c κs =
     let s = c .before .before .before .before .before in
     let a = s .args in
     let f = frame (a .n) (a .l) (a .i) in
-    ((s .pre .0 .ranges .eight, ap length (c .section .ensures) ∙ length-at f HASHES (now (a .work)) (omega arith) (s .pre .0 .whole) ∙ hashes-size f), s .pre .1)
+    ((s .pre .0 .ranges .eight, ap length (c .section .ensures) ∙ length-at f HASHES (now (a .work)) (omega arith) (s .pre .0 .whole) ∙ hashes-size f), s .pre .1 .1)
 
 -- src/lib.rt:115:9
 returns : tie.Need-returns
@@ -42,8 +42,8 @@ returns c =
     let f = frame (a .n) (a .l) (a .i) in
     let m = letter (now (a .incoming)) (now (a .starts)) (now (a .lens)) in
     let h = subst (λ (x : List ℕ). Finds (e .check-echoes .result .code) (e .check-echoes .result .party) (byParty f (echoFaults (a .n) (a .i) x m))) (e .before .section .ensures) (e .check-echoes .ensures (a .l)) in
-    subst (Finds (e .check-echoes .result .code) (e .check-echoes .result .party)) (sym (echo-checks f m (now (a .work))))
-    (finds-one _ _ _ (pending table f (now (a .work))) h (c .if1 .taken))
+    subst (Finds (e .check-echoes .result .code) (e .check-echoes .result .party)) (sym (echo-checks f m (a .k) (now (a .work))))
+    (finds-one _ _ _ (pending table (a .k) f (now (a .work))) h (c .if1 .taken))
 
 -- src/lib.rt:117:5
 pending-requires : tie.Need-pending-requires
@@ -58,8 +58,8 @@ returns-2 c =
     let f = frame (a .n) (a .l) (a .i) in
     let m = letter (now (a .incoming)) (now (a .starts)) (now (a .lens)) in
     let h = subst (λ (x : List ℕ). Finds (e .check-echoes .result .code) (e .check-echoes .result .party) (byParty f (echoFaults (a .n) (a .i) x m))) (e .before .section .ensures) (e .check-echoes .ensures (a .l)) in
-    subst (Finds (c .pending .result .code) (c .pending .result .party)) (sym (echo-checks f m (now (a .work))))
-    (finds-two _ _ _ (pending table f (now (a .work))) (sym (h .code-is) ∙ c .before .if1 .left) (c .pending .ensures))
+    subst (Finds (c .pending .result .code) (c .pending .result .party)) (sym (echo-checks f m (a .k) (now (a .work))))
+    (finds-two _ _ _ (pending table (a .k) f (now (a .work))) (sym (h .code-is) ∙ c .before .if1 .left) (c .pending .ensures))
 
 pub check-spec : {M : Type 1} → statement M
 check-spec =

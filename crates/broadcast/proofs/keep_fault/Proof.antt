@@ -29,7 +29,7 @@ add-e : tie.Need-add-e
 add-e c =
     let s = c .before .before .before in
     let a = s .args in
-    omega (arith, section-ends (a .n) (a .l) (a .i) PENDING (omega arith), c .before .section-at .ensures, c .section-len .ensures, s .pre .whole, s .good)
+    omega (arith, section-ends (a .n) (a .l) (a .i) PENDING (omega arith), c .before .section-at .ensures, c .section-len .ensures, s .pre .0 .whole, s .good)
 
 -- src/lib.rt:65:15
 sub-put-fault : tie.Need-sub-put-fault
@@ -44,16 +44,18 @@ part-put-fault-end : tie.Need-part-put-fault-end
 part-put-fault-end c =
     let s = c .before .before .before in
     let a = s .args in
-    omega (arith, section-ends (a .n) (a .l) (a .i) PENDING (omega arith), c .before .section-at .ensures, c .section-len .ensures, s .pre .whole)
+    omega (arith, section-ends (a .n) (a .l) (a .i) PENDING (omega arith), c .before .section-at .ensures, c .section-len .ensures, s .pre .0 .whole)
 
 -- src/lib.rt:65:5
 put-fault-requires : tie.Need-put-fault-requires
 put-fault-requires c κs =
     let q = c .before in
     let s = q .before .before .before in
-    let a = s .args in
-    length-part (a .n) (a .l) (a .i) PENDING _ _ (now (a .work)) (omega arith) (s .pre .whole) (q .before .section-at .ensures) (ap (λ y. q .before .section-at .result + y) (q .section-len .ensures))
-    ∙ pending-size (frame (a .n) (a .l) (a .i))
+    let a = s .args in (
+      length-part (a .n) (a .l) (a .i) PENDING _ _ (now (a .work)) (omega arith) (s .pre .0 .whole) (q .before .section-at .ensures) (ap (λ y. q .before .section-at .result + y) (q .section-len .ensures))
+          ∙ pending-size (frame (a .n) (a .l) (a .i)),
+      λ ne. omega (arith, s .pre .1 ne, s .pre .0 .ranges .eight),
+    )
 
 -- src/lib.rt:59:1
 same-length : tie.Need-same-length
@@ -61,13 +63,13 @@ same-length c = search needs
 
 -- src/lib.rt:59:1
 returns : tie.Need-returns
-returns c x h l =
+returns c =
     let p = c .before .before in
     let q = p .before .before in
     let s = q .before .before .before in
     let a = s .args in
     puts-section (a .n) (a .l) (a .i) PENDING _ _ (q .before .section-at .ensures) (ap (λ y. q .before .section-at .result + y) (q .section-len .ensures)) _ (now (a .work))
-    ∙ ap (λ (y : List ℕ). keep (frame (a .n) (a .l) (a .i)) PENDING y (now (a .work))) (p .put-fault .ensures x h l)
+    ∙ ap (λ (y : List ℕ). keep (frame (a .n) (a .l) (a .i)) PENDING y (now (a .work))) (p .put-fault .ensures)
 
 pub keep-fault-spec : {M : Type 1} → statement M
 keep-fault-spec =

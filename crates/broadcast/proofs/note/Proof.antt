@@ -24,11 +24,11 @@ same-length c = search needs
 
 -- src/lib.rt:69:1
 returns : tie.Need-returns
-returns c x h l =
+returns c =
     let p = c .before .before in
     let q = p .before .before .before .before in
     let a = q .before .before .before .before .before .before .args in
-    p .keep-fault .ensures x h l ∙ ap (keep (frame (a .n) (a .l) (a .i)) PENDING (waits x)) (q .keep-hashes .ensures)
+    p .keep-fault .ensures ∙ ap (keep (frame (a .n) (a .l) (a .i)) PENDING (waits (record { code = a .code; party = a .party }))) (q .keep-hashes .ensures)
 
 pub note-spec : {M : Type 1} → statement M
 note-spec = tie.close (tie.spec keep-hashes-requires keep-fault-requires same-length returns)

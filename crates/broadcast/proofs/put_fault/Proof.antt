@@ -28,10 +28,10 @@ same-length c = search needs
 
 -- src/lib.rt:56:1
 returns : tie.Need-returns
-returns c x h l =
+returns c =
     let a = c .before .before .args in
-    sets-all (a .code ∷ c .party-byte .result ∷ []) (now (a .out)) (c .before .before .pre)
-    ∙ waits-is (a .code) (a .party) (c .party-byte .result) x h l (c .party-byte .ensures)
+    sets-all (a .code ∷ c .party-byte .result ∷ []) (now (a .out)) (c .before .before .pre .0)
+    ∙ waits-is (a .code) (a .party) (c .party-byte .result) (c .party-byte .ensures)
 
 pub put-fault-spec : {M : Type 1} → statement M
 put-fault-spec =

@@ -3,7 +3,7 @@ use denote.Ref.{now}
 use Rattle.engine.specs.Step.{frame, mask}
 use Rattle.rounds.specs.Mail.{letter}
 use Rattle.rounds.specs.FaultLaws.{Finds}
-use Rattle.admit.specs.AdmitLaws.{round-low}
+use Rattle.admit.specs.AdmitLaws.{round-one, round-low}
 use Rattle.session.specs.SessionLaws.{echo-received, check-echo, check-held, check-plain}
 use borrow.Author.Needs.{needs}
 use Rattle.session.proofs.content.Statement.{statement}
@@ -24,14 +24,14 @@ check-requires : tie.Need-check-requires
 check-requires c κs =
     let s = c .before .before .before .before .before .before in
     let a = s .args in
-    (s .pre .work, echo-received (a .n) (a .i) (a .l) (a .k) (now (a .incoming)) (now (a .starts)) (now (a .lens)) (sym (c .before .is-echo .ensures) ∙ c .if1 .taken) (s .pre .received))
+    (s .pre .work, (round-one (a .n) (a .k) (s .pre .round), echo-received (a .n) (a .i) (a .l) (a .k) (now (a .incoming)) (now (a .starts)) (now (a .used)) (sym (c .before .is-echo .ensures) ∙ c .if1 .taken) (s .pre .received)))
 
 -- src/lib.rt:53:9
 returns : tie.Need-returns
 returns c =
     let a = c .before .before .before .before .before .before .before .args in
     let f = frame (a .n) (a .l) (a .i) in
-    let m = mask f (letter (now (a .incoming)) (now (a .starts)) (now (a .lens))) in
+    let m = mask f (letter (now (a .incoming)) (now (a .starts)) (now (a .used))) in
     subst (Finds (c .check .result .code) (c .check .result .party))
     (sym (check-echo f (now (a .work)) m (a .k) (sym (c .before .before .is-echo .ensures) ∙ c .before .if1 .taken))) (c .check .ensures)
 
@@ -47,7 +47,7 @@ returns-2 c =
     let e = c .before .before .before in
     let a = e .before .before .before .before .before .args in
     let f = frame (a .n) (a .l) (a .i) in
-    let m = mask f (letter (now (a .incoming)) (now (a .starts)) (now (a .lens))) in
+    let m = mask f (letter (now (a .incoming)) (now (a .starts)) (now (a .used))) in
     subst (Finds 0 0) (sym (check-held f (now (a .work)) m (a .k) (sym (e .is-echo .ensures) ∙ c .before .before .if1 .left) (sym (c .before .to-echo .ensures) ∙ c .if2 .taken)))
     (record { code-is = refl; party-is = λ _. refl })
 
@@ -61,7 +61,7 @@ returns-3 c =
     let e = c .before .before .before .before in
     let a = e .before .before .before .before .before .args in
     let f = frame (a .n) (a .l) (a .i) in
-    let m = mask f (letter (now (a .incoming)) (now (a .starts)) (now (a .lens))) in
+    let m = mask f (letter (now (a .incoming)) (now (a .starts)) (now (a .used))) in
     subst (Finds (c .judge .result .code) (c .judge .result .party))
     (sym (check-plain f (now (a .work)) m (a .k) (sym (e .is-echo .ensures) ∙ c .before .before .before .if1 .left) (sym (c .before .before .to-echo .ensures) ∙ c .before .if2 .left)))
     (c .judge .ensures)

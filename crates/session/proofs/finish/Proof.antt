@@ -36,7 +36,7 @@ returns c =
     let q = p .before .before .before .before in
     let a = q .before .before .before .before .before .before .before .before .args in
     let f = frame (a .n) (a .l) (a .i) in
-    (p .zero .ensures, q .write-results .ensures ∙ sym (results-masked f (now (a .w)) (letter (now (a .incoming)) (now (a .starts)) (now (a .lens)))))
+    (p .zero .ensures, q .write-results .ensures ∙ sym (results-masked f (now (a .w)) (letter (now (a .incoming)) (now (a .starts)) (now (a .used)))))
 
 pub finish-spec : {M : Type 1} → statement M
 finish-spec =

@@ -1,14 +1,17 @@
 use mathlib.Core.Path.{_≡_, ap, _∙_}
+use mathlib.Core.List.{List}
+use Prim.Native.Nat.{ℕ}
 use lib.Dec.{eqb}
 use denote.Ref.{now}
 use Rattle.lists.specs.Pick.{pick}
 use Rattle.engine.specs.Step.{frame, mask}
 use Rattle.rounds.specs.Mail.{letter}
-use Rattle.engine.specs.Plain.{hashes}
+use Rattle.engine.specs.Plain.{digests, hashes}
+use Rattle.rounds.specs.Area.{PENDING, HASHES, keep}
+use Rattle.broadcast.specs.BroadcastLaws.{waits-found}
 use Rattle.rounds.specs.Table as Table
 use Rattle.rounds.specs.Table.{table}
-use Rattle.session.specs.PartyLaws.{judge-party}
-use Rattle.session.specs.HeldLaws.{held-is, hashes-kept}
+use Rattle.session.specs.HeldLaws.{names-party, held-is, hashes-kept}
 use borrow.Author.Needs.{needs}
 use Rattle.session.proofs.hold_echo.Statement.{statement}
 use Rattle.session.proofs.hold_echo.Tie as tie
@@ -28,7 +31,19 @@ keep-clean-requires c κs = search needs
 
 -- src/lib.rt:100:5
 note-requires : tie.Need-note-requires
-note-requires c κs = search needs
+note-requires c κs =
+    let q = c .before .before .before in
+    let j = q .before .before in
+    let s = j .before .before .before .before .before .before in
+    let a = s .args in
+    let f = frame (a .n) (a .l) (a .i) in
+    let m = mask f (letter (now (a .incoming)) (now (a .starts)) (now (a .used))) in (
+      record { ranges = s .pre .work .ranges; whole = q .keep-clean .kept .0 ∙ s .pre .work .whole },
+      (
+        names-party f (s .pre .work .ranges .own) (a .k) (now (a .work)) m (j .judge .result .code) (j .judge .result .party) (j .judge .ensures),
+        s .pre .received,
+      ),
+    )
 
 -- src/lib.rt:84:1
 same-length : tie.Need-same-length
@@ -44,9 +59,11 @@ returns c =
     let a = s .args in
     let f = frame (a .n) (a .l) (a .i) in
     let w = now (a .work) in
-    let m = mask f (letter (now (a .incoming)) (now (a .starts)) (now (a .lens))) in
-    let small = judge-party f (s .pre .work .ranges .own) (s .pre .work .ranges .eight) (a .k) w m in
-    let noted = p .note .ensures (Table.judge (a .k) f w m) (j .judge .ensures) small in (
+    let m = mask f (letter (now (a .incoming)) (now (a .starts)) (now (a .used))) in
+    let noted =
+    p .note .ensures
+    ∙ ap (λ (x : List ℕ). keep f PENDING x (keep f HASHES (digests table (a .k) f m) (q .keep-clean .last .0)))
+    (waits-found (j .judge .result .code) (j .judge .result .party) (Table.judge (a .k) f w m) (j .judge .ensures)) in (
       noted
           ∙ held-is f (a .k) m w (q .keep-clean .last .0) (q .keep-clean .ensures ∙ ap (λ x. pick (eqb x 0) (Table.kept (a .k) f w m) w) (j .judge .ensures .code-is)),
       ap (hashes table f) noted ∙ hashes-kept f (a .k) m (Table.judge (a .k) f w m) (q .keep-clean .last .0) (q .keep-clean .kept .0 ∙ s .pre .work .whole),

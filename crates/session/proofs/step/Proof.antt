@@ -35,7 +35,7 @@ finish-requires c κs =
     let s = c .before .before .before .before .before .before .before .before .before .before in
     let a = s .args in
     let e = c .before .before .if1 .taken in
-    (subst (λ j. Let (a .n) (a .i) (a .l) j (now (a .work)) (now (a .incoming)) (now (a .starts)) (now (a .lens))) e (s .pre .0), s .pre .1 .1 .0 ∙ out-last (a .n) (a .l) (a .i) (a .k) e)
+    (subst (λ j. Let (a .n) (a .i) (a .l) j (now (a .work)) (now (a .incoming)) (now (a .starts)) (now (a .used))) e (s .pre .0), s .pre .1 .1 .0 ∙ out-last (a .n) (a .l) (a .i) (a .k) e)
 
 -- src/lib.rt:172:15
 to-echo-requires : tie.Need-to-echo-requires
@@ -66,7 +66,7 @@ keep-received-requires c κs =
     let s = c .before .before .before .before .before .before .before .before .before .before .before in
     let a = s .args in
     let f = frame (a .n) (a .l) (a .i) in
-    let m = mask f (letter (now (a .incoming)) (now (a .starts)) (now (a .lens))) in
+    let m = mask f (letter (now (a .incoming)) (now (a .starts)) (now (a .used))) in
     (s .pre .0, λ e. ap (λ (x : Fault). x .code) (sym (check-plain f (now (a .work)) m (a .k) (sym (echo-is (a .k)) ∙ e) (sym (t .to-echo .ensures) ∙ c .before .if2 .left))) ∙ s .pre .1 .0)
 
 -- src/lib.rt:177:43
@@ -109,7 +109,7 @@ returns c =
     let s = c .before .before .before .before .before .before .before .before .before .before .before .before .before .before .before in
     let a = s .args in
     let f = frame (a .n) (a .l) (a .i) in
-    let m = mask f (letter (now (a .incoming)) (now (a .starts)) (now (a .lens))) in
+    let m = mask f (letter (now (a .incoming)) (now (a .starts)) (now (a .used))) in
     let q = loan (now (a .r)) (now (a .perm)) in
     let is = c .before .before .before .before .before .before .before .if1 .taken in
     (e .finish .ensures .0 ∙ sym (keep-last f (now (a .work)) m (a .k) q is), e .finish .ensures .1 ∙ sym (write-last f (now (a .work)) m (a .k) q is))
@@ -130,7 +130,7 @@ returns-2 c =
     let s = c .before .before .before .before .before .before .before .before .before .before .before .before .before .before .before .before .before .before .before in
     let a = s .args in
     let f = frame (a .n) (a .l) (a .i) in
-    let m = mask f (letter (now (a .incoming)) (now (a .starts)) (now (a .lens))) in
+    let m = mask f (letter (now (a .incoming)) (now (a .starts)) (now (a .used))) in
     let q = loan (now (a .r)) (now (a .perm)) in
     let isn't = t .before .if1 .left in
     let some = sym (t .to-echo .ensures) ∙ c .before .before .before .before .before .before .before .before .before .if2 .taken in (
@@ -156,7 +156,7 @@ returns-3 c =
     let a = s .args in
     let f = frame (a .n) (a .l) (a .i) in
     let w = now (a .work) in
-    let m = mask f (letter (now (a .incoming)) (now (a .starts)) (now (a .lens))) in
+    let m = mask f (letter (now (a .incoming)) (now (a .starts)) (now (a .used))) in
     let q = loan (now (a .r)) (now (a .perm)) in
     let low : a .k < 22 = omega (arith, round-low (a .n) (a .k) (s .pre .0 .round), t .before .if1 .left) in
     let none = sym (t .to-echo .ensures) ∙ c .before .before .before .before .before .before .before .before .before .before .before .before .if2 .left in
