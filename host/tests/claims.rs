@@ -73,16 +73,21 @@ fn within(paragraph: &str, parts: &[String]) -> bool {
     parts.iter().all(|part| rest.find(part.as_str()).map(|at| rest = &rest[at + part.len()..]).is_some())
 }
 
+/// Document 01 and the demands, where they stand beside the repository.
+fn documents() -> Option<[String; 2]> {
+    let read = |name: &str| fs::read_to_string(root().join("../shared/docs").join(name)).ok();
+    let found = read("src/01-scope.md").zip(read("demands.md")).map(|(scope, demands)| [scope, demands]);
+    if found.is_none() {
+        eprintln!("no documents beside the repository: not compared");
+    }
+    found
+}
+
 /// With the documents beside the repository: every quotation is theirs, letter by letter; every paragraph of document 01 has a row; and the rows of the
 /// three demands have all of their words.
 #[test]
 fn every_quotation_is_the_documents() {
-    let shared = root().join("../shared/docs");
-    let (Ok(scope), Ok(demands)) = (fs::read_to_string(shared.join("src/01-scope.md")), fs::read_to_string(shared.join("demands.md")))
-    else {
-        eprintln!("no documents beside the repository: not compared");
-        return;
-    };
+    let Some([scope, demands]) = documents() else { return };
     // A bar would end the cell; document 01 has none.
     let paragraphs: Vec<&str> = scope.lines().filter(|line| !line.is_empty() && !line.starts_with('#')).collect();
     let mut three: Vec<String> = demands
@@ -113,4 +118,53 @@ fn every_quotation_is_the_documents() {
         three.iter().filter(|rest| rest.contains(char::is_alphanumeric)).map(|rest| format!("no row for the demand's words: {rest}")),
     );
     assert!(wrong.is_empty(), "docs/CLAIMS.md:\n{}", wrong.join("\n"));
+}
+
+/// The comments of a file of crates/, one for each stretch of lines.
+fn comments(path: &Path) -> Vec<String> {
+    let text = fs::read_to_string(path).unwrap();
+    let edit = path.extension().is_some_and(|end| end == "edit");
+    let mut blocks = vec![String::new()];
+    for line in text.lines().map(str::trim) {
+        let comment = if edit {
+            (!["file:", "old:", "new:"].iter().any(|word| line.starts_with(word))).then_some(line)
+        } else {
+            line.strip_prefix("--").or(line.strip_prefix("//"))
+        };
+        match comment {
+            Some(words) => *blocks.last_mut().unwrap() += &format!(" {words}"),
+            None => blocks.push(String::new()),
+        }
+    }
+    blocks
+}
+
+/// The files below a folder.
+fn files(folder: &Path) -> Vec<PathBuf> {
+    let Ok(entries) = fs::read_dir(folder) else { return vec![] };
+    let paths = entries.map(|entry| entry.unwrap().path());
+    paths.flat_map(|path| if path.is_dir() { files(&path) } else { vec![path] }).collect()
+}
+
+/// In the comments of the crates quotation marks are for the documents' own words; ".." marks what is left out.
+#[test]
+fn quotation_marks_are_for_the_documents() {
+    let Some([scope, demands]) = documents() else { return };
+    let plain = |text: &str| text.split_whitespace().filter(|word| *word != ">").collect::<Vec<_>>().join(" ");
+    let documents = [plain(&scope), plain(&demands)];
+    let mut wrong = vec![];
+    for name in fs::read_dir(root().join("crates")).unwrap() {
+        let name = name.unwrap().path();
+        for path in ["specs", "src", "must-fail"].iter().flat_map(|part| files(&name.join(part))) {
+            for comment in comments(&path) {
+                for quoted in comment.split('"').skip(1).step_by(2) {
+                    let known = |part: &str| documents.iter().any(|document| document.contains(part));
+                    if !quoted.split("..").map(plain).all(|part| known(&part)) {
+                        wrong.push(format!("{}: \"{quoted}\"", path.display()));
+                    }
+                }
+            }
+        }
+    }
+    assert!(wrong.is_empty(), "not the documents' words:\n{}", wrong.join("\n"));
 }
