@@ -6,10 +6,10 @@ use native.Mathlib.Omega.{arith}
 use lib.ListN.{length}
 use denote.Ref.{now}
 use borrow.Author.Needs.{needs}
-use Rattle.lists.specs.Over.{Written, in-chunks}
+use Rattle.lists.specs.Over.{Written, in-chunks, length-take-drop}
 use Rattle.block.specs.Block.{le8}
 use Rattle.engine.specs.Area.{toOthers}
-use Rattle.rounds.specs.RowsLaws.{length-row, even-zero, even-turn, even-end}
+use Rattle.rounds.specs.RowsLaws.{even-zero, even-turn, even-end}
 use Rattle.haand.proofs.write_same.Statement.{statement}
 use Rattle.haand.proofs.write_same.Tie as tie
 
@@ -50,10 +50,10 @@ add-e : tie.Need-add-e Inv-loop μ-loop
 add-e c = omega (arith, part-in c)
 
 part-put-list-end : tie.Need-part-put-list-end Inv-loop μ-loop
-part-put-list-end c = part-in c
+part-put-list-end c = omega (arith, part-in c)
 
 put-list-requires : tie.Need-put-list-requires Inv-loop μ-loop
-put-list-requires c κs = let i = c .before in length-row (len (start i)) (i .before .loop .q) (i .before .loop .out) (part-in i)
+put-list-requires c κs = rw length-take-drop (omega (arith, part-in (c .before)))
 
 loop-again : tie.Need-loop-again Inv-loop μ-loop
 loop-again c =

@@ -6,7 +6,7 @@ use native.Mathlib.Omega.{arith}
 use lib.ListN.{length}
 use denote.Ref.{now}
 use borrow.Author.Needs.{needs}
-use Rattle.lists.specs.Over.{in-chunks}
+use Rattle.lists.specs.Over.{in-chunks, length-take-drop}
 use Rattle.lists.specs.Rows.{chunk}
 use Rattle.block.specs.Block.{le8}
 use Rattle.plan.specs.Plan.{leaky}
@@ -14,7 +14,7 @@ use Rattle.plan.specs.PlanLaws.{leaky-most}
 use Rattle.engine.specs.Step.{frame}
 use Rattle.engine.specs.Area.{toOthers}
 use Rattle.rounds.specs.Area.{HS, H-COMMS, at}
-use Rattle.rounds.specs.RowsLaws.{length-row, row-part}
+use Rattle.rounds.specs.RowsLaws.{row-part}
 use Rattle.rounds.specs.FlaandLaws.{comms-sent}
 use Rattle.send.specs.SendLaws.{asks, h-comms-long, due-17}
 use Rattle.send.proofs.write_h_comms.Statement.{statement}
@@ -65,14 +65,14 @@ add-e : tie.Need-add-e
 add-e c = omega (arith, small c)
 
 part-write-h-comms-end : tie.Need-part-write-h-comms-end
-part-write-h-comms-end c = inside (c .before)
+part-write-h-comms-end c = omega (arith, inside (c .before))
 
 write-h-comms-requires : tie.Need-write-h-comms-requires
 write-h-comms-requires c κs =
     let k = c .before .before in
     let s = start k in
     let a = s .args in
-    (due-17 (a .n) (a .l) 17 (now (a .out)) (s .pre .1 .0) refl, (s .pre .0 .ranges, length-row (len k) (a .i) (rows k) (inside k) ∙ is k))
+    (due-17 (a .n) (a .l) 17 (now (a .out)) (s .pre .1 .0) refl, (s .pre .0 .ranges, rw length-take-drop (omega (arith, inside k, is k))))
 
 returns : tie.Need-returns
 returns c =
