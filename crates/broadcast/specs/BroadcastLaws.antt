@@ -16,7 +16,7 @@ use Rattle.engine.specs.Step.{Fault, none?, frame, other, mask, orElse, scan, b
 use Rattle.engine.specs.StepLaws.{other-cases, or-none, or-first}
 use Rattle.engine.specs.Plain.{rowsOf, waits, waiting, prior, digests, hashes, pending, echoCheck}
 use Rattle.lists.specs.Sect.{get}
-use Rattle.engine.specs.Area.{off, sec, length-sec, mem}
+use Rattle.engine.specs.Area.{off, length-sec, mem}
 use Rattle.rounds.specs.Area.{PENDING, HASHES, SECTIONS, sizes, sizeOf, workLen, at}
 use Rattle.area.specs.SectionLaws.{is-section}
 use Rattle.rounds.specs.Echo.{hashVec, echo, echoFault}

@@ -1,19 +1,19 @@
 -- The work area after a call that writes an echo.
-use mathlib.Core.Path.{_≡_, refl, sym, ap, _∙_}
+use mathlib.Core.Path.{_≡_, refl, ap, _∙_}
 use mathlib.Core.Bool.{Bool, true, false}
 use mathlib.Core.Logic.{_≢_}
 use mathlib.Core.List.{List, [], _∷_}
-use Prim.Native.Nat.{ℕ, suc, _*_, _<_}
+use Prim.Native.Nat.{ℕ, _*_, _<_}
 use native.Mathlib.Omega.{arith}
 use lib.ListN.{length}
 use lib.Dec.{eqb}
 use Rattle.lists.specs.Pick.{pick}
 use Rattle.engine.specs.declared.Frame.{Frame}
 use Rattle.engine.specs.Step.{Fault}
-use Rattle.engine.specs.Plain.{rowsOf, waits, kept, held, digests, hashes}
+use Rattle.engine.specs.Plain.{waits, kept, held, digests, hashes}
 use Rattle.engine.specs.PlainLaws.{length-rows}
-use Rattle.engine.specs.Area.{sec, putSec, length-putSec, sec-same, sec-other}
-use Rattle.rounds.specs.Area.{PENDING, HASHES, SECTIONS, sizes, sizeOf, workLen, at, keep}
+use Rattle.engine.specs.Area.{putSec, length-putSec, sec-same, sec-other}
+use Rattle.rounds.specs.Area.{PENDING, HASHES, SECTIONS, sizes, sizeOf, workLen, keep}
 use Rattle.rounds.specs.Echo.{hashVec}
 use Rattle.rounds.specs.EchoLaws.{length-hashVec}
 use Rattle.rounds.specs.FaultLaws.{Finds}

@@ -1,5 +1,5 @@
 -- The parts of a round call against the definition, case by case.
-use mathlib.Core.Path.{_≡_, refl, sym, ap, ap₂, _∙_, subst}
+use mathlib.Core.Path.{_≡_, refl, sym, ap, _∙_, subst}
 use mathlib.Core.Bool.{Bool, true, false, not, _&&_}
 use mathlib.Core.Logic.{_≢_}
 use mathlib.Core.List.{List}
@@ -13,7 +13,7 @@ use Rattle.lists.specs.Pick.{pick}
 use Rattle.lists.specs.All.{allOf, of-all, true-false}
 use Rattle.share.specs.Record.{recordLen}
 use Rattle.message.specs.declared.Kind.the-variants.{Options, Items}
-use Rattle.plan.specs.Plan.{echo?, isRound, nextRound, kindOf, countDue, msgLen}
+use Rattle.plan.specs.Plan.{echo?, nextRound, kindOf, countDue, msgLen}
 use Rattle.plan.specs.PlanLaws.{no-echo}
 use Rattle.engine.specs.declared.Frame.{Frame}
 use Rattle.engine.specs.Step.{none?, Loan, frame, mask}

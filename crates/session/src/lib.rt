@@ -4,12 +4,12 @@
 ghost use mathlib.Core.Path.{_≡_};
 ghost use mathlib.Core.Bool.{true, false};
 ghost use mathlib.Core.List.{List, []};
-ghost use Prim.Native.Nat.{ℕ, _-_, _*_, _≤_, _<_};
+ghost use Prim.Native.Nat.{ℕ, _-_, _*_, _≤_};
 ghost use lib.ListN.{length, replicate};
 ghost use lib.Dec.{eqb};
 ghost use Rattle.lists.specs.Pick.{pick};
 ghost use Rattle.share.specs.Record.{recordLen};
-ghost use Rattle.plan.specs.Plan.{nextRound, kindOf, msgLen};
+ghost use Rattle.plan.specs.Plan.{kindOf, msgLen};
 ghost use Rattle.engine.specs.Step.{frame, mask, replyOf, outcome, faultOf, roundSpec};
 ghost use Rattle.engine.specs.Plain.{protocolOf, ruleOf, isEcho, toEcho, outLenOf, lentOf, digests, hashes, checkOf, held, made, keepOf, writeOf};
 ghost use Rattle.engine.specs.Area.{toOthers};
