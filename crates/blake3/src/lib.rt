@@ -155,14 +155,6 @@ pub fn digest_of(s: &[u8]) -> Digest
     Digest(tree(s, 1, 0, s.len(), 0, ROOT))
 }
 
-// BLAKE3 of s, to 32 bytes of a lent buffer.
-pub fn hash_to(s: &[u8], out: &mut [u8])
-    requires { ⌜ length (now out) ≡ 32 ⌝ }
-    ensures { λ _. ⌜ now (out .exit) ≡ T.hash (now (s .entry)) ⌝ }
-{
-    digest_of(s).store(out);
-}
-
 // BLAKE3 of s.
 pub fn hash(s: &[u8], out: &mut [u8; 32])
     ensures { λ _. ⌜ now (out .exit) ≡ T.hash (now (s .entry)) ⌝ }

@@ -298,20 +298,6 @@ module _ (K : Kind) (m : List ℕ) where
   pub list-pos : decodes K m ≡ true → 8 ≤ listLen K m
   list-pos e = omega (arith, list-some e, at-ge (countOf m) (decoded e .item))
 
-  pub list-zero : listLen K m ≡ 0 → decodes K m ≡ false
-  list-zero z = go (decodes K m) refl
-    where
-      go : (b : Bool) → decodes K m ≡ b → b ≡ false
-      go true e = absurd (omega (arith, list-pos e))
-      go false e = refl
-
-  pub list-found : (listLen K m ≡ 0 → ⊥) → decodes K m ≡ true
-  list-found n = go (decodes K m) refl
-    where
-      go : (b : Bool) → decodes K m ≡ b → b ≡ true
-      go true e = refl
-      go false e = absurd (n (list-none e))
-
   pub list-le : listLen K m ≤ length m
   list-le = go (decodes K m) refl
     where
@@ -334,16 +320,6 @@ module _ (K : Kind) (count : ℕ) (m : List ℕ) where
   pub form-over : length m < 8 + countOf m → formOf K count m ≡ 13
   form-over h = form-bad (decodes-over K m h)
 
-  pub form-count : decodes K m ≡ true → (countOf m ≡ count → ⊥) → formOf K count m ≡ 6
-  unfolding formOf
-  form-count e n =
-      ap₂ (λ (a b : Bool). pick a (pick (b && innersDue K count m) 0 6) 13) e (ne-eqb (countOf m) count n)
-
-  pub form-inner : decodes K m ≡ true → innersDue K count m ≡ false → formOf K count m ≡ 6
-  unfolding formOf
-  form-inner e f =
-      ap₂ (λ (a b : Bool). pick a (pick b 0 6) 13) e (second-false (eqb (countOf m) count) (innersDue K count m) f)
-
   pub form-of : Formed K count m → formOf K count m ≡ 0
   unfolding formOf
   form-of w =
@@ -360,19 +336,6 @@ module _ (K : Kind) (count : ℕ) (m : List ℕ) where
         count-is = eqb-true (countOf m) count (and-first (eqb (countOf m) count) (innersDue K count m) (q .0));
         inner-is = and-second (eqb (countOf m) count) (innersDue K count m) (q .0);
       }
-
--- only a bucket has inner lists whose counts are due
-pub inners-items : (size c count : ℕ) (m : List ℕ) → innersDue (Items size c) count m ≡ true
-unfolding innersDue innerDue
-inners-items size c count m = all-of count (λ t. innerDue (Items size c) (drop (itemAt (Items size c) m t) m)) (λ t l. refl)
-
-pub inners-dms : (count : ℕ) (m : List ℕ) → innersDue Dms count m ≡ true
-unfolding innersDue innerDue
-inners-dms count m = all-of count (λ t. innerDue Dms (drop (itemAt Dms m t) m)) (λ t l. refl)
-
-pub inners-options : (count : ℕ) (m : List ℕ) → innersDue Options count m ≡ true
-unfolding innersDue innerDue
-inners-options count m = all-of count (λ t. innerDue Options (drop (itemAt Options m t) m)) (λ t l. refl)
 
 -- ---- items of a fixed size
 pub level-at : (K : Kind) (m : List ℕ) (size t : ℕ) → ((j : ℕ) → j < t → itemLen K (drop (itemAt K m j) m) ≡ size) → itemAt K m t ≡ 8 + t * size

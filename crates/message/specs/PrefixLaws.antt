@@ -166,7 +166,3 @@ list-form K count m h =
       inner-is = subst (λ k. innersDue K k (take (listLen K m) m) ≡ true) (w .count-is)
           (inners-cut K m d (listLen K m) e ∙ ap (λ k. innersDue K k m) (w .count-is) ∙ w .inner-is);
     })
-
-pub length-list : (K : Kind) (m : List ℕ) → length (listOf K m) ≡ listLen K m
-unfolding listOf
-length-list K m = length-take-le (listLen K m) m (list-le K m)

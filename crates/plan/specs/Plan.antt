@@ -14,10 +14,6 @@ use Rattle.share.specs.Record.{recordLen}
 unfoldable pub echo? : ℕ → Bool
 echo? k = eqb k 2 || eqb k 7 || eqb k 9 || eqb k 11 || eqb k 13 || eqb k 16 || eqb k 18 || eqb k 20
 
--- the round that echoes round k, 0 if none does
-unfoldable pub echoOf : ℕ → ℕ
-echoOf k = pick (echo? (k + 1)) (k + 1) 0
-
 -- round k takes place: "For n = 2 the echoes are skipped."
 unfoldable pub isRound : ℕ → ℕ → Bool
 isRound n k = leb 1 k && leb k 22 && not (eqb n 2 && echo? k)

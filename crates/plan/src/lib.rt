@@ -5,7 +5,7 @@
 ghost use mathlib.Core.Path.{_≡_};
 ghost use Prim.Native.Nat.{ℕ, _+_, _*_, _<_, _≤_};
 ghost use Rattle.plan.specs.Plan as S;
-ghost use Rattle.plan.specs.Plan.{echo?, echoOf, isRound, nextRound, bucketSize, bitsCount, rBlocks, rLen, kindOf, countDue, dmLen, listLen, msgLen, parties?, inRange, InRange, Listed, bitsLen, sharesLen, masksLen, pairsLen, outLen, rDue, permDue, sentUpTo};
+ghost use Rattle.plan.specs.Plan.{echo?, isRound, nextRound, bucketSize, bitsCount, rBlocks, rLen, kindOf, countDue, dmLen, listLen, msgLen, parties?, inRange, InRange, Listed, bitsLen, sharesLen, masksLen, pairsLen, outLen, rDue, permDue, sentUpTo};
 ghost use Rattle.plan.specs.Names.{roundName};
 use message::Kind;
 
@@ -14,16 +14,6 @@ pub fn is_echo(k: usize) -> bool
     ensures { λ r. ⌜ r ≡ echo? k ⌝ }
 {
     (k == 2) | (k == 7) | (k == 9) | (k == 11) | (k == 13) | (k == 16) | (k == 18) | (k == 20)
-}
-
-// The round that echoes round k, 0 if none does.
-pub fn echo_of(k: usize) -> usize
-    ensures { λ r. ⌜ r ≡ echoOf k ⌝ }
-{
-    if 22 <= k {
-        return 0;
-    }
-    if is_echo(k + 1) { k + 1 } else { 0 }
 }
 
 // Whether round k takes place among n parties.
