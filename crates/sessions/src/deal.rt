@@ -1,9 +1,12 @@
-// Honest inputs: those of `oracle gen N L SEED` (oracle/src/session.rs), by the generator SplitMix64. A box has 19,008 bytes of them: its delta at 0,
-// its seed at 16, pair seeds at 48, masks at 144, alpha at 176, beta at 376, bits at 576.
+// Honest inputs: those of `oracle gen N L SEED` (oracle/src/session.rs), by the generator SplitMix64. A box's room starts with 19,008 bytes of them: its
+// delta at 0, its seed at 16, pair seeds at 48, masks at 144, alpha at 176, beta at 376, bits at 576.
 ghost use Prim.Native.Nat.{_+_, _*_, _<_, _≤_};
-ghost use mathlib.Core.Path.{_≡_};
-ghost use lib.ListN.{length};
+use crate::table::ORDER;
+use crate::table::STRINGS;
+use crate::table::Table;
 use std::num::wrapping_add_u64;
+
+// ---- the generator
 
 // z · 0xbf58476d1ce4e5b9, modulo 2^64.
 fn first_product(z: u64) -> u64 {
@@ -36,30 +39,163 @@ fn low_byte(w: u64) -> u8 {
     (w % 256) as u8
 }
 
-// Fills s from the state x on, eight bytes to a word, and gives the state after it.
-pub fn fill(s: &mut [u8], x: u64) -> u64 {
+// The state that it starts from.
+fn start(n: usize, l: usize, seed: u64) -> u64
+    requires { ⌜ (n ≤ 3) × (l ≤ 2) ⌝ }
+{
+    seed ^ (n as u64 * 0x100_0000_0000_0000) ^ (l as u64 * 0x1_0000_0000)
+}
+
+// Fills from the state x on, eight bytes to a word, and gives the state after it.
+fn fill(t: &mut Table, from: usize, len: usize, x: u64) -> u64
+    requires { ⌜ from + len ≤ 237265 ⌝ }
+{
     let mut y = x;
     let mut w = 0;
     let mut q = 0;
-    while q < s.len() {
+    while q < len {
         if q % 8 == 0 {
             y = next(y);
             w = word(y);
         }
-        s[q] = low_byte(w);
+        t[from + q] = low_byte(w);
         w = w / 256;
         q += 1;
     }
     y
 }
 
-fn to_bits(s: &mut [u8]) {
+// ---- what each box has alone
+
+fn deltas(t: &mut Table, n: usize, x: u64) -> u64 {
+    let mut y = x;
+    let mut i = 0;
+    while i < n {
+        y = fill(t, crate::table::room(i), 16, y);
+        i += 1;
+    }
+    y
+}
+
+fn to_bits(t: &mut Table, from: usize, len: usize)
+    requires { ⌜ from + len ≤ 237265 ⌝ }
+{
     let mut q = 0;
-    while q < s.len() {
-        s[q] = s[q] % 2;
+    while q < len {
+        t[from + q] = t[from + q] % 2;
         q += 1;
     }
 }
+
+// The seeds and masks of the box whose room starts at `at`.
+fn seeds(t: &mut Table, at: usize, pairs: usize, masks: usize, x: u64) -> u64
+    requires { ⌜ (at ≤ 155610) × (pairs ≤ 96) × (masks ≤ 32) ⌝ }
+{
+    let a = fill(t, at + 16, 32, x);
+    let b = fill(t, at + 48, pairs, a);
+    let c = fill(t, at + 144, masks, b);
+    to_bits(t, at + 144, masks);
+    c
+}
+
+fn seeds_of_all(t: &mut Table, n: usize, l: usize, x: u64) -> u64 {
+    let pairs = crate::table::least(plan::pairs_len(n), 96);
+    let masks = crate::table::least(plan::masks_len(n, l), 32);
+    let mut y = x;
+    let mut i = 0;
+    while i < n {
+        y = seeds(t, crate::table::room(i), pairs, masks, y);
+        i += 1;
+    }
+    y
+}
+
+// ---- shares
+
+// 16 bytes: the sum of those at a and b.
+fn put_sum(t: &mut Table, to: usize, a: usize, b: usize)
+    requires { ⌜ (to + 16 ≤ 237265) × (a + 16 ≤ 237265) × (b + 16 ≤ 237265) ⌝ }
+{
+    let mut q = 0;
+    while q < 16 {
+        t[to + q] = t[a + q] ^ t[b + q];
+        q += 1;
+    }
+}
+
+// The key that box k holds of box j's bit, and j's MAC for k, another box; their records start at `at`.
+fn pair(t: &mut Table, at: usize, bit: u8, j: usize, k: usize, x: u64) -> u64
+    requires { ⌜ (j < 3) × (k < 3) × (at ≤ 19008) ⌝ }
+{
+    if j == k {
+        return x;
+    }
+    let delta = crate::table::room(k);
+    let key = delta + at + 17 + 32 * j;
+    let mac = crate::table::room(j) + at + 1 + 32 * k;
+    let y = fill(t, key, 16, x);
+    if bit == 1 {
+        put_sum(t, mac, key, delta);
+    } else {
+        crate::table::copy(t, mac, key, 16);
+    }
+    y
+}
+
+// Box j's bit, with its MACs and the others' keys.
+fn pairs(t: &mut Table, at: usize, bit: u8, j: usize, n: usize, x: u64) -> u64
+    requires { ⌜ (at ≤ 19008) × (j < n) × (n ≤ 3) ⌝ }
+{
+    crate::table::put(t, crate::table::room(j) + at, bit);
+    let mut y = x;
+    let mut k = 0;
+    while k < n {
+        y = pair(t, at, bit, j, k, y);
+        k += 1;
+    }
+    y
+}
+
+// The records at one position, of all boxes.
+fn position(t: &mut Table, at: usize, n: usize, x: u64) -> u64
+    requires { ⌜ (at ≤ 19008) × (n ≤ 3) ⌝ }
+{
+    let mut y = next(x);
+    let mut bits = word(y);
+    let mut j = 0;
+    while j < n {
+        y = pairs(t, at, low_byte(bits) % 2, j, n, y);
+        bits = bits / 2;
+        j += 1;
+    }
+    y
+}
+
+// The records from `from` up to `end`.
+fn shares(t: &mut Table, from: usize, end: usize, n: usize, x: u64) -> u64
+    requires { ⌜ (from ≤ 19008) × (end ≤ 19008) × (n ≤ 3) ⌝ }
+{
+    let size = 32 * n + 1;
+    let mut y = x;
+    let mut at = from;
+    while at < end {
+        y = position(t, at, n, y);
+        at += size;
+    }
+    y
+}
+
+fn lists(t: &mut Table, n: usize, l: usize, x: u64) -> u64
+    requires { ⌜ n ≤ 3 ⌝ }
+{
+    let len = crate::table::least(plan::shares_len(n, l), 200);
+    let bits = crate::table::least(plan::bits_len(n, l), 18432);
+    let y = shares(t, 576, 576 + bits, n, x);
+    let z = shares(t, 176, 176 + len, n, y);
+    shares(t, 376, 376 + len, n, z)
+}
+
+// ---- the permutation
 
 // a · b.
 fn multiple(a: u64, b: usize) -> u64
@@ -84,157 +220,53 @@ fn below(x: u64, bound: usize) -> usize
     ((multiple(w / 0x1_0000_0000, bound) + low) / 0x1_0000_0000) as usize
 }
 
-fn swap(perm: &mut [u32], t: usize, j: usize)
-    requires { ⌜ (t < length (now perm)) × (j < length (now perm)) ⌝ }
-{
-    let a = perm[t];
-    perm[t] = perm[j];
-    perm[j] = a;
-}
-
-fn count_up(perm: &mut [u32])
-    requires { ⌜ length (now perm) ≤ 10 ⌝ }
-{
+fn count_up(t: &mut Table) {
     let mut q = 0;
-    while q < perm.len() {
-        perm[q] = q as u32;
+    while q < 10 {
+        t[ORDER + q] = q as u8;
         q += 1;
     }
 }
 
-// The permutation of the numbers below its length.
-pub fn permutation(perm: &mut [u32], x: u64)
-    requires { ⌜ length (now perm) ≤ 10 ⌝ }
+fn swap(t: &mut Table, a: usize, b: usize)
+    requires { ⌜ (a < 10) × (b < 10) ⌝ }
 {
-    count_up(perm);
+    let x = t[ORDER + a];
+    t[ORDER + a] = t[ORDER + b];
+    t[ORDER + b] = x;
+}
+
+// The permutation of the numbers below len.
+fn permutation(t: &mut Table, len: usize, x: u64)
+    requires { ⌜ len ≤ 10 ⌝ }
+{
+    count_up(t);
     let mut y = x;
-    let mut t = perm.len();
-    while 1 < t {
+    let mut top = len;
+    while 1 < top {
         y = next(y);
-        let j = below(y, t);
-        t -= 1;
-        if j <= t {
-            swap(perm, t, j);
+        let j = below(y, top);
+        top -= 1;
+        if j <= top {
+            swap(t, top, j);
         }
     }
 }
 
-// The seeds and masks of a box.
-fn seeds(ins: &mut [u8], n: usize, l: usize, x: u64) -> u64
-    requires { ⌜ length (now ins) ≡ 19008 ⌝ }
-{
-    let pairs = 48 + crate::least(plan::pairs_len(n), 96);
-    let masks = 144 + crate::least(plan::masks_len(n, l), 32);
-    let a = fill(&mut ins[16..48], x);
-    let b = fill(&mut ins[48..pairs], a);
-    let c = fill(&mut ins[144..masks], b);
-    to_bits(&mut ins[144..masks]);
-    c
-}
+// ---- all
 
-// Byte q of a box's delta, where the bit is 1.
-fn delta(ins: &[u8], k: usize, bit: u8, q: usize) -> u8
-    requires { ⌜ (length (now ins) ≡ 57024) × (k < 3) × (q < 16) ⌝ }
-{
-    if bit == 1 { ins[19008 * k + q] } else { 0 }
-}
-
-// The key that box k holds of box j's bit, and j's MAC for k, another box; their records start at `at`.
-fn pair(ins: &mut [u8], at: usize, bit: u8, j: usize, k: usize, x: u64) -> u64
-    requires { ⌜ (length (now ins) ≡ 57024) × (j < 3) × (k < 3) × (at + 32 * j + 33 ≤ 19008) × (at + 32 * k + 33 ≤ 19008) ⌝ }
-{
-    if j == k {
-        return x;
-    }
-    let mut key = [0u8; 16];
-    let y = fill(&mut key, x);
-    let mut q = 0;
-    while q < 16 {
-        ins[19008 * k + at + 17 + 32 * j + q] = key[q];
-        ins[19008 * j + at + 1 + 32 * k + q] = key[q] ^ delta(ins, k, bit, q);
-        q += 1;
-    }
-    y
-}
-
-// Box j's bit, with its MACs and the others' keys.
-fn pairs(ins: &mut [u8], at: usize, bit: u8, j: usize, n: usize, x: u64) -> u64
-    requires { ⌜ (length (now ins) ≡ 57024) × (at + 32 * n + 1 ≤ 19008) × (j < n) × (n ≤ 3) ⌝ }
-{
-    ins[19008 * j + at] = bit;
-    let mut y = x;
-    let mut k = 0;
-    while k < n {
-        y = pair(ins, at, bit, j, k, y);
-        k += 1;
-    }
-    y
-}
-
-// The records at one position, of all boxes.
-fn position(ins: &mut [u8], at: usize, n: usize, x: u64) -> u64
-    requires { ⌜ (length (now ins) ≡ 57024) × (at + 32 * n + 1 ≤ 19008) × (n ≤ 3) ⌝ }
-{
-    let mut y = next(x);
-    let mut bits = word(y);
-    let mut j = 0;
-    while j < n {
-        let bit = low_byte(bits) % 2;
-        bits = bits / 2;
-        y = pairs(ins, at, bit, j, n, y);
-        j += 1;
-    }
-    y
-}
-
-// The records from `from` up to `end`.
-fn shares(ins: &mut [u8], from: usize, end: usize, n: usize, x: u64) -> u64
-    requires { ⌜ (length (now ins) ≡ 57024) × (from ≤ 19008) × (end ≤ 19008) × (n ≤ 3) ⌝ }
-{
-    let mut y = x;
-    let mut at = from;
-    while at + 32 * n + 1 <= end {
-        y = position(ins, at, n, y);
-        at += 32 * n + 1;
-    }
-    y
-}
-
-// The deltas of all boxes, then their seeds and masks.
-fn own(ins: &mut [u8], n: usize, l: usize, x: u64) -> u64
-    requires { ⌜ (length (now ins) ≡ 57024) × (n ≤ 3) ⌝ }
-{
-    let mut y = x;
-    let mut i = 0;
-    while i < n {
-        let a = 19008 * i;
-        y = fill(&mut ins[a..a + 16], y);
-        i += 1;
-    }
-    i = 0;
-    while i < n {
-        let a = 19008 * i;
-        y = seeds(&mut ins[a..a + 19008], n, l, y);
-        i += 1;
-    }
-    y
-}
-
-// The inputs of all boxes; the state after them gives r and the permutation.
-pub fn inputs(ins: &mut [u8], n: usize, l: usize, x: u64) -> u64
-    requires { ⌜ (length (now ins) ≡ 57024) × (n ≤ 3) ⌝ }
-{
-    let size = crate::least(plan::shares_len(n, l), 200);
-    let bits = crate::least(plan::bits_len(n, l), 18432);
-    let a = own(ins, n, l, x);
-    let b = shares(ins, 576, 576 + bits, n, a);
-    let c = shares(ins, 176, 176 + size, n, b);
-    shares(ins, 376, 376 + size, n, c)
-}
-
-// The state that the generator starts from.
-pub fn start(n: usize, l: usize, seed: u64) -> u64
+// All boxes' inputs, r and the permutation.
+pub fn inputs(t: &mut Table, n: usize, l: usize)
     requires { ⌜ (n ≤ 3) × (l ≤ 2) ⌝ }
 {
-    seed ^ (n as u64 * 0x100_0000_0000_0000) ^ (l as u64 * 0x1_0000_0000)
+    let a = deltas(t, n, start(n, l, 32));
+    let b = seeds_of_all(t, n, l, a);
+    let c = lists(t, n, l, b);
+    let d = fill(
+        t,
+        STRINGS,
+        crate::table::least(plan::r_due(n, l, 5), 3840),
+        c,
+    );
+    permutation(t, 5 * l, d);
 }

@@ -1,15 +1,43 @@
-// What is printed of a session, and the checks on its results. A box's results, as its inputs, are records at the start of its room.
+// What is printed of a session, and the checks on its results. A box's results, as its inputs, are records.
 ghost use Prim.Native.Nat.{_+_, _*_, _<_, _≤_};
-ghost use mathlib.Core.Path.{_≡_};
-ghost use lib.ListN.{length};
+use crate::table::CLEAN;
+use crate::table::NUMBER;
+use crate::table::OUT;
+use crate::table::PARTY;
+use crate::table::ROUND;
+use crate::table::Table;
+use crate::table::WORK;
+use crate::table::WORK_LEN;
 use libc::STDOUT_FILENO;
 
-pub fn text(s: &[u8]) {
-    io::write_all(STDOUT_FILENO, s);
+// ---- lines
+
+fn number(xs: [usize; 4], q: usize) {
+    if q < 4 {
+        io::print_decimal(STDOUT_FILENO, xs[q] as u64);
+    }
 }
 
-pub fn number(x: usize) {
-    io::print_decimal(STDOUT_FILENO, x as u64);
+// Prints a line, with a number in the place of each '#'.
+pub fn say(line: &[u8], xs: [usize; 4]) {
+    let mut from = 0;
+    let mut count = 0;
+    let mut q = 0;
+    while q < line.len() {
+        let end = q;
+        q += 1;
+        if line[end] == b'#' {
+            io::write_all(STDOUT_FILENO, &line[from..end]);
+            number(xs, count);
+            count += 1;
+            from = q;
+        }
+    }
+    io::write_all(STDOUT_FILENO, &line[from..]);
+}
+
+fn text(s: &[u8]) {
+    io::write_all(STDOUT_FILENO, s);
 }
 
 // The name of round k, without the zeros behind it.
@@ -23,101 +51,111 @@ fn name(k: usize) {
         }
         j += 1;
     }
-    io::write_all(STDOUT_FILENO, &t[..j]);
+    io::write_all(STDOUT_FILENO, &t[0..j]);
 }
 
-// The hexadecimal digit of the low half of x.
-fn digit(x: u8) -> u8 {
-    let d = x % 16;
-    if d < 10 { 48 + d } else { 87 + d }
+// ---- what boxes wrote
+
+fn hexadecimal(x: u8) {
+    io::print_hex(STDOUT_FILENO, x as u64, 2);
 }
 
-// What was sent or written: its length and the first eight bytes of its BLAKE3.
-fn bytes(s: &[u8]) {
+// The length, and the first eight bytes of the BLAKE3.
+fn digest(s: &[u8]) {
     let mut hash = [0u8; 32];
     blake3::hash(s, &mut hash);
-    let mut line = [b' '; 17];
+    say(b", # ", [s.len(), 0, 0, 0]);
     let mut q: usize = 0;
     while q < 8 {
-        line[2 * q + 1] = digit(hash[q] >> 4);
-        line[2 * q + 2] = digit(hash[q]);
+        hexadecimal(hash[q]);
         q += 1;
     }
-    text(b", ");
-    number(s.len());
-    text(&line);
 }
 
-// Round k and what each box wrote for it, len bytes.
-pub fn round(outs: &[u8], n: usize, len: usize, k: usize)
-    requires { ⌜ (length (now outs) ≡ 23088) × (n ≤ 3) × (len ≤ 7696) ⌝ }
+// The digests of len bytes at `place` of each room.
+fn digests(t: &Table, place: usize, n: usize, len: usize)
+    requires { ⌜ place ≤ 77804 ⌝ }
 {
-    if k == 0 {
-        text(b"results");
-    } else {
-        number(k);
-        text(b" ");
-        name(k);
-    }
     let mut i = 0;
     while i < n {
-        let a = 7696 * i;
-        bytes(&outs[a..a + len]);
+        digest(crate::table::part(t, crate::table::room(i) + place, len));
         i += 1;
     }
+}
+
+// Round k, and what each box sent for it.
+pub fn round(t: &Table, n: usize, len: usize, k: usize) {
+    say(b"# ", [k, 0, 0, 0]);
+    name(k);
+    digests(t, crate::table::SENT, n, len);
     text(b"\n");
 }
 
-// The bytes of a message of round k.
-pub fn message_len(n: usize, l: usize, k: usize) -> usize {
-    if plan::in_range(n, l) {
-        plan::msg_len(n, l, k)
-    } else {
-        0
-    }
-}
+// ---- results
 
-// Whether box j's MAC for k is k's key of j, plus k's delta where j's bit is 1; the records start at `at`.
-fn mac_holds(outs: &[u8], ins: &[u8], at: usize, j: usize, k: usize) -> bool
-    requires { ⌜ (length (now outs) ≡ 23088) × (length (now ins) ≡ 57024) × (j < 3) × (k < 3) × (at + 97 ≤ 7696) ⌝ }
+// Whether 16 bytes are the sum of those at `key`, and those at `delta` where the bit is 1.
+fn is_mac(t: &Table, mac: usize, key: usize, delta: usize, bit: u8) -> bool
+    requires { ⌜ (mac + 16 ≤ 237265) × (key + 16 ≤ 237265) × (delta + 16 ≤ 237265) ⌝ }
 {
-    let bit = outs[7696 * j + at];
     let mut good = true;
     let mut q = 0;
     while q < 16 {
-        let d = if bit == 1 { ins[19008 * k + q] } else { 0 };
-        good = good
-            & (outs[7696 * j + at + 1 + 32 * k + q] == outs[7696 * k + at + 17 + 32 * j + q] ^ d);
+        let d = if bit == 1 { t[delta + q] } else { 0 };
+        good = good & (t[mac + q] == t[key + q] ^ d);
         q += 1;
     }
     good
 }
 
-// At one position, for all pairs of boxes.
-fn macs_hold(outs: &[u8], ins: &[u8], at: usize, n: usize) -> bool
-    requires { ⌜ (length (now outs) ≡ 23088) × (length (now ins) ≡ 57024) × (n ≤ 3) × (at + 97 ≤ 7696) ⌝ }
+// Whether box j's MAC for k is k's key of j, plus k's delta where j's bit is 1; their records start at `at`.
+fn mac_holds(t: &Table, at: usize, j: usize, k: usize) -> bool
+    requires { ⌜ (j < 3) × (k < 3) × (at ≤ 70104) ⌝ }
+{
+    if j == k {
+        return true;
+    }
+    let a = crate::table::room(j) + at;
+    let b = crate::table::room(k);
+    let bit = crate::table::get(t, a);
+    is_mac(t, a + 1 + 32 * k, b + at + 17 + 32 * j, b, bit)
+}
+
+// At one position, for box j and all others.
+fn macs_hold(t: &Table, at: usize, j: usize, n: usize) -> bool
+    requires { ⌜ (j < 3) × (n ≤ 3) × (at ≤ 70104) ⌝ }
+{
+    let mut good = true;
+    let mut k = 0;
+    while k < n {
+        good = good & mac_holds(t, at, j, k);
+        k += 1;
+    }
+    good
+}
+
+fn all_macs_hold(t: &Table, at: usize, n: usize) -> bool
+    requires { ⌜ (n ≤ 3) × (at ≤ 70104) ⌝ }
 {
     let mut good = true;
     let mut j = 0;
     while j < n {
-        let mut k = 0;
-        while k < n {
-            if j != k {
-                good = good & mac_holds(outs, ins, at, j, k);
-            }
-            k += 1;
-        }
+        good = good & macs_hold(t, at, j, n);
         j += 1;
     }
     good
 }
 
-// The XOR of the boxes' bytes at `at`, where the next box's room is `room` bytes on.
-fn joint(s: &[u8], room: usize, at: usize, n: usize) -> u8
-    requires { ⌜ at + 2 * room < length (now s) ⌝ }
+// The XOR of the boxes' bytes at `at`.
+fn joint(t: &Table, at: usize, n: usize) -> u8
+    requires { ⌜ at ≤ 77804 ⌝ }
 {
-    let third = if n == 3 { s[at + 2 * room] } else { 0 };
-    s[at] ^ s[at + room] ^ third
+    let mut sum = 0;
+    let mut i = 0;
+    while i < n {
+        sum = sum ^ crate::table::get(t, crate::table::room(i) + at);
+        i += 1;
+    }
+    sum
 }
 
 fn right(good: bool) {
@@ -129,55 +167,100 @@ fn right(good: bool) {
 }
 
 // One position of the results.
-fn result(outs: &[u8], ins: &[u8], at: usize, n: usize)
-    requires { ⌜ (length (now outs) ≡ 23088) × (length (now ins) ≡ 57024) × (n ≤ 3) × (at ≤ 200) ⌝ }
+fn result(t: &Table, at: usize, n: usize)
+    requires { ⌜ (n ≤ 3) × (at ≤ 200) ⌝ }
 {
-    let alpha = joint(ins, 19008, 176 + at, n);
-    let beta = joint(ins, 19008, 376 + at, n);
-    let bit = joint(outs, 7696, at, n);
+    let alpha = joint(t, 176 + at, n);
+    let beta = joint(t, 376 + at, n);
+    let bit = joint(t, OUT + at, n);
     text(b"the MAC rule ");
-    right(macs_hold(outs, ins, at, n));
-    text(b", alpha ");
-    number(alpha as usize);
-    text(b" and beta ");
-    number(beta as usize);
-    text(b" is ");
-    number(bit as usize);
-    text(b": the AND ");
+    right(all_macs_hold(t, OUT + at, n));
+    say(
+        b", alpha # and beta # is #: the AND ",
+        [alpha as usize, beta as usize, bit as usize, 0],
+    );
     right(alpha & beta == bit);
     text(b"\n");
 }
 
 // All of them, len bytes.
-pub fn results(outs: &[u8], ins: &[u8], n: usize, len: usize)
-    requires { ⌜ (length (now outs) ≡ 23088) × (length (now ins) ≡ 57024) × (n ≤ 3) × (len ≤ 200) ⌝ }
+fn positions(t: &Table, n: usize, len: usize)
+    requires { ⌜ (n ≤ 3) × (len ≤ 200) ⌝ }
 {
     let mut at = 0;
     while at < len {
-        result(outs, ins, at, n);
+        result(t, at, n);
         at += 32 * n + 1;
     }
 }
 
-// How box i ended.
-pub fn end(log: &[usize], i: usize)
-    requires { ⌜ (length (now log) ≡ 15) × (i < 3) ⌝ }
+pub fn results(t: &Table, n: usize, len: usize)
+    requires { ⌜ (n ≤ 3) × (len ≤ 200) ⌝ }
 {
-    text(b"  box ");
-    number(i);
-    if log[5 * i + 1] == 0 {
-        text(b": done\n");
-        return;
+    text(b"results");
+    digests(t, OUT, n, len);
+    text(b"\n");
+    positions(t, n, len);
+}
+
+// ---- ends
+
+// Whether the work areas are zero.
+fn zeroed(t: &Table, n: usize, l: usize) -> bool {
+    let len = crate::table::least(area::work_len(n, l), WORK_LEN);
+    let mut good = true;
+    let mut i = 0;
+    while i < n {
+        let work = crate::table::part(t, crate::table::room(i) + WORK, len);
+        good = good & crate::table::only(work, 0);
+        i += 1;
     }
-    text(b": ");
-    number(log[5 * i + 1]);
-    text(b" of ");
-    number(log[5 * i + 2]);
-    text(b" in round ");
-    number(log[5 * i + 3]);
-    if log[5 * i + 4] == 1 {
-        text(b"; its work area is zero, its buffer untouched\n");
+    good
+}
+
+// What a box sent in all, and the work areas.
+pub fn left(t: &Table, n: usize, l: usize, sum: usize) {
+    if zeroed(t, n, l) {
+        say(
+            b"a box sent # bytes; the work areas are zero\n",
+            [sum, 0, 0, 0],
+        );
     } else {
-        text(b"; ITS MEMORY IS NOT AS DUE\n");
+        say(
+            b"a box sent # bytes; the work areas are NOT ZERO\n",
+            [sum, 0, 0, 0],
+        );
+    }
+}
+
+// How box i ended.
+fn end(t: &Table, i: usize) {
+    let code = crate::table::noted(t, i, NUMBER);
+    let xs = [
+        i,
+        code,
+        crate::table::noted(t, i, PARTY),
+        crate::table::noted(t, i, ROUND),
+    ];
+    if code == 0 {
+        say(b"  box #: done\n", xs);
+    } else if crate::table::noted(t, i, CLEAN) == 1 {
+        say(
+            b"  box #: # of # in round #; its work area is zero, its buffer untouched\n",
+            xs,
+        );
+    } else {
+        say(
+            b"  box #: # of # in round #; ITS MEMORY IS NOT AS DUE\n",
+            xs,
+        );
+    }
+}
+
+pub fn ends(t: &Table, n: usize) {
+    let mut i = 0;
+    while i < n {
+        end(t, i);
+        i += 1;
     }
 }

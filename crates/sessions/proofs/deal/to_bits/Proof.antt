@@ -1,39 +1,14 @@
+-- `sessions::deal::to_bits` is safe and ends.
 use Prim.Native.Nat.{_-_, _≤_}
-use mathlib.Core.Path.{_≡_}
-use lib.ListN.{length}
 use borrow.Author.Needs.{needs}
 use Rattle.sessions.proofs.deal.to_bits.Statement.{statement}
 use Rattle.sessions.proofs.deal.to_bits.Tie as tie
 
 abbrev Inv-loop : tie.InvT-loop
-Inv-loop s₀ q₀ s q = (q ≤ length s₀) × (length s ≡ length s₀)
+Inv-loop t₀ from len q₀ t q = q ≤ len
 
 abbrev μ-loop : tie.MeasureT-loop
-μ-loop s₀ q₀ s q = length s₀ - q
-
-loop-holds : tie.Need-loop-holds Inv-loop μ-loop
-loop-holds c = search needs
-
-slice-read-s : tie.Need-slice-read-s Inv-loop μ-loop
-slice-read-s c = search needs
-
-slice-write-s : tie.Need-slice-write-s Inv-loop μ-loop
-slice-write-s c = search needs
-
-add-q : tie.Need-add-q Inv-loop μ-loop
-add-q c = search needs
-
-loop-less : tie.Need-loop-less Inv-loop μ-loop
-loop-less c = search needs
-
-loop-again : tie.Need-loop-again Inv-loop μ-loop
-loop-again c = search needs
-
-same-length : tie.Need-same-length Inv-loop μ-loop
-same-length c = search needs
-
-returns : tie.Need-returns Inv-loop μ-loop
-returns c = search needs
+μ-loop t₀ from len q₀ t q = len - q
 
 pub to-bits-spec : {M : Type 1} → statement M
 to-bits-spec =
@@ -41,11 +16,12 @@ to-bits-spec =
     (tie.spec
     Inv-loop
     μ-loop
-    loop-holds
-    slice-read-s
-    slice-write-s
-    add-q
-    loop-less
-    loop-again
-    same-length
-    returns)
+    (λ c. search needs)
+    (λ c. search needs)
+    (λ c. search needs)
+    (λ c. search needs)
+    (λ c. search needs)
+    (λ c. search needs)
+    (λ c. search needs)
+    (λ c. search needs)
+    (λ c. search needs))
