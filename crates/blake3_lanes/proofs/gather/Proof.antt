@@ -4,9 +4,8 @@ use mathlib.Core.List.{_++_}
 use Prim.Native.Nat.{_+_, _-_, _*_, _≤_}
 use native.Mathlib.Omega.{arith}
 use lib.ListN.{length, drop}
-use Rattle.lists.specs.Over.{tab, tab-zero, tab-end}
+use Rattle.lists.specs.Over.{tab, tab-zero, tab-turn, tab-end}
 use Rattle.blake3_lanes.specs.Lanes.{wordsOf, wordsAt}
-use Rattle.blake3_lanes.specs.LaneLaws.{tab-turn}
 use borrow.Author.Needs.{needs}
 use Rattle.blake3_lanes.proofs.gather.Statement.{statement}
 use Rattle.blake3_lanes.proofs.gather.Tie as tie

@@ -3,12 +3,12 @@ use mathlib.Core.Path.{_≡_, refl, sym, ap, _∙_}
 use Prim.Native.Nat.{ℕ, _+_, _-_, _*_, _≤_, _<_}
 use native.Mathlib.Omega.{arith}
 use lib.ListN.{length}
-use Rattle.lists.specs.Over.{Written, written-zero, written-turn, written-end}
+use Rattle.lists.specs.Over.{Written, written-zero, written-turn, written-more, written-on, written-end}
 use Rattle.block.specs.declared.Block.{Block}
 use Rattle.block.specs.Block.{bytesOf}
 use Rattle.blake3.specs.Tree.{hash, digest, bytes}
 use Rattle.blake3_lanes.specs.Lanes.{hashAt}
-use Rattle.blake3_lanes.specs.LaneLaws.{length-hashAt, length-hashes, written-more, written-on, hash-part}
+use Rattle.blake3_lanes.specs.LaneLaws.{length-hashAt, length-hashes, hash-part}
 use borrow.Author.Needs.{needs}
 use Rattle.blake3_lanes.proofs.hash_blocks.Statement.{statement}
 use Rattle.blake3_lanes.proofs.hash_blocks.Tie as tie
