@@ -8,6 +8,10 @@ use Rattle.blake3.specs.declared.Digest.{Digest}
 use Rattle.blake3.specs.Tree.{hash}
 use Rattle.blake3_lanes.specs.declared.Words.{Words}
 
+-- how many Blocks are hashed side by side
+abbrev pub LANES : ℕ
+LANES = 64
+
 -- the hash of Block t
 abbrev pub hashAt : List ℕ → ℕ → List ℕ
 hashAt s t = hash (bytesOf (blockAt s (t * 16)))

@@ -7,6 +7,7 @@ ghost use mathlib.Core.Path.{_≡_};
 ghost use Prim.Native.Nat.{_*_};
 ghost use lib.ListN.{length, getD};
 ghost use Rattle.lists.specs.Over.{tab, cat};
+ghost use Rattle.blake3_lanes.specs.Lanes as S;
 ghost use Rattle.blake3_lanes.specs.Lanes.{wordsOf, wordsAt, noWords, digestOf, hashAt};
 use blake3::Digest;
 use blake3_core::IV;
@@ -17,6 +18,9 @@ use blake3_node::CHUNK_END;
 use blake3_node::CHUNK_START;
 use blake3_node::ROOT;
 use block::Block;
+
+// As many Blocks as are hashed side by side.
+pub const LANES: usize = 64;
 
 // The four words of a Block.
 struct Words(u32, u32, u32, u32);
@@ -80,13 +84,13 @@ fn lane(w: Words) -> Digest
 }
 
 // The words of 64 Blocks.
-fn gather(blocks: &[u8]) -> [Words; 64]
-    requires { ⌜ length (now blocks) ≡ 1024 ⌝ }
-    ensures { λ r. ⌜ r ≡ tab 64 (wordsAt (now (blocks .entry))) ⌝ }
+fn gather(blocks: &[u8]) -> [Words; LANES]
+    requires { ⌜ length (now blocks) ≡ S.LANES * 16 ⌝ }
+    ensures { λ r. ⌜ r ≡ tab S.LANES (wordsAt (now (blocks .entry))) ⌝ }
 {
-    let mut ms = [Words(0, 0, 0, 0); 64];
+    let mut ms = [Words(0, 0, 0, 0); LANES];
     let mut t: usize = 0;
-    while t < 64 {
+    while t < LANES {
         ms[t] = split(block::load(blocks, t * 16));
         t += 1;
     }
@@ -94,12 +98,12 @@ fn gather(blocks: &[u8]) -> [Words; 64]
 }
 
 // The 64 lanes: vector code.
-fn lanes(ms: [Words; 64]) -> [Digest; 64]
-    ensures { λ r. ⌜ r ≡ tab 64 (λ t. digestOf (getD ms t noWords)) ⌝ }
+fn lanes(ms: [Words; LANES]) -> [Digest; LANES]
+    ensures { λ r. ⌜ r ≡ tab S.LANES (λ t. digestOf (getD ms t noWords)) ⌝ }
 {
-    let mut ds = [Digest([0u32; 8]); 64];
+    let mut ds = [Digest([0u32; 8]); LANES];
     let mut t: usize = 0;
-    while t < 64 {
+    while t < LANES {
         ds[t] = lane(ms[t]);
         t += 1;
     }
@@ -108,13 +112,13 @@ fn lanes(ms: [Words; 64]) -> [Digest; 64]
 
 // The hashes of 64 Blocks.
 fn window(out: &mut [u8], blocks: &[u8])
-    requires { ⌜ length (now out) ≡ 2048 ⌝ }
-    requires { ⌜ length (now blocks) ≡ 1024 ⌝ }
-    ensures { λ _. ⌜ now (out .exit) ≡ cat 64 (hashAt (now (blocks .entry))) ⌝ }
+    requires { ⌜ length (now out) ≡ S.LANES * 32 ⌝ }
+    requires { ⌜ length (now blocks) ≡ S.LANES * 16 ⌝ }
+    ensures { λ _. ⌜ now (out .exit) ≡ cat S.LANES (hashAt (now (blocks .entry))) ⌝ }
 {
     let ds = lanes(gather(blocks));
     let mut t: usize = 0;
-    while t < 64 {
+    while t < LANES {
         let a = t * 32;
         let e = a + 32;
         let d = ds[t];
@@ -130,13 +134,13 @@ pub fn hash_blocks(out: &mut [u8], blocks: &[u8], count: usize)
     ensures { λ _. ⌜ now (out .exit) ≡ cat count (hashAt (now (blocks .entry))) ⌝ }
 {
     let mut t: usize = 0;
-    while count - t >= 64 {
+    while count - t >= LANES {
         let a = t * 32;
         let e = a + 2048;
         let b = t * 16;
         let f = b + 1024;
         window(&mut out[a..e], &blocks[b..f]);
-        t += 64;
+        t += LANES;
     }
     while t < count {
         let a = t * 32;
@@ -150,7 +154,7 @@ pub fn hash_blocks(out: &mut [u8], blocks: &[u8], count: usize)
 // For C: the hashes of 64 Blocks.
 #[no_mangle]
 pub extern "C" fn nuz_blake3_blocks(blocks: &[u8; 1024], out: &mut [u8; 2048])
-    ensures { λ _. ⌜ now (out .exit) ≡ cat 64 (hashAt (now (blocks .entry))) ⌝ }
+    ensures { λ _. ⌜ now (out .exit) ≡ cat S.LANES (hashAt (now (blocks .entry))) ⌝ }
 {
     hash_blocks(out, blocks, 64);
 }

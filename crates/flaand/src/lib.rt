@@ -10,6 +10,7 @@ ghost use Rattle.algebra.specs.Group.{XorGroup, sel, odd, num};
 ghost use Rattle.algebra.specs.Sum.{neq, others};
 ghost use Rattle.block.specs.Block.{le8};
 ghost use Rattle.block.specs.Group.{blocks};
+ghost use Rattle.blake3_lanes.specs.Lanes.{LANES};
 ghost use Rattle.share.specs.Record.{recordLen, macAt, keyAt};
 ghost use Rattle.encode.specs.Encode.{bitBlock};
 ghost use Rattle.plan.specs.Plan as Plan;
@@ -25,6 +26,7 @@ ghost use Rattle.haand.specs.Given.{Ranges, Work, Starts};
 ghost use Rattle.flaand.specs.Given.{Hashes, Kept};
 ghost use Rattle.flaand.specs.Laws.{opens, openFault, summed};
 ghost use Rattle.flaand.specs.HLaws.{zTerm, hashesAt, maskedAt};
+use blake3_lanes::LANES;
 use block::Block;
 use rounds::Fault;
 use share::Delta;
@@ -43,9 +45,9 @@ pub fn write_hs(out: &mut [u8], hs: &[u8], n: usize, i: usize, l: usize)
 // How many of the n that are left are hashed next: as many as there are lanes, or all.
 fn window(n: usize) -> usize
     requires { ⌜ 0 < n ⌝ }
-    ensures { λ r. ⌜ (0 < r) × (r ≤ n) × (r ≤ 64) ⌝ }
+    ensures { λ r. ⌜ (0 < r) × (r ≤ n) × (r ≤ LANES) ⌝ }
 {
-    if n < 64 { n } else { 64 }
+    if n < LANES { n } else { LANES }
 }
 
 // Round 17: each h is hashed once, a window of them at a time. The commitments stand in the own row of H-COMMS, which starts at `comms`; HS starts at `hs`.
