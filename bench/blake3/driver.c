@@ -1,5 +1,5 @@
-// Hashes LEN bytes (byte k is k mod 251) once by the function that the build chose, and writes the hash.
-// `run` counts the instructions inside `once`.
+// Hashes LEN bytes (byte k is k mod 251) once by the function that the build chose, and writes the hash; or the 64 Blocks of 1,024 bytes,
+// and writes their hashes. `run` counts the instructions inside `once`.
 #include <stddef.h>
 #include <stdint.h>
 #include <stdio.h>
@@ -14,6 +14,12 @@ __attribute__((noinline)) void once(const uint8_t *s, size_t n, uint8_t *out) {
     (void)n;
     nuz_blake3_block(((const uint64_t *)s)[0], ((const uint64_t *)s)[1], out);
 }
+#elif defined(OURS_BLOCKS)
+void nuz_blake3_blocks(const uint8_t blocks[1024], uint8_t out[2048]);
+__attribute__((noinline)) void once(const uint8_t *s, size_t n, uint8_t *out) {
+    (void)n;
+    nuz_blake3_blocks(s, out);
+}
 #else
 #include "blake3.h"
 __attribute__((noinline)) void once(const uint8_t *s, size_t n, uint8_t *out) {
@@ -26,11 +32,15 @@ __attribute__((noinline)) void once(const uint8_t *s, size_t n, uint8_t *out) {
 
 int main(int argc, char **argv) {
     size_t n = argc > 1 ? strtoul(argv[1], 0, 10) : 0;
-    uint8_t *s = malloc(n + 16), out[32];
+    uint8_t *s = malloc(n + 16), out[2048];
+#ifdef OURS_BLOCKS
+    int hashes = 64;
+#else
+    int hashes = 1;
+#endif
     if (!s) return 1;
     for (size_t k = 0; k < n; k++) s[k] = (uint8_t)(k % 251);
     once(s, n, out);
-    for (int k = 0; k < 32; k++) printf("%02x", out[k]);
-    puts("");
+    for (int k = 0; k < hashes * 32; k++) printf(k % 32 == 31 ? "%02x\n" : "%02x", out[k]);
     return 0;
 }

@@ -1,3 +1,3 @@
 mod Rotate
 mod Order
-mod Rounds
+pub mod Rounds

@@ -77,7 +77,7 @@ fn g(v: &mut [u32; 16], i: usize, j: usize, k: usize, l: usize, x: u32, y: u32)
 }
 
 // The first half of a round.
-fn columns(v: &mut [u32; 16], m: &[u32; 16])
+pub fn columns(v: &mut [u32; 16], m: &[u32; 16])
     ensures { λ _. ⌜ now (v .exit) ≡ S.columns (now (m .entry)) (now (v .entry)) ⌝ }
 {
     g(v, 0, 4, 8, 12, m[0], m[1]);
@@ -87,7 +87,7 @@ fn columns(v: &mut [u32; 16], m: &[u32; 16])
 }
 
 // The second half of a round.
-fn diagonals(v: &mut [u32; 16], m: &[u32; 16])
+pub fn diagonals(v: &mut [u32; 16], m: &[u32; 16])
     ensures { λ _. ⌜ now (v .exit) ≡ S.diagonals (now (m .entry)) (now (v .entry)) ⌝ }
 {
     g(v, 0, 5, 10, 15, m[8], m[9]);
@@ -97,7 +97,7 @@ fn diagonals(v: &mut [u32; 16], m: &[u32; 16])
 }
 
 // The message words in the order of the next round.
-fn permute(m: &[u32; 16]) -> [u32; 16]
+pub fn permute(m: &[u32; 16]) -> [u32; 16]
     ensures { λ r. ⌜ r ≡ S.permute (now (m .entry)) ⌝ }
 {
     let p = MSG_PERMUTATION;
@@ -122,7 +122,7 @@ pub fn high(t: u64) -> u32
     (t >> 32) as u32
 }
 
-fn start(h: &[u32; 8], t: u64, n: u32, f: u32) -> [u32; 16]
+pub fn start(h: &[u32; 8], t: u64, n: u32, f: u32) -> [u32; 16]
     ensures { λ r. ⌜ r ≡ S.start (now (h .entry)) t n f ⌝ }
 {
     let iv = IV;
@@ -146,7 +146,7 @@ fn start(h: &[u32; 8], t: u64, n: u32, f: u32) -> [u32; 16]
     ]
 }
 
-fn fold(v: &[u32; 16]) -> [u32; 8]
+pub fn fold(v: &[u32; 16]) -> [u32; 8]
     ensures { λ r. ⌜ r ≡ S.fold (now (v .entry)) ⌝ }
 {
     [

@@ -10,6 +10,7 @@ ghost use Rattle.algebra.specs.Group.{XorGroup, sel, odd, num};
 ghost use Rattle.algebra.specs.Sum.{neq, others};
 ghost use Rattle.block.specs.Block.{le8};
 ghost use Rattle.block.specs.Group.{blocks};
+ghost use Rattle.blake3_lanes.specs.Lanes.{LANES};
 ghost use Rattle.share.specs.Record.{recordLen, macAt, keyAt};
 ghost use Rattle.encode.specs.Encode.{bitBlock};
 ghost use Rattle.plan.specs.Plan as Plan;
@@ -25,6 +26,7 @@ ghost use Rattle.haand.specs.Given.{Ranges, Work, Starts};
 ghost use Rattle.flaand.specs.Given.{Hashes, Kept};
 ghost use Rattle.flaand.specs.Laws.{opens, openFault, summed};
 ghost use Rattle.flaand.specs.HLaws.{zTerm, hashesAt, maskedAt};
+use blake3_lanes::LANES;
 use block::Block;
 use rounds::Fault;
 use share::Delta;
@@ -40,7 +42,15 @@ pub fn write_hs(out: &mut [u8], hs: &[u8], n: usize, i: usize, l: usize)
     haand::write_same(out, plan::leaky(l), hs, n);
 }
 
-// Round 17: each h is hashed once. The commitments stand in the own row of H-COMMS, which starts at `comms`; HS starts at `hs`.
+// How many of the n that are left are hashed next: as many as there are lanes, or all.
+fn window(n: usize) -> usize
+    requires { ⌜ 0 < n ⌝ }
+    ensures { λ r. ⌜ (0 < r) × (r ≤ n) × (r ≤ LANES) ⌝ }
+{
+    if n < LANES { n } else { LANES }
+}
+
+// Round 17: each h is hashed once, a window of them at a time. The commitments stand in the own row of H-COMMS, which starts at `comms`; HS starts at `hs`.
 pub fn hold_h_comms(work: &mut [u8], hs: usize, comms: usize, n: usize, i: usize, l: usize)
     requires { ⌜ Work n i l (now work) ⌝ }
     requires { ⌜ (Starts n i l HS hs) × (Starts n i l H-COMMS comms) ⌝ }
@@ -49,13 +59,18 @@ pub fn hold_h_comms(work: &mut [u8], hs: usize, comms: usize, n: usize, i: usize
 {
     let count = plan::leaky(l);
     let row = comms + i * (count * 32);
+    let mut blocks = [0u8; 1024];
     let mut t = 0;
     while t < count {
-        let d = blake3::hash_block(block::load(work, hs + t * 16));
+        let k = window(count - t);
+        let len = k * 16;
+        let from = hs + t * 16;
+        let to = from + len;
+        haand::copy(&mut blocks[0..len], &work[from..to]);
         let a = row + t * 32;
-        let e = a + 32;
-        d.store(&mut work[a..e]);
-        t += 1;
+        let e = a + k * 32;
+        blake3_lanes::hash_blocks(&mut work[a..e], &blocks[0..len], k);
+        t += k;
     }
 }
 

@@ -5,7 +5,7 @@ use mathlib.Core.Bool.{Bool, true, false, _&&_}
 use mathlib.Core.Logic.{_≢_}
 use mathlib.Core.List.{List, _++_, append-assoc}
 use Prim.Native.Nat.{ℕ, zero, suc, _+_, _-_, _*_, _<_, _≤_, min}
-use native.Mathlib.Nat.{zero-mul}
+use native.Mathlib.Nat.{add-zero, zero-mul}
 use native.Mathlib.Numerals.{add-one}
 use native.Mathlib.Omega.{arith}
 use lib.ListN.{length, getD, take, drop, replicate, length-append, length-drop, length-take, length-replicate, take-append-drop}
@@ -13,7 +13,7 @@ use lib.Dec.{ltb}
 use borrow.Author.Tests.{lt-ltb}
 use borrow.Rule.Slice.PartMut.{putMid}
 use Rattle.lists.specs.Pick.{pick}
-use Rattle.lists.specs.Over.{cat, length-cat, over-put, length-over, over-full, in-chunks, next-chunk, Written, written-zero, written-turn, written-end}
+use Rattle.lists.specs.Over.{cat, cat-add, length-cat, over-put, length-over, over-full, in-chunks, next-chunk, Written, written-zero, written-turn, written-end}
 use Rattle.lists.specs.Rows.{cat-ext}
 use Rattle.lists.specs.Sect.{length-get}
 use Rattle.algebra.specs.Group.{XorGroup, sel}
@@ -164,12 +164,15 @@ module _ (size : ℕ → ℕ) (S s : ℕ) (in-S : s < S) (w₀ : List ℕ) (h : 
             sym (ap (λ (r : List ℕ). take (off size s) w₀ ++ r) (take-append-drop (size s) (drop (off size s) w₀))
             ∙ take-append-drop (off size s) w₀)
 
-    -- one more row, written through the part of w from p to e
-    pub keeping-turn : (j a k p e e′ : ℕ) (w x : List ℕ) → Keeping size S s g j a w₀ w → x ≡ g j → length (g j) ≡ k → p ≡ off size s + a → e ≡ p + k
-        → a + k ≡ e′ → e′ ≤ size s → Keeping size S s g (j + 1) e′ w₀ (putMid p (e - p) w x)
-    unfolding cat
-    keeping-turn j a k p e e′ w x v hx hk hp he ha hs = record { here = now; at = long; fits = hs; same = ap length now ∙ kept }
+    -- m more rows, written through the part of w from p to e
+    pub keeping-more : (j m a k p e e′ : ℕ) (w x : List ℕ) → Keeping size S s g j a w₀ w → x ≡ cat m (λ i. g (j + i))
+        → length (cat m (λ i. g (j + i))) ≡ k → p ≡ off size s + a → e ≡ p + k → a + k ≡ e′ → e′ ≤ size s
+        → Keeping size S s g (j + m) e′ w₀ (putMid p (e - p) w x)
+    keeping-more j m a k p e e′ w x v hx hk hp he ha hs = record { here = now; at = long; fits = hs; same = ap length now ∙ kept }
       where
+        more : List ℕ
+        more = cat m (λ i. g (j + i))
+
         body : List ℕ
         body = cat j g ++ drop a (sec size s w₀)
 
@@ -177,26 +180,34 @@ module _ (size : ℕ → ℕ) (S s : ℕ) (in-S : s < S) (w₀ : List ℕ) (h : 
         filled = whole j a (v .at) (v .fits)
 
         next : List ℕ
-        next = cat (j + 1) g ++ drop e′ (sec size s w₀)
+        next = cat (j + m) g ++ drop e′ (sec size s w₀)
 
-        long : length (cat (j + 1) g) ≡ e′
-        long = rw (add-one j, cat, length-append) (omega (arith, v .at))
+        long : length (cat (j + m) g) ≡ e′
+        long = ap length (sym (cat-add g j m)) ∙ length-append (cat j g) more ∙ (let q : length (cat j g) + length more ≡ e′ = omega (arith, v .at) in q)
 
         kept : length (putSec size s next w₀) ≡ length w₀
-        kept = length-putSec size S w₀ h s next in-S (whole (j + 1) e′ long hs) ∙ sym h
+        kept = length-putSec size S w₀ h s next in-S (whole (j + m) e′ long hs) ∙ sym h
 
-        row : putMid a k body x ≡ next
-        row =
-            ap (putMid a k body) hx ∙ over-put (cat j g) (g j) (sec size s w₀) a k (v .at)
-            ∙ ap₂ (λ (y : List ℕ) m. y ++ drop m (sec size s w₀)) (let q : cat j g ++ g j ≡ cat (j + 1) g = rw (add-one j) refl in q) ha
+        rows : putMid a k body x ≡ next
+        rows =
+            ap (putMid a k body) hx ∙ over-put (cat j g) more (sec size s w₀) a k (v .at)
+            ∙ ap₂ (λ (y : List ℕ) n. y ++ drop n (sec size s w₀)) (cat-add g j m) ha
 
         now : putMid p (e - p) w x ≡ putSec size s next w₀
         now =
-            ap₂ (λ b m. putMid b m w x) hp (let q : e - p ≡ k = omega arith in q)
+            ap₂ (λ b n. putMid b n w x) hp (let q : e - p ≡ k = omega arith in q)
             ∙ put-sec size S w (v .same ∙ h) s a k x in-S (omega arith)
             ∙ ap₂ (λ (y z : List ℕ). putSec size s (putMid a k y x) z) (ap (sec size s) (v .here) ∙ sec-same size S w₀ h s body in-S filled) (v .here)
-            ∙ ap (λ (y : List ℕ). putSec size s y (putSec size s body w₀)) row
+            ∙ ap (λ (y : List ℕ). putSec size s y (putSec size s body w₀)) rows
             ∙ putSec-twice size S w₀ h s next body in-S filled
+
+    -- one more row
+    pub keeping-turn : (j a k p e e′ : ℕ) (w x : List ℕ) → Keeping size S s g j a w₀ w → x ≡ g j → length (g j) ≡ k → p ≡ off size s + a → e ≡ p + k
+        → a + k ≡ e′ → e′ ≤ size s → Keeping size S s g (j + 1) e′ w₀ (putMid p (e - p) w x)
+    unfolding cat
+    keeping-turn j a k p e e′ w x v hx hk =
+        let one : g j ≡ cat 1 (λ i. g (j + i)) = ap g (sym (add-zero j)) in
+        keeping-more j 1 a k p e e′ w x v (hx ∙ one) (ap length (sym one) ∙ hk)
 
     pub keeping-end : (j n a : ℕ) (w : List ℕ) → Keeping size S s g j a w₀ w → j ≡ n → size s ≤ a → w ≡ putSec size s (cat n g) w₀
     keeping-end j n a w v hj ha =

@@ -1,0 +1,58 @@
+-- As `compress`: seven rounds, from the message words that the lane has.
+use mathlib.Core.Path.{refl, ap, _∙_}
+use mathlib.Core.List.{List}
+use Prim.Native.Nat.{ℕ}
+use Rattle.blake3_core.specs.Compress as S
+use Rattle.blake3.specs.declared.Digest.{Digest}
+use Rattle.blake3_core.proofs.Rounds.{turn}
+use Rattle.blake3_lanes.specs.Lanes.{digestOf}
+use borrow.Author.Needs.{needs}
+use Rattle.blake3_lanes.proofs.lane.Statement.{statement}
+use Rattle.blake3_lanes.proofs.lane.Tie as tie
+
+abbrev digest : List ℕ → Digest
+digest h = record { 0 = h }
+
+returns : tie.Need-returns
+unfolding digestOf S.compress S.rounds
+returns c =
+    let d7 = c .before .before in
+    let p6 = d7 .before .before .before .before .before .before in
+    let d6 = p6 .before .before in
+    let p5 = d6 .before .before .before .before .before .before in
+    let d5 = p5 .before .before in
+    let p4 = d5 .before .before .before .before .before .before in
+    let d4 = p4 .before .before in
+    let p3 = d4 .before .before .before .before .before .before in
+    let d3 = p3 .before .before in
+    let p2 = d3 .before .before .before .before .before .before in
+    let d2 = p2 .before .before in
+    let p1 = d2 .before .before .before .before .before .before in
+    let d1 = p1 .before .before in
+    let w1 = p1 .permute .ensures in
+    let w2 = p2 .permute2 .ensures ∙ ap S.permute w1 in
+    let w3 = p3 .permute3 .ensures ∙ ap S.permute w2 in
+    let w4 = p4 .permute4 .ensures ∙ ap S.permute w3 in
+    let w5 = p5 .permute5 .ensures ∙ ap S.permute w4 in
+    let w6 = p6 .permute6 .ensures ∙ ap S.permute w5 in
+    ap digest (
+    c .fold .ensures
+    ∙ ap S.fold
+    (turn _ w6 (d7 .before .before .before .columns7 .ensures) (d7 .diagonals7 .ensures) ∙ ap (S.round _)
+    (turn _ w5 (d6 .before .before .before .columns6 .ensures) (d6 .diagonals6 .ensures) ∙ ap (S.round _)
+    (turn _ w4 (d5 .before .before .before .columns5 .ensures) (d5 .diagonals5 .ensures) ∙ ap (S.round _)
+    (turn _ w3 (d4 .before .before .before .columns4 .ensures) (d4 .diagonals4 .ensures) ∙ ap (S.round _)
+    (turn _ w2 (d3 .before .before .before .columns3 .ensures) (d3 .diagonals3 .ensures) ∙ ap (S.round _)
+    (turn _ w1 (d2 .before .before .before .columns2 .ensures) (d2 .diagonals2 .ensures) ∙ ap (S.round _)
+    (turn _ refl (d1 .before .before .before .columns .ensures) (d1 .diagonals .ensures) ∙ ap (S.round _)
+    (d1 .before .before .before .before .before .before .start .ensures)))))))))
+
+pub lane-spec : {M : Type 1} → statement M
+lane-spec =
+    tie.close
+    (tie.spec
+    (λ c. search needs) (λ c. search needs) (λ c κs. search needs) (λ c κs. search needs) (λ c κs. search needs) (λ c κs. search needs) (λ c κs. search needs)
+    (λ c κs. search needs) (λ c κs. search needs) (λ c κs. search needs) (λ c κs. search needs) (λ c κs. search needs)
+    (λ c κs. search needs) (λ c κs. search needs) (λ c κs. search needs) (λ c κs. search needs) (λ c κs. search needs)
+    (λ c κs. search needs) (λ c κs. search needs) (λ c κs. search needs) (λ c κs. search needs) (λ c κs. search needs)
+    (λ c κs. search needs) (λ c κs. search needs) returns)
