@@ -12,7 +12,7 @@ use lib.Seq.{length-take-le, take-nil, take-take, drop-drop}
 use lib.Dec.{ltb, leb}
 use borrow.Author.Tests.{le-leb, lt-leb, leb-true, leb-false, ltb-true, ltb-false}
 use Rattle.lists.specs.Pick.{pick}
-use Rattle.lists.specs.Sect.{get}
+use Rattle.lists.specs.Sect.{get, drop-take}
 use Rattle.blake3_node.specs.Node.{chunk, parent, CHUNK-LEN}
 use Rattle.blake3.specs.Tree.{chunks, powerBelow, leftChunks, treeIn, tree}
 
@@ -88,13 +88,6 @@ module _ (n k : ℕ) (h : CHUNK-LEN < n) (p : Largest (chunks n) k) where
 
 pub length-get : (from len : ℕ) (m : List ℕ) → from + len ≤ length m → length (get from len m) ≡ len
 length-get from len m h = length-take-le len (drop from m) (omega (arith, length-drop from m))
-
-drop-take : (n len : ℕ) (l : List ℕ) → n ≤ len → drop n (take len l) ≡ take (len - n) (drop n l)
-drop-take zero len l h = let e : len ≡ len - 0 = omega arith in ap (λ (k : ℕ). take k l) e
-drop-take (suc n) zero l h = absurd (omega arith)
-drop-take (suc n) (suc len) [] h = sym (take-nil (suc len - suc n))
-drop-take (suc n) (suc len) (a ∷ l) h =
-    let e : len - n ≡ suc len - suc n = omega arith in drop-take n len l (omega arith) ∙ ap (λ (k : ℕ). take k (drop n l)) e
 
 drop-get : (from len n : ℕ) (m : List ℕ) → n ≤ len → drop n (get from len m) ≡ get (from + n) (len - n) m
 drop-get from len n m h = drop-take n len (drop from m) h ∙ ap (take (len - n)) (drop-drop n from m)

@@ -7,6 +7,7 @@ use native.Mathlib.Nat.{zero-add, suc-add}
 use native.Mathlib.Omega.{arith}
 use lib.ListN.{length, getD, take, drop, length-append}
 use lib.Seq.{take-at, drop-at, getD-take, getD-drop, take-take, take-all, take-nil, drop-drop, take-length}
+use Rattle.lists.specs.Sect.{drop-take-add}
 use Rattle.lists.specs.Over.{tab, cat}
 use Rattle.lists.specs.Tab.{tab-getD}
 use Rattle.algebra.specs.Group.{num, odd, odd-num}
@@ -24,11 +25,6 @@ unfolding cat tab
 cat-tab zero f = refl
 cat-tab (suc n) f = ap (λ (x : List ℕ). x ++ (f n ∷ [])) (cat-tab n f)
 
-drop-take : (k j : ℕ) (l : List ℕ) → drop k (take (k + j) l) ≡ take j (drop k l)
-drop-take zero j l = rw (zero-add j)
-drop-take (suc k) j [] = rw (suc-add k j, take-nil {A = ℕ} j)
-drop-take (suc k) j (b ∷ l) = rw (suc-add k j) (drop-take k j l)
-
 -- ---- the n elements from a on are x
 module _ (m x : List ℕ) (n a : ℕ) (e : take n (drop a m) ≡ x) where
   pub byte-in : (k p : ℕ) → p ≡ a + k → k < n → getD m p 0 ≡ getD x k 0
@@ -43,8 +39,8 @@ module _ (m x : List ℕ) (n a : ℕ) (e : take n (drop a m) ≡ x) where
 
   pub part-in : (k j p : ℕ) → p ≡ a + k → k + j ≤ n → take j (drop p m) ≡ take j (drop k x)
   part-in k j p q l =
-      ap (λ i. take j (drop i m)) q ∙ ap (take j) (sym (drop-drop k a m)) ∙ sym (drop-take k j (drop a m))
-      ∙ ap (drop k) (sym (take-take (k + j) n (drop a m) l)) ∙ ap (λ (s : List ℕ). drop k (take (k + j) s)) e ∙ drop-take k j x
+      ap (λ i. take j (drop i m)) q ∙ ap (take j) (sym (drop-drop k a m)) ∙ sym (drop-take-add k j (drop a m))
+      ∙ ap (drop k) (sym (take-take (k + j) n (drop a m) l)) ∙ ap (λ (s : List ℕ). drop k (take (k + j) s)) e ∙ drop-take-add k j x
 
 -- ---- the fields of one item
 pub bitBlock-block : (b : Bool) (x : Block) → Small x → blockAt (bitBlock b x) 1 ≡ x

@@ -16,23 +16,16 @@ use Rattle.lists.specs.Pick.{pick}
 use Rattle.lists.specs.Over.{cat, length-cat}
 use Rattle.lists.specs.All.{true-false}
 use Rattle.lists.specs.Rows.{cat-part, chunk, chunk-cat, cat-ext}
-use Rattle.lists.specs.Sect.{get, put, length-put, get-put-same, get-put-before, get-put-after}
+use Rattle.lists.specs.Sect.{get, put, length-put, get-put-same, get-put-before, get-put-after, drop-take-add}
 use Rattle.engine.specs.Step.{stretch}
 
 -- ---- parts of parts
 module _ {A : Type 0} where
-  drop-take : (a m : ℕ) (x : List A) → drop a (take (a + m) x) ≡ take m (drop a x)
-  drop-take zero m x = ap (λ j. take j x) (let e : 0 + m ≡ m = omega arith in e)
-  drop-take (suc a) m [] = ap (drop (suc a)) (take-nil (suc a + m)) ∙ sym (take-nil m)
-  drop-take (suc a) m (y ∷ x) =
-      let e : suc a + m ≡ suc (a + m) = omega arith in
-      ap (λ j. drop (suc a) (take j (y ∷ x))) e ∙ drop-take a m x
-
   -- k elements from a on, of the m elements from o on
   pub get-get : (o m a k : ℕ) (w : List A) → a + k ≤ m → get a k (get o m w) ≡ get (o + a) k w
   get-get o m a k w h =
       ap (λ j. take k (drop a (take j (drop o w)))) (let e : m ≡ a + (m - a) = omega arith in e)
-      ∙ ap (take k) (drop-take a (m - a) (drop o w))
+      ∙ ap (take k) (drop-take-add a (m - a) (drop o w))
       ∙ take-take k (m - a) (drop a (drop o w)) (omega arith)
       ∙ ap (take k) (drop-drop a o w)
 
