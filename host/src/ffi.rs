@@ -1,4 +1,4 @@
-//! include/nuzsdike.h, word for word. Nothing but lib.rs uses it; its safe wrapper says what each call needs.
+//! include/nuzsdike.h, word for word. Nothing but lib.rs uses it, whose safe wrapper says what each call needs, and oracle/beside.
 
 // The library is compiled for x86-64: size_t is u64 there, and usize.
 #[cfg(not(target_pointer_width = "64"))]
@@ -11,7 +11,7 @@ pub fn number(x: usize) -> u32 {
     u32::try_from(x).unwrap_or(u32::MAX)
 }
 
-extern "C" {
+unsafe extern "C" {
     pub fn nuzsdike_open(
         session: *mut u32,
         session_len: usize,

@@ -3,89 +3,17 @@
 
 use oracle::Party;
 
-mod c {
-    // Not bundled, so that what needs no session links without it.
-    #[link(name = "nuzsdike", kind = "static", modifiers = "-bundle")]
-    unsafe extern "C" {
-        pub fn nuzsdike_open(
-            session: *mut u32,
-            session_len: usize,
-            n: u32,
-            i: u32,
-            l: u32,
-            delta: *const u8,
-            delta_len: usize,
-            seed: *const u8,
-            seed_len: usize,
-            pairs: *const u8,
-            pairs_len: usize,
-            bits: *const u8,
-            bits_len: usize,
-            alpha: *const u8,
-            alpha_len: usize,
-            beta: *const u8,
-            beta_len: usize,
-            masks: *const u8,
-            masks_len: usize,
-            work: *mut u8,
-            work_len: usize,
-            out: *mut u8,
-            out_len: usize,
-        ) -> u64;
-        pub fn nuzsdike_round(
-            session: *mut u32,
-            session_len: usize,
-            round: u32,
-            incoming: *const u8,
-            incoming_len: usize,
-            starts: *const usize,
-            starts_len: usize,
-            lens: *const usize,
-            lens_len: usize,
-            missing: *const u8,
-            missing_len: usize,
-            r: *const u8,
-            r_len: usize,
-            perm: *const u32,
-            perm_len: usize,
-            work: *mut u8,
-            work_len: usize,
-            out: *mut u8,
-            out_len: usize,
-        ) -> u64;
-        pub fn nuzsdike_combine(
-            n: u32,
-            i: u32,
-            count: u32,
-            triples: *const u8,
-            triples_len: usize,
-            d: *const u8,
-            d_len: usize,
-            out: *mut u8,
-            out_len: usize,
-        ) -> u64;
-        pub fn nuzsdike_work_len(n: u32, l: u32) -> usize;
-        pub fn nuzsdike_out_len(n: u32, l: u32, round: u32) -> usize;
-        pub fn nuzsdike_message_len(n: u32, l: u32, round: u32) -> usize;
-        pub fn nuzsdike_bits_len(n: u32, l: u32) -> usize;
-        pub fn nuzsdike_shares_len(n: u32, l: u32) -> usize;
-        pub fn nuzsdike_masks_len(n: u32, l: u32) -> usize;
-        pub fn nuzsdike_pairs_len(n: u32) -> usize;
-        pub fn nuzsdike_r_len(n: u32, l: u32, round: u32) -> usize;
-        pub fn nuzsdike_perm_len(n: u32, l: u32, round: u32) -> usize;
-        pub fn nuzsdike_record_len(n: u32) -> usize;
-        pub fn nuzsdike_bucket_size(l: u32) -> u32;
-        pub fn nuzsdike_joint_seed_at(n: u32, l: u32) -> usize;
-        pub fn nuzsdike_pairwise_seeds_at(n: u32, l: u32) -> usize;
-        pub fn nuzsdike_next_round(n: u32, round: u32) -> u32;
-        pub fn nuzsdike_due(session: *const u32, session_len: usize) -> u32;
-    }
-}
+// The kit's declarations of the same header; what the Rust has no counterpart for goes unused here.
+#[allow(dead_code)]
+#[path = "../../../host/src/ffi.rs"]
+mod c;
 
-/// What 32 bits do not hold is above every limit, and so is the largest that they hold.
-fn number(x: usize) -> u32 {
-    u32::try_from(x).unwrap_or(u32::MAX)
-}
+pub use c::SESSION;
+use c::number;
+
+// Not bundled, so that what needs no session links without it.
+#[link(name = "nuzsdike", kind = "static", modifiers = "-bundle")]
+unsafe extern "C" {}
 
 pub fn open(
     session: &mut [u32],

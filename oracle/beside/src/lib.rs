@@ -92,7 +92,7 @@ pub fn lengths(s: &Session) -> Vec<String> {
 struct Host<'a> {
     s: &'a Session,
     i: usize,
-    session: [u32; 4],
+    session: [u32; ffi::SESSION],
     work: Vec<u8>,
     out: Vec<u8>,
 }
