@@ -68,7 +68,11 @@ pub fn lengths(s: &Session) -> Vec<String> {
     is("record", ffi::record_bytes(n), record_len(n));
     is("bucket", ffi::bucket_size(l), s.b());
     is("joint seed", ffi::joint_seed_at(n, l), section(s, 8).start);
-    is("pairwise seeds", ffi::pairwise_seeds_at(n, l), section(s, 10).start);
+    is(
+        "pairwise seeds",
+        ffi::pairwise_seeds_at(n, l),
+        section(s, 10).start,
+    );
     let all: Vec<u8> = rounds(n).collect();
     let (r_due, perm_due) = (5, if n == 2 { 19 } else { 20 });
     let mut before = 0;
