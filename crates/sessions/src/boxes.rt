@@ -104,7 +104,7 @@ fn open(t: &mut Table, n: usize, i: usize, l: usize) {
     note(t, a, i, 0);
 }
 
-pub fn open_all(t: &mut Table, n: usize, l: usize) {
+pub(crate) fn open_all(t: &mut Table, n: usize, l: usize) {
     let mut i = 0;
     while i < n {
         open(t, n, i, l);
@@ -124,7 +124,7 @@ fn message_len(n: usize, l: usize, k: usize) -> usize {
 }
 
 // How many bytes a box sends for round k.
-pub fn sent_len(n: usize, l: usize, k: usize) -> usize
+pub(crate) fn sent_len(n: usize, l: usize, k: usize) -> usize
     ensures { λ r. ⌜ r ≤ 7696 ⌝ }
 {
     let len = crate::table::least(message_len(n, l, k), 3848);
@@ -261,7 +261,7 @@ fn call_open(t: &mut Table, p: Play, i: usize, k: usize) {
 }
 
 // The calls for round k of the boxes that did not refuse yet.
-pub fn call_all(t: &mut Table, p: Play, k: usize) {
+pub(crate) fn call_all(t: &mut Table, p: Play, k: usize) {
     let n = p.n;
     let mut i = 0;
     while i < n {
@@ -271,7 +271,7 @@ pub fn call_all(t: &mut Table, p: Play, k: usize) {
 }
 
 // What the boxes wrote is sent.
-pub fn send_all(t: &mut Table, n: usize) {
+pub(crate) fn send_all(t: &mut Table, n: usize) {
     let mut i = 0;
     while i < n {
         let room = crate::table::room(i);

@@ -256,7 +256,7 @@ fn permutation(t: &mut Table, len: usize, x: u64)
 // ---- all
 
 // All boxes' inputs, r and the permutation.
-pub fn inputs(t: &mut Table, n: usize, l: usize)
+pub(crate) fn inputs(t: &mut Table, n: usize, l: usize)
     requires { ⌜ (n ≤ 3) × (l ≤ 2) ⌝ }
 {
     let a = deltas(t, n, start(n, l, 32));

@@ -19,7 +19,7 @@ fn number(xs: [usize; 4], q: usize) {
 }
 
 // Prints a line, with a number in the place of each '#'.
-pub fn say(line: &[u8], xs: [usize; 4]) {
+pub(crate) fn say(line: &[u8], xs: [usize; 4]) {
     let mut from = 0;
     let mut count = 0;
     let mut q = 0;
@@ -84,7 +84,7 @@ fn digests(t: &Table, place: usize, n: usize, len: usize)
 }
 
 // Round k, and what each box sent for it.
-pub fn round(t: &Table, n: usize, len: usize, k: usize) {
+pub(crate) fn round(t: &Table, n: usize, len: usize, k: usize) {
     say(b"# ", [k, 0, 0, 0]);
     name(k);
     digests(t, crate::table::SENT, n, len);
@@ -194,7 +194,7 @@ fn positions(t: &Table, n: usize, len: usize)
     }
 }
 
-pub fn results(t: &Table, n: usize, len: usize)
+pub(crate) fn results(t: &Table, n: usize, len: usize)
     requires { ⌜ (n ≤ 3) × (len ≤ 200) ⌝ }
 {
     text(b"results");
@@ -219,7 +219,7 @@ fn zeroed(t: &Table, n: usize, l: usize) -> bool {
 }
 
 // What a box sent in all, and the work areas.
-pub fn left(t: &Table, n: usize, l: usize, sum: usize) {
+pub(crate) fn left(t: &Table, n: usize, l: usize, sum: usize) {
     if zeroed(t, n, l) {
         say(
             b"a box sent # bytes; the work areas are zero\n",
@@ -257,7 +257,7 @@ fn end(t: &Table, i: usize) {
     }
 }
 
-pub fn ends(t: &Table, n: usize) {
+pub(crate) fn ends(t: &Table, n: usize) {
     let mut i = 0;
     while i < n {
         end(t, i);

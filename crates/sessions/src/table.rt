@@ -33,37 +33,37 @@ pub const WORK_LEN: usize = 43400;
 pub const OUT_LEN: usize = 7696;
 
 // Where the room of box i starts.
-pub fn room(i: usize) -> usize
+pub(crate) fn room(i: usize) -> usize
     ensures { λ r. ⌜ r ≤ 155610 ⌝ }
 {
     if i < 3 { 77805 * i } else { 0 }
 }
 
-pub fn least(a: usize, b: usize) -> usize
+pub(crate) fn least(a: usize, b: usize) -> usize
     ensures { λ r. ⌜ r ≤ b ⌝ }
 {
     if a < b { a } else { b }
 }
 
-pub fn get(t: &Table, at: usize) -> u8 {
+pub(crate) fn get(t: &Table, at: usize) -> u8 {
     if at < 237265 { t[at] } else { 0 }
 }
 
-pub fn put(t: &mut Table, at: usize, b: u8) {
+pub(crate) fn put(t: &mut Table, at: usize, b: u8) {
     if at < 237265 {
         t[at] = b;
     }
 }
 
 // A number of box i's log.
-pub fn noted(t: &Table, i: usize, place: usize) -> usize
+pub(crate) fn noted(t: &Table, i: usize, place: usize) -> usize
     requires { ⌜ place ≤ 77804 ⌝ }
 {
     get(t, room(i) + place) as usize
 }
 
 // `len` bytes; none where there aren't as many.
-pub fn part(s: &[u8], at: usize, len: usize) -> &[u8] {
+pub(crate) fn part(s: &[u8], at: usize, len: usize) -> &[u8] {
     if s.len() < at {
         return &s[0..0];
     }
@@ -74,7 +74,7 @@ pub fn part(s: &[u8], at: usize, len: usize) -> &[u8] {
     &s[at..e]
 }
 
-pub fn copy(t: &mut Table, to: usize, from: usize, len: usize)
+pub(crate) fn copy(t: &mut Table, to: usize, from: usize, len: usize)
     requires { ⌜ (to + len ≤ 237265) × (from + len ≤ 237265) ⌝ }
 {
     let mut q = 0;
@@ -85,7 +85,7 @@ pub fn copy(t: &mut Table, to: usize, from: usize, len: usize)
 }
 
 // Out of the table, and into it.
-pub fn load(s: &mut [u8], t: &Table, from: usize)
+pub(crate) fn load(s: &mut [u8], t: &Table, from: usize)
     requires { ⌜ from ≤ 237265 ⌝ }
 {
     let mut q = 0;
@@ -95,7 +95,7 @@ pub fn load(s: &mut [u8], t: &Table, from: usize)
     }
 }
 
-pub fn store(t: &mut Table, to: usize, s: &[u8])
+pub(crate) fn store(t: &mut Table, to: usize, s: &[u8])
     requires { ⌜ to ≤ 237265 ⌝ }
 {
     let mut q = 0;
@@ -106,7 +106,7 @@ pub fn store(t: &mut Table, to: usize, s: &[u8])
 }
 
 // Whether there is nothing but b.
-pub fn only(s: &[u8], b: u8) -> bool {
+pub(crate) fn only(s: &[u8], b: u8) -> bool {
     let mut good = true;
     let mut q = 0;
     while q < s.len() {
