@@ -4,7 +4,7 @@
 // at a time. That needs words of 32 bits alone in it (`Words`, `Digest`), 64 turns, and `lane` called at one place: `compress`, which many call,
 // would stay a call. The words of the message that are 0 are constants there, and their additions go.
 ghost use mathlib.Core.Path.{_≡_};
-ghost use Prim.Native.Nat.{_*_};
+ghost use Prim.Native.Nat.{_*_, _<_, _≤_};
 ghost use lib.ListN.{length, getD};
 ghost use Rattle.lists.specs.Over.{tab, cat};
 ghost use Rattle.blake3_lanes.specs.Lanes as S;
@@ -125,6 +125,14 @@ fn window(out: &mut [u8], blocks: &[u8])
         d.store(&mut out[a..e]);
         t += 1;
     }
+}
+
+// How many of the Blocks that are left are hashed next, where they come in windows: as many as there are lanes, or all.
+pub fn at_once(left: usize) -> usize
+    requires { ⌜ 0 < left ⌝ }
+    ensures { λ r. ⌜ (0 < r) × (r ≤ left) × (r ≤ S.LANES) ⌝ }
+{
+    if left < LANES { left } else { LANES }
 }
 
 // The hashes of `count` Blocks that lie side by side: window by window, then what is left one by one.

@@ -1,4 +1,4 @@
--- What the functions of rounds 15, 17 and 19 may assume of what they are given.
+-- What the functions of round 15 may assume of what they are given.
 use mathlib.Core.Path.{_≡_}
 use mathlib.Core.List.{List}
 use Prim.Native.Nat.{ℕ, _*_}
@@ -8,12 +8,7 @@ use Rattle.plan.specs.Plan.{leaky, bitsCount}
 use Rattle.rounds.specs.Area.{leakyLen}
 use Rattle.haand.specs.Given.{Ranges}
 
--- box i of n, with l, and its h of every position
-pub record Hashes (n i l : ℕ) (hs : List ℕ) : Type 0 where
-  pub ranges : Ranges n i l
-  pub blocks : length hs ≡ leaky l * 16
-
--- its records, and the rows that `fhaand` kept of each position
+-- box i of n, with l, its records, and the rows that `fhaand` kept of each position
 pub record Kept (n i l : ℕ) (recs rows zs : List ℕ) : Type 0 where
   pub ranges : Ranges n i l
   pub records : length recs ≡ bitsCount l * recordLen n

@@ -24,7 +24,8 @@ hashesAt f rows zs t = blocks .op (R.keyHash f rows t) (R.macHash zs t)
 -- u and phi where x is 1, and delta where z is 1
 unfoldable pub maskedAt : Frame → Block → Bool → List ℕ → List ℕ → (ℕ → List ℕ) → ℕ → Block
 maskedAt f delta x rows zs m t =
-    blocks .op (sel blocks x (blocks .op (others blocks (f .i) (f .n) (λ k. uTold m k t)) (R.phiAt f rows t))) (sel blocks (R.zAt zs t) delta)
+    blocks .op (sel blocks x (blocks .op (others blocks (f .i) (f .n) (λ k. uTold m k t)) (R.phiAt f rows t)))
+    (sel blocks (R.zAt zs t) delta)
 
 -- (z + h) + ((b + c) + e) is ((z + b) + h) + (c + e)
 sorted : {A : Type 0} (G : XorGroup A) (z h b c e : A) → G .op (G .op z h) (G .op (G .op b c) e) ≡ G .op (G .op (G .op z b) h) (G .op c e)

@@ -1,5 +1,4 @@
 pub mod Given
-pub mod Laws
 pub mod KeptLaws
 pub mod HLaws
 pub mod AreaLaws

@@ -165,7 +165,7 @@ fn judge_hs(
     ensures { λ r. ⌜ Finds (r .code) (r .party) (Flaand.hFaults (frame n l i) (Area.at (frame n l i) Area.HS (now (work .entry)))
         (Area.at (frame n l i) Area.H-COMMS (now (work .entry))) (letter (now (incoming .entry)) (now (starts .entry)) (now (lens .entry)))) ⌝ }
 {
-    flaand::check_hs(
+    flaand_hash::check_hs(
         area::section(work, n, i, l, HS),
         area::section(work, n, i, l, H_COMMS),
         incoming,
@@ -468,7 +468,7 @@ fn keep_h_comms(
 {
     let a = area::section_at(n, l, H_COMMS);
     let e = a + area::section_len(n, l, H_COMMS);
-    flaand::keep_h_comms(&mut work[a..e], incoming, starts, lens, n, i, l);
+    flaand_comm::keep_h_comms(&mut work[a..e], incoming, starts, lens, n, i, l);
 }
 
 // What is kept of the messages of round k, in which no fault was found.

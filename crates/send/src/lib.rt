@@ -75,7 +75,7 @@ fn hold_h_comms(work: &mut [u8], n: usize, i: usize, l: usize)
 {
     let hs = area::section_at(n, l, HS);
     let comms = area::section_at(n, l, H_COMMS);
-    flaand::hold_h_comms(work, hs, comms, n, i, l);
+    flaand_comm::hold_h_comms(work, hs, comms, n, i, l);
 }
 
 // Round 21: the permutation.
@@ -181,7 +181,7 @@ fn write_h_comms(out: &mut [u8], work: &[u8], n: usize, i: usize, l: usize)
     let len = plan::leaky(l) * 32;
     let a = i * len;
     let e = a + len;
-    flaand::write_h_comms(out, &rows[a..e], n, i, l);
+    flaand_comm::write_h_comms(out, &rows[a..e], n, i, l);
 }
 
 // Round 21.
@@ -225,7 +225,7 @@ pub fn write(
         14 => write_haand(out, work, n, i, l),
         15 => write_flaand(out, work, n, i, l),
         17 => write_h_comms(out, work, n, i, l),
-        19 => flaand::write_hs(out, area::section(work, n, i, l, HS), n, i, l),
+        19 => flaand_hash::write_hs(out, area::section(work, n, i, l, HS), n, i, l),
         21 => write_dvalues(out, work, n, i, l),
         22 => beaver::write_faand(out, work, n, i, l),
         _ => {}

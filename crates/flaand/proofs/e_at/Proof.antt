@@ -1,5 +1,4 @@
 use mathlib.Core.Path.{ap, ap₂, _∙_}
-use Prim.Native.Nat.{_+_, _*_}
 use native.Mathlib.Omega.{arith}
 use denote.Ref.{now}
 use Rattle.algebra.specs.Group.{addb}
@@ -9,7 +8,6 @@ use Rattle.rounds.specs.Haand as R
 use Rattle.rounds.specs.Flaand as F
 use Rattle.haand.specs.GivenLaws.{position-most, r-in}
 use Rattle.flaand.specs.KeptLaws.{asked, z-in, xor-addb}
-use borrow.Author.Needs.{needs}
 use Rattle.flaand.proofs.e_at.Statement.{statement}
 use Rattle.flaand.proofs.e_at.Tie as tie
 
@@ -34,7 +32,8 @@ unfolding F.e R.r R.zAt shareAt
 returns c =
     let b = c .before .before in
     let a = b .before .before .before .before .args in
-    xor-addb (b .bit .result) (c .bit-at .result) ∙ ap₂ addb (b .bit .ensures) (c .bit-at .ensures ∙ ap (bitAt (now (a .recs))) (c .before .r-at .ensures))
+    xor-addb (b .bit .result) (c .bit-at .result)
+    ∙ ap₂ addb (b .bit .ensures) (c .bit-at .ensures ∙ ap (bitAt (now (a .recs))) (c .before .r-at .ensures))
 
 pub e-at-spec : {M : Type 1} → statement M
 e-at-spec =

@@ -1,8 +1,7 @@
 use mathlib.Core.Path.{_≡_, ap, ap₂, _∙_}
 use mathlib.Core.Bool.{Bool}
-use Prim.Native.Nat.{ℕ, _+_, _*_, _≤_}
+use Prim.Native.Nat.{_*_}
 use native.Mathlib.Omega.{arith}
-use lib.ListN.{length}
 use denote.Ref.{now}
 use Rattle.algebra.specs.Group.{XorGroup}
 use Rattle.algebra.specs.Sum.{others}
@@ -35,8 +34,10 @@ r-at-requires c κs =
 
 z-terms-requires : tie.Need-z-terms-requires
 z-terms-requires c κs =
-    let s = c .before .before .before .before .before .before .before .before .before in
-    ((s .pre .0 .0 .ranges .eight, s .pre .0 .1), (rw (c .r-at .ensures) (r-in (asked (s .pre .0 .0) (s .args .t) (s .pre .0 .1))), s .pre .1))
+    let s = c .before .before .before .before .before .before .before .before .before in (
+      (s .pre .0 .0 .ranges .eight, s .pre .0 .1),
+      (rw (c .r-at .ensures) (r-in (asked (s .pre .0 .0) (s .args .t) (s .pre .0 .1))), s .pre .1),
+    )
 
 masked-requires : tie.Need-masked-requires
 masked-requires c κs =
@@ -51,12 +52,14 @@ returns c =
     let a = b .before .before .before .before .before .before .before .before .args in
     let f : Frame = frame (a .n) (a .l) (a .i) in
     let m = letter (now (a .incoming)) (now (a .starts)) (now (a .lens)) in
-    let x : b .bit-at .result ≡ bitAt (now (a .recs)) (a .t * recordLen (a .n)) = b .bit-at .ensures ∙ ap (bitAt (now (a .recs))) (b .before .x-at .ensures) in
+    let x : b .bit-at .result ≡ bitAt (now (a .recs)) (a .t * recordLen (a .n)) =
+    b .bit-at .ensures ∙ ap (bitAt (now (a .recs))) (b .before .x-at .ensures) in
     c .xor2 .ensures
     ∙ ap₂ (blocks .op)
     (c .before .before .xor .ensures
     ∙ ap₂ (blocks .op)
-    (y .z-terms .ensures ∙ ap (λ at. others blocks (a .i) (a .n) (zTerm (now (a .recs)) at (a .delta .0) m (a .t))) (y .before .r-at .ensures))
+    (y .z-terms .ensures ∙ ap (λ at. others blocks (a .i) (a .n) (zTerm (now (a .recs)) at (a .delta .0) m (a .t)))
+    (y .before .r-at .ensures))
     (c .before .before .before .hashes .ensures))
     (c .before .masked .ensures ∙ ap (λ (z : Bool). maskedAt f (a .delta .0) z (now (a .rows)) (now (a .zs)) m (a .t)) x)
     ∙ h-parts f (a .delta .0) (now (a .recs)) (now (a .rows)) (now (a .zs)) m (a .t)

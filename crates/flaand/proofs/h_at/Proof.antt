@@ -8,7 +8,7 @@ use Rattle.plan.specs.Plan.{leaky}
 use Rattle.engine.specs.declared.Frame.{Frame}
 use Rattle.engine.specs.Step.{frame}
 use Rattle.engine.specs.Area.{sec}
-use Rattle.rounds.specs.Area.{BITS, LEAKY, ZS, leakyLen, sizeOf, at}
+use Rattle.rounds.specs.Area.{BITS, LEAKY, ZS, sizeOf, at}
 use Rattle.rounds.specs.Mail.{letter}
 use Rattle.rounds.specs.Loops.{part-sec}
 use Rattle.rounds.specs.Flaand as F
@@ -50,14 +50,23 @@ module _ (c : tie.After-leaky2) where
   zs-in : start .args .zs + c .leaky2 .result * 17 ≤ length (now (start .args .work))
   zs-in = omega (arith, zs-inside (start .pre .0 .0) (start .args .zs) (start .pre .1 .0 .1 .1), zs-is, size-zs f)
 
-  bits-sec : (e : ℕ) → e ≡ start .args .recs + bits → take (e - start .args .recs) (drop (start .args .recs) (now (start .args .work))) ≡ sec (sizeOf f) BITS (now (start .args .work))
-  bits-sec e he = part-sec (sizeOf f) BITS (start .args .recs) e (now (start .args .work)) (start .pre .1 .0 .0) (he ∙ ap (λ m. start .args .recs + m) bits-is)
+  bits-sec : (e : ℕ) → e ≡ start .args .recs + bits
+      → take (e - start .args .recs) (drop (start .args .recs) (now (start .args .work))) ≡ sec (sizeOf f) BITS (now (start .args .work))
+  bits-sec e he =
+      part-sec (sizeOf f) BITS (start .args .recs) e (now (start .args .work)) (start .pre .1 .0 .0)
+      (he ∙ ap (λ m. start .args .recs + m) bits-is)
 
-  rows-sec : (e : ℕ) → e ≡ start .args .rows + rows → take (e - start .args .rows) (drop (start .args .rows) (now (start .args .work))) ≡ sec (sizeOf f) LEAKY (now (start .args .work))
-  rows-sec e he = part-sec (sizeOf f) LEAKY (start .args .rows) e (now (start .args .work)) (start .pre .1 .0 .1 .0) (he ∙ ap (λ m. start .args .rows + m) rows-is)
+  rows-sec : (e : ℕ) → e ≡ start .args .rows + rows
+      → take (e - start .args .rows) (drop (start .args .rows) (now (start .args .work))) ≡ sec (sizeOf f) LEAKY (now (start .args .work))
+  rows-sec e he =
+      part-sec (sizeOf f) LEAKY (start .args .rows) e (now (start .args .work)) (start .pre .1 .0 .1 .0)
+      (he ∙ ap (λ m. start .args .rows + m) rows-is)
 
-  zs-sec : (e : ℕ) → e ≡ start .args .zs + c .leaky2 .result * 17 → take (e - start .args .zs) (drop (start .args .zs) (now (start .args .work))) ≡ sec (sizeOf f) ZS (now (start .args .work))
-  zs-sec e he = part-sec (sizeOf f) ZS (start .args .zs) e (now (start .args .work)) (start .pre .1 .0 .1 .1) (he ∙ ap (λ m. start .args .zs + m) zs-is)
+  zs-sec : (e : ℕ) → e ≡ start .args .zs + c .leaky2 .result * 17
+      → take (e - start .args .zs) (drop (start .args .zs) (now (start .args .work))) ≡ sec (sizeOf f) ZS (now (start .args .work))
+  zs-sec e he =
+      part-sec (sizeOf f) ZS (start .args .zs) e (now (start .args .work)) (start .pre .1 .0 .1 .1)
+      (he ∙ ap (λ m. start .args .zs + m) zs-is)
 
 add-recs-end : tie.Need-add-recs-end
 add-recs-end c =
@@ -69,7 +78,11 @@ rows-fit : (c : tie.After-leaky-len) → let s = c .before .before .before .befo
     s .args .rows + c .before .leaky .result * c .leaky-len .result ≤ length (now (s .args .work))
 rows-fit c =
     let s = c .before .before .before .before .before .before .before in
-    omega (arith, rows-inside (s .pre .0 .0) (s .args .rows) (s .pre .1 .0 .1 .0), ap₂ _*_ (c .before .leaky .ensures) (c .leaky-len .ensures))
+    omega (
+      arith,
+      rows-inside (s .pre .0 .0) (s .args .rows) (s .pre .1 .0 .1 .0),
+      ap₂ _*_ (c .before .leaky .ensures) (c .leaky-len .ensures),
+    )
 
 mul-rows-end : tie.Need-mul-rows-end
 mul-rows-end c = omega (arith, rows-fit c)
@@ -106,7 +119,8 @@ returns c =
     let m = letter (now (a .incoming)) (now (a .starts)) (now (a .lens)) in
     let w = now (a .work) in
     c .h .ensures
-    ∙ ap₂ (λ (x z : List ℕ). F.h (f y) (a .delta .0) x (take (a .rows + rows y - a .rows) (drop (a .rows) w)) z m (a .t)) (bits-sec y _ refl) (zs-sec y _ refl)
+    ∙ ap₂ (λ (x z : List ℕ). F.h (f y) (a .delta .0) x (take (a .rows + rows y - a .rows) (drop (a .rows) w)) z m (a .t))
+    (bits-sec y _ refl) (zs-sec y _ refl)
     ∙ ap (λ (x : List ℕ). F.h (f y) (a .delta .0) (sec (sizeOf (f y)) BITS w) x (sec (sizeOf (f y)) ZS w) m (a .t)) (rows-sec y _ refl)
 
 pub h-at-spec : {M : Type 1} → statement M

@@ -1,5 +1,5 @@
-use mathlib.Core.Path.{_≡_, ap, ap₂, _∙_}
-use Prim.Native.Nat.{ℕ, _+_, _*_, _≤_}
+use mathlib.Core.Path.{ap, ap₂, _∙_}
+use Prim.Native.Nat.{_+_, _*_, _≤_}
 use native.Mathlib.Omega.{arith}
 use lib.ListN.{length}
 use denote.Ref.{now}
@@ -17,7 +17,8 @@ use Rattle.flaand.proofs.hashes.Tie as tie
 leaky-len-requires : tie.Need-leaky-len-requires
 leaky-len-requires c κs = c .before .before .before .pre .0 .ranges .eight
 
-read-in : (c : tie.After-leaky-len) → let a = c .before .before .before .before .args in a .t * c .leaky-len .result + 16 + 16 ≤ length (now (a .rows))
+read-in : (c : tie.After-leaky-len)
+    → let a = c .before .before .before .before .args in a .t * c .leaky-len .result + 16 + 16 ≤ length (now (a .rows))
 unfolding leakyLen
 read-in c =
     let s = c .before .before .before .before in
@@ -50,7 +51,8 @@ unfolding hashesAt R.keyHash R.macHash
 returns c =
     let d = c .before .before in
     let a = d .before .before .before .before .before .args in
-    c .xor .ensures ∙ ap₂ (blocks .op) (d .load .ensures ∙ ap (λ m. blockAt (now (a .rows)) (a .t * m + 16)) (d .before .leaky-len .ensures)) (c .before .load2 .ensures)
+    c .xor .ensures ∙ ap₂ (blocks .op)
+    (d .load .ensures ∙ ap (λ m. blockAt (now (a .rows)) (a .t * m + 16)) (d .before .leaky-len .ensures)) (c .before .load2 .ensures)
 
 pub hashes-spec : {M : Type 1} → statement M
 hashes-spec =

@@ -1,6 +1,6 @@
-use mathlib.Core.Path.{_≡_, sym, ap, _∙_}
+use mathlib.Core.Path.{sym, ap, _∙_}
 use mathlib.Core.List.{List}
-use Prim.Native.Nat.{ℕ, _+_, _*_, _≤_}
+use Prim.Native.Nat.{ℕ, _+_, _*_}
 use native.Mathlib.Omega.{arith}
 use lib.ListN.{length, getD}
 use denote.Ref.{now}
@@ -24,7 +24,8 @@ letter-requires : tie.Need-letter-requires
 letter-requires c κs =
     let s = c .before .before .before .before .before in
     let a = s .args in
-    letter-fits (a .n) (a .i) (8 + length (now (a .row)) * 17) (now (a .incoming)) (now (a .starts)) (now (a .lens)) (s .pre .1) (a .k) (s .pre .0) (λ e. c .if1 .left (sym e))
+    letter-fits (a .n) (a .i) (8 + length (now (a .row)) * 17) (now (a .incoming)) (now (a .starts)) (now (a .lens)) (s .pre .1) (a .k)
+    (s .pre .0) (λ e. c .if1 .left (sym e))
 
 put-es-requires : tie.Need-put-es-requires
 put-es-requires c κs =
@@ -34,7 +35,8 @@ put-es-requires c κs =
     omega (
       arith,
       ap length (t .letter .ensures),
-      letter-long (a .n) (a .i) (8 + length (now (a .row)) * 17) (now (a .incoming)) (now (a .starts)) (now (a .lens)) (s .pre .1) (a .k) (s .pre .0) (λ e. t .before .if1 .left (sym e)),
+      letter-long (a .n) (a .i) (8 + length (now (a .row)) * 17) (now (a .incoming)) (now (a .starts)) (now (a .lens)) (s .pre .1) (a .k)
+          (s .pre .0) (λ e. t .before .if1 .left (sym e)),
     )
 
 returns-2 : tie.Need-returns-2
@@ -44,7 +46,8 @@ returns-2 c =
     let a = t .before .before .before .before .before .before .args in
     let n = length (now (a .row)) in
     c .before .before .put-es .ensures ∙ ap (λ (m : List ℕ). tab n (λ t. num (odd (getD m (8 + t * 17) 0)))) (t .letter .ensures)
-    ∙ sym (row-other (a .i) n (λ k. tab n (λ t. num (eTold (letter (now (a .incoming)) (now (a .starts)) (now (a .lens))) k t))) (a .k) (t .before .if1 .left))
+    ∙ sym (row-other (a .i) n (λ k. tab n (λ t. num (eTold (letter (now (a .incoming)) (now (a .starts)) (now (a .lens))) k t))) (a .k)
+    (t .before .if1 .left))
 
 pub keep-e-row-spec : {M : Type 1} → statement M
 keep-e-row-spec =

@@ -1,9 +1,9 @@
 -- The loop's invariant: the rows of the first k parties are written.
-use mathlib.Core.Path.{_≡_, refl, sym, ap, _∙_}
+use mathlib.Core.Path.{_≡_, sym, ap, _∙_}
 use mathlib.Core.List.{List}
-use Prim.Native.Nat.{ℕ, _+_, _-_, _*_, _<_, _≤_}
+use Prim.Native.Nat.{ℕ, _+_, _-_, _*_, _≤_}
 use native.Mathlib.Omega.{arith}
-use lib.ListN.{length, take, drop}
+use lib.ListN.{length}
 use denote.Ref.{now}
 use Rattle.lists.specs.Over.{cat, tab, Written, in-chunks}
 use Rattle.algebra.specs.Group.{num}
@@ -22,15 +22,19 @@ abbrev row : List ℕ → List ℕ → List ℕ → ℕ → ℕ → ℕ → List
 row incoming starts lens i len = rowOf i len (λ k. tab len (λ t. num (eTold (letter incoming starts lens) k t)))
 
 abbrev Inv-loop : tie.InvT-loop
-Inv-loop section₀ incoming starts lens n i l len k₀ section k = (k ≤ n) × Written (row incoming starts lens i len) k (k * len) section₀ section
+Inv-loop section₀ incoming starts lens n i l len k₀ section k =
+    (k ≤ n) × Written (row incoming starts lens i len) k (k * len) section₀ section
 
 abbrev μ-loop : tie.MeasureT-loop
 μ-loop section₀ incoming starts lens n i l len k₀ section k = n - k
 
 loop-holds : tie.Need-loop-holds Inv-loop μ-loop
 loop-holds c =
-    let a = c .before .before .before .before .before .args in
-    (omega arith, even-zero (row (now (a .incoming)) (now (a .starts)) (now (a .lens)) (a .i) (c .leaky .result)) (c .leaky .result) (now (a .section)))
+    let a = c .before .before .before .before .before .args in (
+      omega arith,
+      even-zero (row (now (a .incoming)) (now (a .starts)) (now (a .lens)) (a .i) (c .leaky .result)) (c .leaky .result)
+          (now (a .section)),
+    )
 
 -- ---- in a turn
 module _ (c : tie.In-loop Inv-loop μ-loop) where
@@ -73,9 +77,12 @@ loop-again c =
     let a = start i .args in
     let l = i .before .loop in (
       omega (arith, i .loop-test .taken),
-      even-turn (row (now (a .incoming)) (now (a .starts)) (now (a .lens)) (a .i) (len i)) (a .n) (len i) (now (a .section)) (whole i) (l .k) (l .section) (p .keep-e-row .last .0)
+      even-turn (row (now (a .incoming)) (now (a .starts)) (now (a .lens)) (a .i) (len i)) (a .n) (len i) (now (a .section)) (whole i)
+          (l .k) (l .section) (p .keep-e-row .last .0)
           (i .loop-test .taken) (l .inv .1)
-          (p .keep-e-row .ensures ∙ ap (λ m. row (now (a .incoming)) (now (a .starts)) (now (a .lens)) (a .i) m (l .k)) (length-row (len i) (l .k) (l .section) (part-in i)))
+          (p .keep-e-row .ensures
+          ∙ ap (λ m. row (now (a .incoming)) (now (a .starts)) (now (a .lens)) (a .i) m (l .k))
+          (length-row (len i) (l .k) (l .section) (part-in i)))
           (p .keep-e-row .kept .0),
     )
 
@@ -90,10 +97,12 @@ returns c =
     let s = y .before .before .before .before .before in
     let a = s .args in
     let e : y .leaky .result ≡ leaky (a .l) = y .leaky .ensures in
-    even-end (row (now (a .incoming)) (now (a .starts)) (now (a .lens)) (a .i) (y .leaky .result)) (a .n) (y .leaky .result) (now (a .section))
+    even-end (row (now (a .incoming)) (now (a .starts)) (now (a .lens)) (a .i) (y .leaky .result)) (a .n) (y .leaky .result)
+    (now (a .section))
     (s .pre .0 .1 ∙ ap (λ m. a .n * m) (sym e)) (l .k) (l .section) (l .inv .1) (omega arith)
     ∙ ap (λ m. cat (a .n) (row (now (a .incoming)) (now (a .starts)) (now (a .lens)) (a .i) m)) e
-    ∙ rows-of (frame (a .n) (a .l) (a .i)) (leaky (a .l)) (λ k. tab (leaky (a .l)) (λ t. num (eTold (letter (now (a .incoming)) (now (a .starts)) (now (a .lens))) k t)))
+    ∙ rows-of (frame (a .n) (a .l) (a .i)) (leaky (a .l))
+    (λ k. tab (leaky (a .l)) (λ t. num (eTold (letter (now (a .incoming)) (now (a .starts)) (now (a .lens))) k t)))
 
 pub keep-es-spec : {M : Type 1} → statement M
 keep-es-spec =

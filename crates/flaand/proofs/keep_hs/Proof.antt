@@ -13,10 +13,10 @@ use Rattle.block.specs.Trip.{length-bytesOf}
 use Rattle.plan.specs.Plan.{leaky}
 use Rattle.engine.specs.declared.Frame.{Frame}
 use Rattle.engine.specs.Step.{frame}
-use Rattle.engine.specs.Area.{off, sec}
+use Rattle.engine.specs.Area.{sec}
 use Rattle.rounds.specs.Area.{BITS, LEAKY, ZS, HS, SECTIONS, sizeOf, at, keep}
 use Rattle.rounds.specs.Mail.{letter}
-use Rattle.rounds.specs.Loops.{lent-part, Keeping, keeping-none, keeping-turn, keeping-end, keeping-other}
+use Rattle.rounds.specs.Loops.{Keeping, keeping-none, keeping-turn, keeping-end, keeping-other}
 use Rattle.rounds.specs.Flaand as F
 use Rattle.haand.specs.Given.{Work}
 use Rattle.haand.specs.GivenLaws.{area, row-inside}
@@ -32,7 +32,8 @@ hOf f delta w m t = F.h f delta (sec (sizeOf f) BITS w) (sec (sizeOf f) LEAKY w)
 abbrev Inv-loop : tie.InvT-loop
 Inv-loop work₀ recs rows zs hs delta incoming starts lens n i l count t₀ work t =
     (t ≤ leaky l)
-    × Keeping (sizeOf (frame n l i)) SECTIONS HS (λ t. bytesOf (hOf (frame n l i) (delta .0) work₀ (letter incoming starts lens) t)) t (t * 16) work₀ work
+    × Keeping (sizeOf (frame n l i)) SECTIONS HS (λ t. bytesOf (hOf (frame n l i) (delta .0) work₀ (letter incoming starts lens) t)) t
+    (t * 16) work₀ work
 
 abbrev μ-loop : tie.MeasureT-loop
 μ-loop work₀ recs rows zs hs delta incoming starts lens n i l count t₀ work t = leaky l - t
@@ -71,13 +72,16 @@ module _ (c : tie.In-loop Inv-loop μ-loop) where
 
   same-sec : (s : ℕ) → s ≢ HS → sec (sizeOf f) s (c .before .loop .work) ≡ sec (sizeOf f) s w
   same-sec s ne =
-      keeping-other (sizeOf f) SECTIONS HS (omega arith) w (area (start .pre .0 .0)) _ t (t * 16) s (c .before .loop .work) (c .before .loop .inv .1) ne
+      keeping-other (sizeOf f) SECTIONS HS (omega arith) w (area (start .pre .0 .0)) _ t (t * 16) s (c .before .loop .work)
+      (c .before .loop .inv .1) ne
 
 h-at-requires : tie.Need-h-at-requires Inv-loop μ-loop
 h-at-requires c κs =
     let i = c .before in
-    let s = start i in
-    ((record { ranges = s .pre .0 .0 .ranges; whole = i .before .loop .inv .1 .same ∙ s .pre .0 .0 .whole }, below i), (s .pre .1 .0, s .pre .1 .1))
+    let s = start i in (
+      (record { ranges = s .pre .0 .0 .ranges; whole = i .before .loop .inv .1 .same ∙ s .pre .0 .0 .whole }, below i),
+      (s .pre .1 .0, s .pre .1 .1),
+    )
 
 mul-a : tie.Need-mul-a Inv-loop μ-loop
 mul-a c = let i = c .before .before in omega (arith, row-in i)
@@ -102,12 +106,16 @@ loop-again c =
     let g : ℕ → List ℕ = λ t. bytesOf (hOf (f i) (a .delta .0) (w i) m t) in
     let at = a .hs + t i * 16 in (
       omega (arith, below i),
-      keeping-turn (sizeOf (f i)) SECTIONS HS (omega arith) (w i) (area (start i .pre .0 .0)) g (t i) (t i * 16) 16 at (at + 16) ((t i + 1) * 16)
+      keeping-turn (sizeOf (f i)) SECTIONS HS (omega arith) (w i) (area (start i .pre .0 .0)) g (t i) (t i * 16) 16 at (at + 16)
+          ((t i + 1) * 16)
           (i .before .loop .work) (p .store .last .0) (i .before .loop .inv .1)
           (p .store .ensures ∙ ap bytesOf (b .h-at .ensures
-          ∙ ap₂ (λ (x y : List ℕ). F.h (f i) (a .delta .0) x y (sec (sizeOf (f i)) ZS (i .before .loop .work)) m (t i)) (same-sec i BITS (λ e. omega arith)) (same-sec i LEAKY (λ e. omega arith))
-          ∙ ap (λ (x : List ℕ). F.h (f i) (a .delta .0) (sec (sizeOf (f i)) BITS (w i)) (sec (sizeOf (f i)) LEAKY (w i)) x m (t i)) (same-sec i ZS (λ e. omega arith))))
-          (length-bytesOf (hOf (f i) (a .delta .0) (w i) m (t i))) (ap (λ z. z + t i * 16) (start i .pre .0 .1)) refl (sym (next-chunk (t i) 16))
+          ∙ ap₂ (λ (x y : List ℕ). F.h (f i) (a .delta .0) x y (sec (sizeOf (f i)) ZS (i .before .loop .work)) m (t i))
+          (same-sec i BITS (λ e. omega arith)) (same-sec i LEAKY (λ e. omega arith))
+          ∙ ap (λ (x : List ℕ). F.h (f i) (a .delta .0) (sec (sizeOf (f i)) BITS (w i)) (sec (sizeOf (f i)) LEAKY (w i)) x m (t i))
+          (same-sec i ZS (λ e. omega arith))))
+          (length-bytesOf (hOf (f i) (a .delta .0) (w i) m (t i))) (ap (λ z. z + t i * 16) (start i .pre .0 .1)) refl
+          (sym (next-chunk (t i) 16))
           (omega (arith, in-chunks (t i) (leaky (a .l)) 16 (below i), size-hs (f i), next-chunk (t i) 16)),
     )
 
@@ -121,7 +129,8 @@ returns c =
     let l = c .before .loop in
     let f : Frame = frame (s .args .n) (s .args .l) (s .args .i) in
     let e : l .t ≡ leaky (s .args .l) = omega (arith, c .before .before .leaky .ensures) in
-    keeping-end (sizeOf f) SECTIONS HS (omega arith) (now (s .args .work)) (area (s .pre .0 .0)) _ (l .t) (leaky (s .args .l)) (l .t * 16) (l .work) (l .inv .1) e
+    keeping-end (sizeOf f) SECTIONS HS (omega arith) (now (s .args .work)) (area (s .pre .0 .0)) _ (l .t) (leaky (s .args .l)) (l .t * 16)
+    (l .work) (l .inv .1) e
     (omega (arith, size-hs f))
 
 pub keep-hs-spec : {M : Type 1} → statement M

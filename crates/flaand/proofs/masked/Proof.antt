@@ -1,6 +1,6 @@
-use mathlib.Core.Path.{_≡_, ap, ap₂, _∙_}
+use mathlib.Core.Path.{ap, ap₂, _∙_}
 use mathlib.Core.Bool.{Bool}
-use Prim.Native.Nat.{ℕ, _+_, _*_, _≤_}
+use Prim.Native.Nat.{_+_, _*_, _≤_}
 use native.Mathlib.Omega.{arith}
 use lib.ListN.{length}
 use denote.Ref.{now}
@@ -15,14 +15,6 @@ use Rattle.flaand.specs.HLaws.{maskedAt}
 use borrow.Author.Needs.{needs}
 use Rattle.flaand.proofs.masked.Statement.{statement}
 use Rattle.flaand.proofs.masked.Tie as tie
-use Rattle.flaand.proofs.masked.Reads as reads
-use Rattle.flaand.proofs.masked.Lts as lts
-use Rattle.block.proofs.Block.const_mul.Reads as const-mul-reads
-use Rattle.block.proofs.Block.xor.Reads as xor-reads
-use Rattle.block.proofs.bit.Reads as bit-reads
-use Rattle.block.proofs.load.Reads as load-reads
-use Rattle.flaand.proofs.u_sum.Reads as u-sum-reads
-use Rattle.haand.proofs.leaky_len.Reads as leaky-len-reads
 
 -- src/lib.rt:600:9
 u-sum-requires : tie.Need-u-sum-requires
@@ -33,12 +25,18 @@ leaky-len-requires : tie.Need-leaky-len-requires
 leaky-len-requires c κs = search needs
 
 -- the row of LEAKY begins with phi
-read-in : (c : tie.After-leaky-len) → let a = c .before .before .before .before .before .before .before .args in a .t * c .leaky-len .result + 16 ≤ length (now (a .rows))
+read-in : (c : tie.After-leaky-len)
+    → let a = c .before .before .before .before .before .before .before .args in a .t * c .leaky-len .result + 16 ≤ length (now (a .rows))
 unfolding leakyLen
 read-in c =
     let s = c .before .before .before .before .before .before .before in
     let a = s .args in
-    omega (arith, in-chunks (a .t) (leaky (a .l)) (leakyLen (a .n)) (s .pre .0 .1 .0), ap (λ m. a .t * m) (c .leaky-len .ensures), s .pre .0 .1 .1)
+    omega (
+      arith,
+      in-chunks (a .t) (leaky (a .l)) (leakyLen (a .n)) (s .pre .0 .1 .0),
+      ap (λ m. a .t * m) (c .leaky-len .ensures),
+      s .pre .0 .1 .1,
+    )
 
 -- src/lib.rt:601:33
 mul-load : tie.Need-mul-load
@@ -49,7 +47,8 @@ load-requires : tie.Need-load-requires
 load-requires c κs = read-in c
 
 -- the row of ZS
-z-in : (c : tie.After-load) → let a = c .before .before .before .before .before .before .before .before .args in a .t * 17 + 17 ≤ length (now (a .zs))
+z-in : (c : tie.After-load)
+    → let a = c .before .before .before .before .before .before .before .before .args in a .t * 17 + 17 ≤ length (now (a .zs))
 z-in c =
     let s = c .before .before .before .before .before .before .before .before in
     omega (arith, in-chunks (s .args .t) (leaky (s .args .l)) 17 (s .pre .0 .1 .0), s .pre .0 .1 .2)
@@ -88,7 +87,10 @@ returns c =
     c .xor2 .ensures
     ∙ ap₂ (blocks .op)
     (c .before .before .const-mul .ensures
-    ∙ ap (sel blocks (a .x)) (c .before .before .before .xor .ensures ∙ ap₂ (blocks .op) (y .before .u-sum .ensures) (d .load .ensures ∙ ap (λ m. blockAt (now (a .rows)) (a .t * m)) (y .leaky-len .ensures))))
+    ∙ ap (sel blocks (a .x))
+    (c .before .before .before .xor .ensures
+    ∙ ap₂ (blocks .op) (y .before .u-sum .ensures)
+    (d .load .ensures ∙ ap (λ m. blockAt (now (a .rows)) (a .t * m)) (y .leaky-len .ensures))))
     (c .before .times .ensures ∙ ap (λ (b : Bool). sel blocks b (a .delta .0)) (c .before .before .before .before .bit .ensures))
 
 pub masked-spec : {M : Type 1} → statement M

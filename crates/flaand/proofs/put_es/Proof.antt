@@ -1,7 +1,7 @@
 -- The loop's invariant: the first t bits are written.
 use mathlib.Core.Path.{_≡_, refl, ap, _∙_}
 use mathlib.Core.List.{List, _++_}
-use Prim.Native.Nat.{ℕ, _+_, _-_, _*_, _<_, _≤_}
+use Prim.Native.Nat.{ℕ, _+_, _-_, _*_, _≤_}
 use native.Mathlib.Omega.{arith}
 use lib.ListN.{length, getD, drop, set, length-set}
 use denote.Ref.{now}
@@ -28,7 +28,14 @@ loop-holds c = (omega arith, refl, tab-zero _ _)
 read-in : (c : tie.In-loop Inv-loop μ-loop) → 8 + c .before .loop .t * 17 + 17 ≤ length (now (c .before .before .before .before .args .m))
 read-in c =
     let s = c .before .before .before .before in
-    omega (arith, c .loop-test .taken, c .before .loop .inv .1, in-chunks (c .before .loop .t) (length (now (s .args .row))) 17 (omega (arith, c .loop-test .taken, c .before .loop .inv .1)), s .pre)
+    omega (
+      arith,
+      c .loop-test .taken,
+      c .before .loop .inv .1,
+      in-chunks (c .before .loop .t) (length (now (s .args .row))) 17
+          (omega (arith, c .loop-test .taken, c .before .loop .inv .1)),
+      s .pre,
+    )
 
 mul-bit : tie.Need-mul-bit Inv-loop μ-loop
 mul-bit c = omega (arith, read-in c)
@@ -59,7 +66,8 @@ returns : tie.Need-returns Inv-loop μ-loop
 returns c =
     let l = c .before .loop in
     let a = c .before .before .before .before .args in
-    tab-end (l .t) (length (now (a .row))) (bit (now (a .m))) (now (a .row)) (l .row) (l .inv .2) (omega (arith, c .loop-test .left, l .inv .1)) refl
+    tab-end (l .t) (length (now (a .row))) (bit (now (a .m))) (now (a .row)) (l .row) (l .inv .2)
+    (omega (arith, c .loop-test .left, l .inv .1)) refl
 
 pub put-es-spec : {M : Type 1} → statement M
 put-es-spec =

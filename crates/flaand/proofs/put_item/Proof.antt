@@ -1,11 +1,10 @@
-use mathlib.Core.Path.{_≡_, ap, ap₂, _∙_}
-use Prim.Native.Nat.{ℕ, _+_, _*_, _≤_}
+use mathlib.Core.Path.{ap, ap₂, _∙_}
+use Prim.Native.Nat.{_+_, _*_, _≤_}
 use native.Mathlib.Omega.{arith}
 use lib.ListN.{length}
 use denote.Ref.{now}
 use Rattle.block.specs.Block.{blockAt}
 use Rattle.encode.specs.Encode.{bitBlock}
-use Rattle.rounds.specs.Area.{leakyLen}
 use Rattle.rounds.specs.Haand as R
 use Rattle.flaand.specs.KeptLaws.{entry-in}
 use borrow.Author.Needs.{needs}
@@ -17,7 +16,11 @@ read-in : (c : tie.After-leaky-len) → let a = c .before .before .before .befor
     a .t * c .leaky-len .result + (32 + a .k * 18) + 16 ≤ length (now (a .rows))
 read-in c =
     let s = c .before .before .before .before .before .before in
-    omega (arith, entry-in (s .pre .1 .0) (s .args .t) (s .pre .1 .1) (s .args .k) (s .pre .0 .1), ap (λ m. s .args .t * m) (c .leaky-len .ensures))
+    omega (
+      arith,
+      entry-in (s .pre .1 .0) (s .args .t) (s .pre .1 .1) (s .args .k) (s .pre .0 .1),
+      ap (λ m. s .args .t * m) (c .leaky-len .ensures),
+    )
 
 leaky-len-requires : tie.Need-leaky-len-requires
 leaky-len-requires c κs = c .before .before .before .before .before .pre .1 .0 .ranges .eight

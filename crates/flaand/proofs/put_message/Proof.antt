@@ -6,7 +6,6 @@ use native.Mathlib.Omega.{arith}
 use lib.ListN.{length}
 use denote.Ref.{now}
 use Rattle.block.specs.Block.{le8}
-use Rattle.encode.specs.Encode.{bitBlock}
 use Rattle.encode.specs.Stretch.{Stretch, stretch-count, stretch-self, even-turn, even-end, in-list}
 use Rattle.plan.specs.Plan.{leaky}
 use Rattle.engine.specs.Step.{frame}
@@ -30,7 +29,9 @@ loop-holds c =
     let s = p .before .before .before .before .before .before .before in
     let a = s .args in
     let g : ℕ → List ℕ = item (frame (a .n) (a .l) (a .i)) (now (a .recs)) (now (a .rows)) (now (a .zs)) (a .k) in
-    let w = stretch-count (leaky (a .l)) g (now (a .out)) (p .put-count .last .0) (omega arith) (p .put-count .ensures ∙ ap le8 (p .before .before .leaky .ensures)) in
+    let w =
+    stretch-count (leaky (a .l)) g (now (a .out)) (p .put-count .last .0) (omega arith)
+    (p .put-count .ensures ∙ ap le8 (p .before .before .leaky .ensures)) in
     (omega arith, w .same ∙ s .pre .0 .0, stretch-self (leaky (a .l)) g 0 8 _ _ w)
 
 -- ---- in a turn
@@ -42,7 +43,8 @@ module _ (c : tie.In-loop Inv-loop μ-loop) where
   below = omega (arith, c .loop-test .taken, c .before .before .before .before .before .before .leaky .ensures)
 
   part-in : 8 + c .before .loop .t * 17 + 17 ≤ length (c .before .loop .out)
-  part-in = omega (arith, c .before .loop .inv .2 .same, c .before .loop .inv .1, in-list (c .before .loop .t) (leaky (start .args .l)) 17 below)
+  part-in =
+      omega (arith, c .before .loop .inv .2 .same, c .before .loop .inv .1, in-list (c .before .loop .t) (leaky (start .args .l)) 17 below)
 
 mul-a : tie.Need-mul-a Inv-loop μ-loop
 mul-a c = omega (arith, part-in c)

@@ -18,7 +18,11 @@ mul-result-2 : tie.Need-mul-result-2
 mul-result-2 c =
     let a = c .before .before in
     rw (c .before .leaky .ensures, c .record-len .ensures)
-    (omega (arith, at-most (2 * leaky (a .args .l) + a .args .t) (a .args .n) (omega (arith, leaky-most (a .args .l) (a .pre .1 .0))) (a .pre .0)))
+    (omega (
+      arith,
+      at-most (2 * leaky (a .args .l) + a .args .t) (a .args .n) (omega (arith, leaky-most (a .args .l) (a .pre .1 .0)))
+          (a .pre .0),
+    ))
 
 returns : tie.Need-returns
 returns c = ap₂ (λ k m. (2 * k + c .before .before .args .t) * m) (c .before .leaky .ensures) (c .record-len .ensures)

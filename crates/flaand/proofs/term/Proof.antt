@@ -9,7 +9,17 @@ returns : tie.Need-returns
 returns c =
     let y = c .before in
     let x = y .before in
-    c .xor .ensures ∙ ap₂ (blocks .op) (y .mac-at .ensures) (x .z-key .ensures ∙ ap₂ (blocks .op) (x .before .before .key-at .ensures) (x .before .times .ensures))
+    c .xor .ensures
+    ∙ ap₂ (blocks .op) (y .mac-at .ensures)
+    (x .z-key .ensures ∙ ap₂ (blocks .op) (x .before .before .key-at .ensures) (x .before .times .ensures))
 
 pub term-spec : {M : Type 1} → statement M
-term-spec = tie.close (tie.spec (λ c κs. search needs) (λ c κs. search needs) (λ c κs. search needs) (λ c κs. search needs) (λ c κs. search needs) returns)
+term-spec =
+    tie.close
+    (tie.spec
+    (λ c κs. search needs)
+    (λ c κs. search needs)
+    (λ c κs. search needs)
+    (λ c κs. search needs)
+    (λ c κs. search needs)
+    returns)

@@ -35,14 +35,16 @@ loop-again c =
     let l = c .before .before .before .loop in
     let a = c .before .before .before .before .before .before .before .before .args in (
       omega (arith, c .before .before),
-      c .xor .ensures ∙ others-turn blocks (a .i) (told (now (a .incoming)) (now (a .starts)) (now (a .lens)) (a .t)) (l .k) (l .sum) _ (l .inv .1) (c .before .u-told .ensures),
+      c .xor .ensures ∙ others-turn blocks (a .i) (told (now (a .incoming)) (now (a .starts)) (now (a .lens)) (a .t)) (l .k) (l .sum) _
+          (l .inv .1) (c .before .u-told .ensures),
     )
 
 returns : tie.Need-returns Inv-loop μ-loop
 returns c =
     let l = c .before .loop in
     let a = c .before .before .before .before .before .before .args in
-    l .inv .1 ∙ ap (λ m. others blocks (a .i) m (told (now (a .incoming)) (now (a .starts)) (now (a .lens)) (a .t))) (let e : l .k ≡ a .n = omega arith in e)
+    l .inv .1 ∙ ap (λ m. others blocks (a .i) m (told (now (a .incoming)) (now (a .starts)) (now (a .lens)) (a .t)))
+    (let e : l .k ≡ a .n = omega arith in e)
 
 pub u-sum-spec : {M : Type 1} → statement M
 u-sum-spec =

@@ -1,7 +1,7 @@
-use mathlib.Core.Path.{_≡_, sym, ap, _∙_}
+use mathlib.Core.Path.{sym, ap, _∙_}
 use mathlib.Core.Bool.{Bool}
 use mathlib.Core.List.{List}
-use Prim.Native.Nat.{ℕ, _+_, _*_, _<_, _≤_}
+use Prim.Native.Nat.{ℕ, _+_, _*_, _≤_}
 use native.Mathlib.Omega.{arith}
 use lib.ListN.{length}
 use denote.Ref.{now}
@@ -22,13 +22,15 @@ returns : tie.Need-returns
 returns c =
     let a = c .before .before .before .before .before .args in
     c .zero .ensures
-    ∙ sym (ap (λ (b : Bool). sel blocks b (uTold (letter (now (a .incoming)) (now (a .starts)) (now (a .lens))) (a .k) (a .t))) (neq-same (a .i) (a .k) (c .before .if1 .taken)))
+    ∙ sym (ap (λ (b : Bool). sel blocks b (uTold (letter (now (a .incoming)) (now (a .starts)) (now (a .lens))) (a .k) (a .t)))
+    (neq-same (a .i) (a .k) (c .before .if1 .taken)))
 
 letter-requires : tie.Need-letter-requires
 letter-requires c κs =
     let s = c .before .before .before .before in
     let a = s .args in
-    letter-fits (a .n) (a .i) (8 + leaky (a .l) * 17) (now (a .incoming)) (now (a .starts)) (now (a .lens)) (s .pre .1) (a .k) (s .pre .0 .0) (c .if1 .left)
+    letter-fits (a .n) (a .i) (8 + leaky (a .l) * 17) (now (a .incoming)) (now (a .starts)) (now (a .lens)) (s .pre .1) (a .k)
+    (s .pre .0 .0) (c .if1 .left)
 
 -- u lies within the message
 read-in : (c : tie.After-letter) → 8 + c .before .before .before .before .before .args .t * 17 + 1 + 16 ≤ length (now (c .letter .result))
@@ -39,7 +41,8 @@ read-in c =
       arith,
       ap length (c .letter .ensures),
       in-chunks (a .t) (leaky (a .l)) 17 (s .pre .0 .1),
-      letter-long (a .n) (a .i) (8 + leaky (a .l) * 17) (now (a .incoming)) (now (a .starts)) (now (a .lens)) (s .pre .1) (a .k) (s .pre .0 .0) (c .before .if1 .left),
+      letter-long (a .n) (a .i) (8 + leaky (a .l) * 17) (now (a .incoming)) (now (a .starts)) (now (a .lens)) (s .pre .1) (a .k)
+          (s .pre .0 .0) (c .before .if1 .left),
     )
 
 mul-load : tie.Need-mul-load
@@ -60,7 +63,8 @@ returns-2 c =
     let a = c .before .before .before .before .before .before .args in
     let m : List ℕ = letter (now (a .incoming)) (now (a .starts)) (now (a .lens)) (a .k) in
     c .load .ensures ∙ ap (λ (s : List ℕ). blockAt s (8 + a .t * 17 + 1)) (c .before .letter .ensures)
-    ∙ sym (ap (λ (b : Bool). sel blocks b (blockAt m (8 + a .t * 17 + 1))) (neq-true (a .i) (a .k) (λ e. c .before .before .if1 .left (sym e))))
+    ∙ sym (ap (λ (b : Bool). sel blocks b (blockAt m (8 + a .t * 17 + 1)))
+    (neq-true (a .i) (a .k) (λ e. c .before .before .if1 .left (sym e))))
 
 pub u-told-spec : {M : Type 1} → statement M
 u-told-spec =

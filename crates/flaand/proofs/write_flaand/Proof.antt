@@ -1,7 +1,7 @@
 -- The loop's invariant: the messages to the first q parties but i are written.
-use mathlib.Core.Path.{_≡_, refl, sym, ap, _∙_}
+use mathlib.Core.Path.{_≡_, sym, ap, _∙_}
 use mathlib.Core.List.{List}
-use Prim.Native.Nat.{ℕ, _+_, _-_, _*_, _<_, _≤_}
+use Prim.Native.Nat.{ℕ, _+_, _-_, _*_, _≤_}
 use native.Mathlib.Omega.{arith}
 use lib.ListN.{length}
 use denote.Ref.{now}
@@ -28,8 +28,11 @@ abbrev μ-loop : tie.MeasureT-loop
 
 loop-holds : tie.Need-loop-holds Inv-loop μ-loop
 loop-holds c =
-    let a = c .before .before .before .before .before .args in
-    (omega arith, sent-zero (a .n) (a .i) (message (a .n) (a .i) (a .l) (now (a .recs)) (now (a .rows)) (now (a .zs))) (8 + c .leaky .result * 17) (now (a .out)))
+    let a = c .before .before .before .before .before .args in (
+      omega arith,
+      sent-zero (a .n) (a .i) (message (a .n) (a .i) (a .l) (now (a .recs)) (now (a .rows)) (now (a .zs)))
+          (8 + c .leaky .result * 17) (now (a .out)),
+    )
 
 -- ---- in a turn
 module _ (c : tie.In-loop Inv-loop μ-loop) where
@@ -46,7 +49,8 @@ module _ (c : tie.In-loop Inv-loop μ-loop) where
   whole = start .pre .0 ∙ ap (λ m. (start .args .n - 1) * m) (sym is)
 
   part-in : c .before .loop .q * len + len ≤ length (c .before .loop .out)
-  part-in = omega (arith, whole, in-chunks (c .before .loop .q) (start .args .n - 1) len (c .loop-test .taken), c .before .loop .inv .1 .same)
+  part-in =
+      omega (arith, whole, in-chunks (c .before .loop .q) (start .args .n - 1) len (c .loop-test .taken), c .before .loop .inv .1 .same)
 
 mul-a : tie.Need-mul-a Inv-loop μ-loop
 mul-a c = omega (arith, part-in c)
@@ -89,7 +93,8 @@ returns c =
     let y = c .before .before in
     let s = y .before .before .before .before .before in
     let a = s .args in
-    sent-end (a .n) (a .i) (message (a .n) (a .i) (a .l) (now (a .recs)) (now (a .rows)) (now (a .zs))) (8 + y .leaky .result * 17) (now (a .out))
+    sent-end (a .n) (a .i) (message (a .n) (a .i) (a .l) (now (a .recs)) (now (a .rows)) (now (a .zs))) (8 + y .leaky .result * 17)
+    (now (a .out))
     (s .pre .0 ∙ ap (λ m. (a .n - 1) * (8 + m * 17)) (sym (y .leaky .ensures))) (l .q) (l .out) (l .inv .1) (omega arith)
 
 pub write-flaand-spec : {M : Type 1} → statement M

@@ -1,7 +1,7 @@
-use mathlib.Core.Path.{_≡_, sym, ap, _∙_}
+use mathlib.Core.Path.{sym, ap, _∙_}
 use mathlib.Core.Bool.{Bool}
 use mathlib.Core.List.{List}
-use Prim.Native.Nat.{ℕ, _+_, _*_, _<_, _≤_}
+use Prim.Native.Nat.{ℕ, _+_, _*_, _≤_}
 use native.Mathlib.Omega.{arith}
 use lib.ListN.{length, getD}
 use denote.Ref.{now}
@@ -23,16 +23,20 @@ returns : tie.Need-returns
 returns c =
     let a = c .before .before .before .before .before .before .args in
     c .zero .ensures
-    ∙ sym (ap (λ (b : Bool). sel blocks b (zTerm (now (a .recs)) (a .at) (a .delta .0) (letter (now (a .incoming)) (now (a .starts)) (now (a .lens))) (a .t) (a .k))) (neq-same (a .i) (a .k) (c .before .if1 .taken)))
+    ∙ sym (ap (λ (b : Bool). sel blocks b
+    (zTerm (now (a .recs)) (a .at) (a .delta .0) (letter (now (a .incoming)) (now (a .starts)) (now (a .lens))) (a .t) (a .k)))
+    (neq-same (a .i) (a .k) (c .before .if1 .taken)))
 
 letter-requires : tie.Need-letter-requires
 letter-requires c κs =
     let s = c .before .before .before .before .before in
     let a = s .args in
-    letter-fits (a .n) (a .i) (8 + leaky (a .l) * 17) (now (a .incoming)) (now (a .starts)) (now (a .lens)) (s .pre .1 .1) (a .k) (s .pre .0 .1 .0) (c .if1 .left)
+    letter-fits (a .n) (a .i) (8 + leaky (a .l) * 17) (now (a .incoming)) (now (a .starts)) (now (a .lens)) (s .pre .1 .1) (a .k)
+    (s .pre .0 .1 .0) (c .if1 .left)
 
 -- e and u lie within the message
-read-in : (c : tie.After-letter) → 8 + c .before .before .before .before .before .before .args .t * 17 + 17 ≤ length (now (c .letter .result))
+read-in : (c : tie.After-letter)
+    → 8 + c .before .before .before .before .before .before .args .t * 17 + 17 ≤ length (now (c .letter .result))
 read-in c =
     let s = c .before .before .before .before .before .before in
     let a = s .args in
@@ -40,7 +44,8 @@ read-in c =
       arith,
       ap length (c .letter .ensures),
       in-chunks (a .t) (leaky (a .l)) 17 (s .pre .0 .1 .1),
-      letter-long (a .n) (a .i) (8 + leaky (a .l) * 17) (now (a .incoming)) (now (a .starts)) (now (a .lens)) (s .pre .1 .1) (a .k) (s .pre .0 .1 .0) (c .before .if1 .left),
+      letter-long (a .n) (a .i) (8 + leaky (a .l) * 17) (now (a .incoming)) (now (a .starts)) (now (a .lens)) (s .pre .1 .1) (a .k)
+          (s .pre .0 .1 .0) (c .before .if1 .left),
     )
 
 mul-bit : tie.Need-mul-bit
@@ -53,7 +58,9 @@ bit-requires : tie.Need-bit-requires
 bit-requires c κs = omega (arith, read-in c)
 
 term-requires : tie.Need-term-requires
-term-requires c κs = let s = c .before .before .before .before .before .before .before in (omega (arith, s .pre .0 .0, s .pre .0 .1 .0), omega (arith, s .pre .1 .0, s .pre .0 .1 .0))
+term-requires c κs =
+    let s = c .before .before .before .before .before .before .before in
+    (omega (arith, s .pre .0 .0, s .pre .0 .1 .0), omega (arith, s .pre .1 .0, s .pre .0 .1 .0))
 
 returns-2 : tie.Need-returns-2
 unfolding zTerm eTold
@@ -64,7 +71,8 @@ returns-2 c =
     c .term .ensures
     ∙ ap (λ (e : Bool). blocks .op (macAt r (a .at) (a .k)) (blocks .op (keyAt r (a .at) (a .k)) (sel blocks e (a .delta .0))))
     (c .before .bit .ensures ∙ ap (λ (s : List ℕ). odd (getD s (8 + a .t * 17) 0)) (t .letter .ensures))
-    ∙ sym (ap (λ (b : Bool). sel blocks b (zTerm r (a .at) (a .delta .0) (letter (now (a .incoming)) (now (a .starts)) (now (a .lens))) (a .t) (a .k)))
+    ∙ sym (ap (λ (b : Bool). sel blocks b
+    (zTerm r (a .at) (a .delta .0) (letter (now (a .incoming)) (now (a .starts)) (now (a .lens))) (a .t) (a .k)))
     (neq-true (a .i) (a .k) (λ e. t .before .if1 .left (sym e))))
 
 pub z-term-spec : {M : Type 1} → statement M

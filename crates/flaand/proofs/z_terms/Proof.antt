@@ -19,7 +19,8 @@ abbrev told : List ℕ → ℕ → Block → List ℕ → List ℕ → List ℕ 
 told recs at delta incoming starts lens t = zTerm recs at delta (letter incoming starts lens) t
 
 abbrev Inv-loop : tie.InvT-loop
-Inv-loop recs at delta incoming starts lens n i l t sum₀ k₀ sum k = (k ≤ n) × (sum ≡ others blocks i k (told recs at (delta .0) incoming starts lens t))
+Inv-loop recs at delta incoming starts lens n i l t sum₀ k₀ sum k =
+    (k ≤ n) × (sum ≡ others blocks i k (told recs at (delta .0) incoming starts lens t))
 
 abbrev μ-loop : tie.MeasureT-loop
 μ-loop recs at delta incoming starts lens n i l t sum₀ k₀ sum k = n - k
@@ -28,21 +29,26 @@ loop-holds : tie.Need-loop-holds Inv-loop μ-loop
 loop-holds c = (omega arith, c .zero .ensures ∙ others-none blocks _ _)
 
 z-term-requires : tie.Need-z-term-requires Inv-loop μ-loop
-z-term-requires c κs = let s = c .before .before .before .before .before .before .before in ((s .pre .0 .0, (c .loop-test .taken, s .pre .0 .1)), s .pre .1)
+z-term-requires c κs =
+    let s = c .before .before .before .before .before .before .before in ((s .pre .0 .0, (c .loop-test .taken, s .pre .0 .1)), s .pre .1)
 
 loop-again : tie.Need-loop-again Inv-loop μ-loop
 loop-again c =
     let l = c .before .before .before .loop in
     let a = c .before .before .before .before .before .before .before .before .before .args in (
       omega (arith, c .before .before),
-      c .xor .ensures ∙ others-turn blocks (a .i) (told (now (a .recs)) (a .at) (a .delta .0) (now (a .incoming)) (now (a .starts)) (now (a .lens)) (a .t)) (l .k) (l .sum) _ (l .inv .1) (c .before .z-term .ensures),
+      c .xor .ensures ∙ others-turn blocks (a .i)
+          (told (now (a .recs)) (a .at) (a .delta .0) (now (a .incoming)) (now (a .starts)) (now (a .lens)) (a .t)) (l .k) (l .sum) _
+          (l .inv .1) (c .before .z-term .ensures),
     )
 
 returns : tie.Need-returns Inv-loop μ-loop
 returns c =
     let l = c .before .loop in
     let a = c .before .before .before .before .before .before .before .args in
-    l .inv .1 ∙ ap (λ m. others blocks (a .i) m (told (now (a .recs)) (a .at) (a .delta .0) (now (a .incoming)) (now (a .starts)) (now (a .lens)) (a .t))) (let e : l .k ≡ a .n = omega arith in e)
+    l .inv .1 ∙ ap (λ m. others blocks (a .i) m
+    (told (now (a .recs)) (a .at) (a .delta .0) (now (a .incoming)) (now (a .starts)) (now (a .lens)) (a .t)))
+    (let e : l .k ≡ a .n = omega arith in e)
 
 pub z-terms-spec : {M : Type 1} → statement M
 z-terms-spec =

@@ -1,0 +1,62 @@
+-- The loop's invariant: the sum has the first k parties.
+use mathlib.Core.Path.{_≡_, ap, _∙_}
+use mathlib.Core.List.{List}
+use Prim.Native.Nat.{ℕ, _-_, _≤_}
+use native.Mathlib.Omega.{arith}
+use denote.Ref.{now}
+use Rattle.algebra.specs.Sum.{others}
+use Rattle.block.specs.declared.Block.{Block}
+use Rattle.block.specs.Group.{blocks}
+use Rattle.rounds.specs.Mail.{letter}
+use Rattle.rounds.specs.Loops.{others-none, others-turn}
+use Rattle.rounds.specs.Flaand.{hTold}
+use borrow.Author.Needs.{needs}
+use Rattle.flaand_hash.proofs.h_sum.Statement.{statement}
+use Rattle.flaand_hash.proofs.h_sum.Tie as tie
+
+-- h of party k
+abbrev told : List ℕ → List ℕ → List ℕ → ℕ → ℕ → Block
+told incoming starts lens t k = hTold (letter incoming starts lens) k t
+
+abbrev Inv-loop : tie.InvT-loop
+Inv-loop incoming starts lens n i l t sum₀ k₀ sum k = (k ≤ n) × (sum ≡ others blocks i k (told incoming starts lens t))
+
+abbrev μ-loop : tie.MeasureT-loop
+μ-loop incoming starts lens n i l t sum₀ k₀ sum k = n - k
+
+loop-holds : tie.Need-loop-holds Inv-loop μ-loop
+loop-holds c = (omega arith, c .zero .ensures ∙ others-none blocks _ _)
+
+h-told-requires : tie.Need-h-told-requires Inv-loop μ-loop
+h-told-requires c κs = let s = c .before .before .before .before .before .before in ((c .loop-test .taken, s .pre .0), s .pre .1)
+
+loop-again : tie.Need-loop-again Inv-loop μ-loop
+loop-again c =
+    let l = c .before .before .before .loop in
+    let a = c .before .before .before .before .before .before .before .before .args in (
+      omega (arith, c .before .before),
+      c .xor .ensures ∙ others-turn blocks (a .i) (told (now (a .incoming)) (now (a .starts)) (now (a .lens)) (a .t)) (l .k) (l .sum) _
+          (l .inv .1) (c .before .h-told .ensures),
+    )
+
+returns : tie.Need-returns Inv-loop μ-loop
+returns c =
+    let l = c .before .loop in
+    let a = c .before .before .before .before .before .before .args in
+    l .inv .1 ∙ ap (λ m. others blocks (a .i) m (told (now (a .incoming)) (now (a .starts)) (now (a .lens)) (a .t)))
+    (let e : l .k ≡ a .n = omega arith in e)
+
+pub h-sum-spec : {M : Type 1} → statement M
+h-sum-spec =
+    tie.close
+    (tie.spec
+    Inv-loop
+    μ-loop
+    (λ c κs. search needs)
+    loop-holds
+    h-told-requires
+    (λ c κs. search needs)
+    (λ c. search needs)
+    (λ c. search needs)
+    loop-again
+    returns)

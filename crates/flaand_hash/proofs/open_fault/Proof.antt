@@ -1,0 +1,72 @@
+use mathlib.Core.Path.{_≡_, sym, ap, _∙_}
+use mathlib.Core.Bool.{Bool}
+use mathlib.Core.List.{List}
+use Prim.Native.Nat.{ℕ, _+_, _*_}
+use native.Mathlib.Omega.{arith}
+use lib.ListN.{length}
+use denote.Ref.{now}
+use Rattle.lists.specs.Pick.{pick}
+use Rattle.plan.specs.Plan.{leaky}
+use Rattle.rounds.specs.Mail.{letter}
+use Rattle.rounds.specs.MailLaws.{letter-fits, letter-long}
+use Rattle.rounds.specs.FaultLaws.{faultAt, fault-own, fault-other}
+use Rattle.flaand_hash.specs.Laws.{opens, openFault}
+use Rattle.flaand_hash.proofs.open_fault.Statement.{statement}
+use Rattle.flaand_hash.proofs.open_fault.Tie as tie
+
+returns : tie.Need-returns
+returns c =
+    let a = c .before .before .before .before .before .args in
+    fault-own (a .i) (a .k) (openFault (a .l) (now (a .comms)) (letter (now (a .incoming)) (now (a .starts)) (now (a .lens))))
+    (c .if1 .taken)
+
+letter-requires : tie.Need-letter-requires
+letter-requires c κs =
+    let s = c .before .before .before .before .before in
+    let a = s .args in
+    letter-fits (a .n) (a .i) (8 + leaky (a .l) * 16) (now (a .incoming)) (now (a .starts)) (now (a .lens)) (s .pre .1) (a .k)
+    (s .pre .0 .1 .0) (c .if1 .left)
+
+opens-requires : tie.Need-opens-requires
+opens-requires c κs =
+    let s = c .before .before .before .before .before .before in
+    let a = s .args in (
+      (s .pre .0 .0 .most, (s .pre .0 .0 .eight, s .pre .0 .1 .0)),
+      (
+        omega (
+          arith,
+          ap length (c .letter .ensures),
+          letter-long (a .n) (a .i) (8 + leaky (a .l) * 16) (now (a .incoming)) (now (a .starts)) (now (a .lens)) (s .pre .1) (a .k)
+              (s .pre .0 .1 .0) (c .before .if1 .left),
+        ),
+        s .pre .0 .1 .1,
+      ),
+    )
+
+-- by the answer
+answers : (c : tie.After-opens) (x : ℕ) → x ≡ pick (c .opens .result) 0 2
+    → let a = c .before .before .before .before .before .before .before .args in
+    x ≡ faultAt (a .i) (openFault (a .l) (now (a .comms)) (letter (now (a .incoming)) (now (a .starts)) (now (a .lens)))) (a .k)
+unfolding openFault
+answers c x e =
+    let a = c .before .before .before .before .before .before .before .args in
+    fault-other (a .i) (a .k) x (openFault (a .l) (now (a .comms)) (letter (now (a .incoming)) (now (a .starts)) (now (a .lens))))
+    (c .before .before .if1 .left)
+    (e ∙ ap (λ (b : Bool). pick {A = ℕ} b 0 2)
+    (c .opens .ensures ∙ ap (λ (s : List ℕ). opens (a .l) (now (a .comms)) (a .k) s) (c .before .letter .ensures)))
+
+returns-2 : tie.Need-returns-2
+returns-2 c = answers (c .before) 0 (ap (λ (b : Bool). pick {A = ℕ} b 0 2) (sym (c .if2 .taken)))
+
+returns-3 : tie.Need-returns-3
+returns-3 c = answers (c .before) 2 (ap (λ (b : Bool). pick {A = ℕ} b 0 2) (sym (c .if2 .left)))
+
+pub open-fault-spec : {M : Type 1} → statement M
+open-fault-spec =
+    tie.close
+    (tie.spec
+    returns
+    letter-requires
+    opens-requires
+    returns-2
+    returns-3)
