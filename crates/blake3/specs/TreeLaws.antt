@@ -171,8 +171,9 @@ tree-parts m from len t f k n l r h w p e el er =
     (er ∙ ap (λ (u : List ℕ). tree u (t + k) 0) (sym y))
     ∙ sym (tree-parent (get from len m) t f k (omega arith) (rw a p))
 
-pub tree-leaf : (m : List ℕ) (from len t f : ℕ) → from + len ≤ length m → len ≤ CHUNK-LEN → chunk (get from len m) t f ≡ tree (get from len m) t f
-tree-leaf m from len t f h w = sym (tree-chunk (get from len m) t f (omega (arith, length-get from len m h)))
+pub tree-leaf : (m : List ℕ) (from len t f : ℕ) {r : List ℕ} → from + len ≤ length m → len ≤ CHUNK-LEN
+    → r ≡ chunk (get from len m) t f → r ≡ tree (get from len m) t f
+tree-leaf m from len t f h w e = e ∙ sym (tree-chunk (get from len m) t f (omega (arith, length-get from len m h)))
 
 -- ---- whole chunks side by side
 
@@ -180,9 +181,10 @@ tree-leaf m from len t f h w = sym (tree-chunk (get from len m) t f (omega (arit
 two : (m : List ℕ) (a t : ℕ) → a + 2 * CHUNK-LEN ≤ length m
     → parent (chunk (get a CHUNK-LEN m) t 0) (chunk (get (a + CHUNK-LEN) CHUNK-LEN m) (t + 1) 0) 0 ≡ tree (get a (2 * CHUNK-LEN) m) t 0
 two m a t h =
-    tree-parts m a (2 * CHUNK-LEN) t 0 1 CHUNK-LEN _ _ h (omega arith) (record { power = power-one; below = omega arith; next = omega arith }) refl
-    (tree-leaf m a CHUNK-LEN t 0 (omega arith) (omega arith))
-    (tree-leaf m (a + CHUNK-LEN) CHUNK-LEN (t + 1) 0 (omega arith) (omega arith))
+    tree-parts m a (2 * CHUNK-LEN) t 0 1 CHUNK-LEN _ _ h (omega arith)
+    (record { power = power-one; below = omega arith; next = omega arith }) refl
+    (tree-leaf m a CHUNK-LEN t 0 (omega arith) (omega arith) refl)
+    (tree-leaf m (a + CHUNK-LEN) CHUNK-LEN (t + 1) 0 (omega arith) (omega arith) refl)
 
 -- four of them, over which there are two parents and theirs
 pub tree-four : (s : List ℕ) (t f : ℕ) → length s ≡ WINDOW → four s t f ≡ tree s t f
@@ -193,7 +195,8 @@ tree-four s t f h =
     ap₂ (λ (u v : ℕ).
     parent (parent (chunk (get 0 CHUNK-LEN s) u 0) (chunk (get 1024 CHUNK-LEN s) (t + 1) 0) 0)
     (parent (chunk (get 2048 CHUNK-LEN s) (t + 2) 0) (chunk (get 3072 CHUNK-LEN s) v 0) 0) f) first last
-    ∙ tree-parts s 0 WINDOW t f 2 2048 _ _ (omega arith) (omega arith) (record { power = power-double 1 power-one; below = omega arith; next = omega arith }) refl
+    ∙ tree-parts s 0 WINDOW t f 2 2048 _ _ (omega arith) (omega arith)
+    (record { power = power-double 1 power-one; below = omega arith; next = omega arith }) refl
     (two s 0 t (omega arith)) (two s 2048 (t + 2) (omega arith))
     ∙ ap (λ (m : List ℕ). tree m t f) (take-all WINDOW s (omega arith))
 

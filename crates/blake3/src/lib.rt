@@ -2,7 +2,8 @@
 // From the BLAKE3 specification, with the names of the authors' reference_impl.rs; `hash128` is what `hash_vec` keeps of the hash.
 //
 // One tree serves two kinds of list: bytes that lie side by side (stride 1), and the first bytes of items of `stride` bytes behind the 8
-// bytes of a count (echoes 7 and 16), which are gathered chunk by chunk. Of the first kind four whole chunks are hashed at once (blake3_chunks).
+// bytes of a count (echoes 7 and 16), which are gathered chunk by chunk. Of the first kind four whole chunks are hashed at once: the crate
+// blake3_chunks.
 ghost use mathlib.Core.Path.{_≡_};
 ghost use Prim.Native.Nat.{_+_, _-_, _*_, _/_, _^_, _<_, _≤_};
 ghost use lib.ListN.{length, getD};

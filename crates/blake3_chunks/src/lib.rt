@@ -1,8 +1,8 @@
 // BLAKE3 of whole chunks side by side: four of them, one in each lane, and the node over the four.
 //
-// Speed: the loop over the lanes has no call left in it once `lane` is inlined, and LLVM then turns it into vector code for all four lanes. That
-// needs words of 32 bits alone in it, so a chunk's number comes as two words, and `lane` called at one place: `compress`, which many call, would
-// stay a call, and so would a function that has the seven rounds for both.
+// Speed: the loop over the lanes has no call left in it once `lane` is inlined, and LLVM then turns it into vector code for the four
+// lanes. That needs words of 32 bits alone in it, so a chunk's number comes as two words, and `lane` called at one place: `compress`,
+// which many call, would stay a call, and so would a function of the seven rounds for both.
 ghost use mathlib.Core.Path.{_≡_};
 ghost use Prim.Native.Nat.{_+_, _*_, _/_, _%_, _^_, _<_, _≤_};
 ghost use lib.ListN.{length, getD};

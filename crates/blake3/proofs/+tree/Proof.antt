@@ -54,7 +54,7 @@ module _ (t : ℕ) where
   returns c =
       let b = c .before .before .before in
       let a = b .args in
-      c .leaf .ensures ∙ tree-leaf (firsts (a .stride) (a .s .now)) (a .from) (a .len) (a .t) (a .f) (b .pre .1 .0 .1) (omega arith)
+      tree-leaf (firsts (a .stride) (a .s .now)) (a .from) (a .len) (a .t) (a .f) (b .pre .1 .0 .1) (omega arith) (c .leaf .ensures)
 
   four-requires : lts.Need-four-requires (Calls t) (At t) reads.Post
   four-requires c κs =
@@ -67,7 +67,8 @@ module _ (t : ℕ) where
       let i = c .before .before in
       let a = i .before .before .before .args in
       c .four .ensures
-      ∙ ap (λ (x : List ℕ). tree x (a .t) (a .f)) (plain-get (a .stride) (a .from) (a .len) WINDOW (a .s .now) (i .if2 .taken) (sym (c .before .if3 .taken)))
+      ∙ ap (λ (x : List ℕ). tree x (a .t) (a .f))
+      (plain-get (a .stride) (a .from) (a .len) WINDOW (a .s .now) (i .if2 .taken) (sym (c .before .if3 .taken)))
 
   chunks-requires : lts.Need-chunks-requires (Calls t) (At t) reads.Post
   chunks-requires c κs = omega arith
@@ -76,7 +77,8 @@ module _ (t : ℕ) where
   left-chunks-requires c κs = omega arith
 
   -- the left subtree's chunks
-  part : (c : lts.After-left-chunks (Calls t) (At t) reads.Post) → Largest (chunks (c .before .before .before .before .before .args .len)) (c .left-chunks .result)
+  part : (c : lts.After-left-chunks (Calls t) (At t) reads.Post)
+      → Largest (chunks (c .before .before .before .before .before .args .len)) (c .left-chunks .result)
   part c = rw (c .before .chunks .ensures) at (c .left-chunks .ensures)
 
   mul-n : lts.Need-mul-n (Calls t) (At t) reads.Post
@@ -126,5 +128,6 @@ pub +tree-spec : {M : Type 1} → statement M
 +tree-spec =
     close μ-tree
     (λ t.
-    lts.spec (Calls t) (At t) reads.Post (leaf-requires t) (returns t) (four-requires t) (returns-2 t) (chunks-requires t) (left-chunks-requires t) (mul-n t) (sub-rest t) (tree-requires t)
+    lts.spec (Calls t) (At t) reads.Post (leaf-requires t) (returns t) (four-requires t) (returns-2 t)
+    (chunks-requires t) (left-chunks-requires t) (mul-n t) (sub-rest t) (tree-requires t)
     (add-tree t) (add-tree-2 t) (tree-requires-2 t) (parent-requires t) (returns-3 t))

@@ -9,7 +9,8 @@ returns c =
     let l = r .before .before .before .before .before in
     let w = l .before .before .before .before .before .before .before .before .before in
     let a = w .before .before .args in
-    over-four (a .s .now) (a .t) (a .f) (w .window .result) _ (w .window .ensures) (l .parent .ensures) (r .parent2 .ensures) (c .parent3 .ensures)
+    over-four (a .s .now) (a .t) (a .f) (w .window .result) _ (w .window .ensures)
+    (l .parent .ensures) (r .parent2 .ensures) (c .parent3 .ensures)
 
 pub four-spec : {M : Type 1} → statement M
 four-spec =

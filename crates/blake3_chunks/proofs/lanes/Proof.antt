@@ -18,7 +18,8 @@ abbrev μ-loop : tie.MeasureT-loop
 μ-loop s k f hs lows highs ds₀ j₀ ds j = 4 - j
 
 -- the part that lane j is lent
-own : (s : List ℕ) (j : ℕ) (r n : Node) (k low high f : ℕ) → r ≡ pressed n (take (1024 * j + 1024 - 1024 * j) (drop (1024 * j) s)) k low high f
+own : (s : List ℕ) (j : ℕ) (r n : Node) (k low high f : ℕ)
+    → r ≡ pressed n (take (1024 * j + 1024 - 1024 * j) (drop (1024 * j) s)) k low high f
     → r ≡ pressed n (chunkOf s j) k low high f
 own s j r n k low high f e =
     let q : 1024 * j + 1024 - 1024 * j ≡ 1024 = omega arith in e ∙ ap (λ (m : ℕ). pressed n (take m (drop (1024 * j) s)) k low high f) q

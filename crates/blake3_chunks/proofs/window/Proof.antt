@@ -38,8 +38,8 @@ returns c =
     let b = h .before .before .before in
     let e : l .k ≡ 15 = omega arith in
     lanes-last (b .args .s .now) (b .args .t) 15 2 (l .hs) (c .lanes2 .result) (h .before .lows .result) (h .highs .result)
-    (l .inv .0 ∙ ap (λ k. tab 4 (before (b .args .s .now) (b .args .t) k)) e) (h .before .lows .ensures) (h .highs .ensures) (c .lanes2 .ensures)
-    (b .pre .0) refl refl
+    (l .inv .0 ∙ ap (λ k. tab 4 (before (b .args .s .now) (b .args .t) k)) e)
+    (h .before .lows .ensures) (h .highs .ensures) (c .lanes2 .ensures) (b .pre .0) refl refl
 
 pub window-spec : {M : Type 1} → statement M
 window-spec =

@@ -22,7 +22,8 @@ returns c =
     let d1 = p1 .before in
     let b = d1 .before .before .before .before in
     let a = b .before .args in
-    seven (a .m .now) (S.start (a .h .now) (a .t) (a .n) (a .f)) (b .start .ensures) (d1 .before .before .columns .ensures) (d1 .diagonals .ensures)
+    seven (a .m .now) (S.start (a .h .now) (a .t) (a .n) (a .f)) (b .start .ensures)
+    (d1 .before .before .columns .ensures) (d1 .diagonals .ensures)
     (p1 .permute .ensures) (d2 .before .before .before .columns2 .ensures) (d2 .diagonals2 .ensures)
     (p2 .permute2 .ensures) (d3 .before .before .before .columns3 .ensures) (d3 .diagonals3 .ensures)
     (p3 .permute3 .ensures) (d4 .before .before .before .columns4 .ensures) (d4 .diagonals4 .ensures)
