@@ -9,7 +9,7 @@ use lib.Pow.{mod-pow-add, shr-shr, shr-lt}
 use lib.ListN.{length, getD, take, drop, take-append-drop, length-drop}
 use lib.Dec.{eqb}
 use lib.Seq.{take-all, take-add, drop-drop}
-use Rattle.lists.specs.Over.{tab, length-tab, getD-tab}
+use Rattle.lists.specs.Over.{length-tab, getD-tab}
 use Rattle.lists.specs.Bytes.{Bytes, bytes-tab}
 use Rattle.lists.specs.Sect.{get}
 use Rattle.lists.specs.Same.{same?, same-true, same-false}
@@ -22,7 +22,7 @@ use Rattle.block.specs.Trip.{Small, bytesOf-at, length-bytesOf, block-take, blo
 use Rattle.blake3_core.specs.Word.{word, byteOf}
 use Rattle.blake3_core.specs.Compress.{compress, IV}
 use Rattle.blake3_node.specs.Node.{blockWords, after, chunk}
-use Rattle.blake3.specs.Tree.{bytes, digest, tree}
+use Rattle.blake3.specs.Tree.{bytes, digest}
 use Rattle.blake3.specs.TreeLaws.{tree-chunk}
 
 -- ---- bytes of words

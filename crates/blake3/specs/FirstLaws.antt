@@ -1,8 +1,8 @@
 -- `firsts stride s` by its places.
 use mathlib.Core.Path.{_≡_, refl, sym, ap, ap₂, _∙_}
 use mathlib.Core.Bool.{Bool, true, false}
-use mathlib.Core.List.{List, [], _++_, append-nil}
-use Prim.Native.Nat.{ℕ, zero, suc, _+_, _-_, _*_, _/_, _≤_, _<_, min}
+use mathlib.Core.List.{List, _++_, append-nil}
+use Prim.Native.Nat.{ℕ, suc, _+_, _-_, _*_, _/_, _≤_, _<_, min}
 use native.Mathlib.Nat.{div-one, div-mul-le-self, mul-one, suc-mul, mul-le-mul-right, mul-le-mul-left}
 use native.Mathlib.Omega.{arith}
 use lib.ListN.{length, getD, take, drop, length-append, length-take, length-drop, take-append-drop, List·getD-append}
@@ -11,7 +11,6 @@ use lib.Dec.{leb}
 use borrow.Author.Tests.{leb-true, leb-false}
 use Rattle.lists.specs.Over.{tab, length-tab, getD-tab}
 use Rattle.lists.specs.Tab.{take-tab}
-use Rattle.lists.specs.Rows.{tab-ext}
 use Rattle.lists.specs.Sect.{get}
 use Rattle.blake3.specs.Firsts.{firsts}
 
@@ -81,10 +80,13 @@ module _ (stride : ℕ) (s : List ℕ) (pos : 0 < stride) where
         ap (λ k. getD (take 8 s ++ tab n g) k 0) (sym e) ∙ getD-append-add (take 8 s) (tab n g) (i - 8) 0 ∙ getD-tab n (i - 8) g 0 (item w)
 
 -- a part of a list that lies side by side
+pub plain-get : (stride from len n : ℕ) (s : List ℕ) → stride ≡ 1 → n ≡ len → get from n s ≡ get from len (firsts stride s)
+plain-get stride from len n s e h =
+    ap₂ (λ (k : ℕ) (t : List ℕ). get from k t) h (sym (firsts-one s) ∙ ap (λ (k : ℕ). firsts k s) (sym e))
+
+-- the same of a part that is lent
 pub plain-part : (stride from len : ℕ) (s : List ℕ) → stride ≡ 1 → take ((from + len) - from) (drop from s) ≡ get from len (firsts stride s)
-plain-part stride from len s e =
-    let n : (from + len) - from ≡ len = omega arith in
-    ap₂ (λ (k : ℕ) (t : List ℕ). get from k t) n (sym (firsts-one s) ∙ ap (λ (k : ℕ). firsts k s) (sym e))
+plain-part stride from len s e = plain-get stride from len (from + len - from) s e (omega arith)
 
 -- the whole list
 pub all-plain : (s : List ℕ) → get 0 (length s) (firsts 1 s) ≡ s

@@ -1,19 +1,20 @@
 -- The tree's rule: a list of one chunk is that chunk; else the left subtree takes the largest power of two of chunks below the total.
 use mathlib.Core.Path.{_≡_, refl, sym, ap, ap₂, _∙_}
 use mathlib.Core.Bool.{Bool, true, false}
-use mathlib.Core.List.{List, [], _∷_}
+use mathlib.Core.List.{List}
 use Prim.Native.Nat.{ℕ, zero, suc, _+_, _-_, _*_, _/_, _^_, _≤_, _<_}
 use native.Mathlib.Nat.{pow-suc}
 use native.Mathlib.Numerals.{add-one}
 use native.Mathlib.Omega.{arith}
 use lib.Pow.{pow-pos, pow-mono}
 use lib.ListN.{length, take, drop, length-drop}
-use lib.Seq.{length-take-le, take-nil, take-take, drop-drop}
+use lib.Seq.{length-take-le, take-all, take-take, drop-drop}
 use lib.Dec.{ltb, leb}
 use borrow.Author.Tests.{le-leb, lt-leb, leb-true, leb-false, ltb-true, ltb-false}
 use Rattle.lists.specs.Pick.{pick}
-use Rattle.lists.specs.Sect.{get, drop-take}
+use Rattle.lists.specs.Sect.{get, drop-take, length-get}
 use Rattle.blake3_node.specs.Node.{chunk, parent, CHUNK-LEN}
+use Rattle.blake3_chunks.specs.Chunks.{WINDOW, four}
 use Rattle.blake3.specs.Tree.{chunks, powerBelow, leftChunks, treeIn, tree}
 
 -- ---- the left subtree
@@ -85,9 +86,6 @@ module _ (n k : ℕ) (h : CHUNK-LEN < n) (p : Largest (chunks n) k) where
   right-count = omega (arith, some, inside)
 
 -- ---- parts of lists
-
-pub length-get : (from len : ℕ) (m : List ℕ) → from + len ≤ length m → length (get from len m) ≡ len
-length-get from len m h = length-take-le len (drop from m) (omega (arith, length-drop from m))
 
 drop-get : (from len n : ℕ) (m : List ℕ) → n ≤ len → drop n (get from len m) ≡ get (from + n) (len - n) m
 drop-get from len n m h = drop-take n len (drop from m) h ∙ ap (take (len - n)) (drop-drop n from m)
@@ -173,5 +171,38 @@ tree-parts m from len t f k n l r h w p e el er =
     (er ∙ ap (λ (u : List ℕ). tree u (t + k) 0) (sym y))
     ∙ sym (tree-parent (get from len m) t f k (omega arith) (rw a p))
 
-pub tree-leaf : (m : List ℕ) (from len t f : ℕ) → from + len ≤ length m → len ≤ CHUNK-LEN → chunk (get from len m) t f ≡ tree (get from len m) t f
-tree-leaf m from len t f h w = sym (tree-chunk (get from len m) t f (omega (arith, length-get from len m h)))
+pub tree-leaf : (m : List ℕ) (from len t f : ℕ) {r : List ℕ} → from + len ≤ length m → len ≤ CHUNK-LEN
+    → r ≡ chunk (get from len m) t f → r ≡ tree (get from len m) t f
+tree-leaf m from len t f h w e = e ∙ sym (tree-chunk (get from len m) t f (omega (arith, length-get from len m h)))
+
+-- ---- whole chunks side by side
+
+-- two of them
+two : (m : List ℕ) (a t : ℕ) → a + 2 * CHUNK-LEN ≤ length m
+    → parent (chunk (get a CHUNK-LEN m) t 0) (chunk (get (a + CHUNK-LEN) CHUNK-LEN m) (t + 1) 0) 0 ≡ tree (get a (2 * CHUNK-LEN) m) t 0
+two m a t h =
+    tree-parts m a (2 * CHUNK-LEN) t 0 1 CHUNK-LEN _ _ h (omega arith)
+    (record { power = power-one; below = omega arith; next = omega arith }) refl
+    (tree-leaf m a CHUNK-LEN t 0 (omega arith) (omega arith) refl)
+    (tree-leaf m (a + CHUNK-LEN) CHUNK-LEN (t + 1) 0 (omega arith) (omega arith) refl)
+
+-- four of them, over which there are two parents and theirs
+pub tree-four : (s : List ℕ) (t f : ℕ) → length s ≡ WINDOW → four s t f ≡ tree s t f
+unfolding four
+tree-four s t f h =
+    let first : t + 0 ≡ t = omega arith in
+    let last : t + 3 ≡ t + 2 + 1 = omega arith in
+    ap₂ (λ (u v : ℕ).
+    parent (parent (chunk (get 0 CHUNK-LEN s) u 0) (chunk (get 1024 CHUNK-LEN s) (t + 1) 0) 0)
+    (parent (chunk (get 2048 CHUNK-LEN s) (t + 2) 0) (chunk (get 3072 CHUNK-LEN s) v 0) 0) f) first last
+    ∙ tree-parts s 0 WINDOW t f 2 2048 _ _ (omega arith) (omega arith)
+    (record { power = power-double 1 power-one; below = omega arith; next = omega arith }) refl
+    (two s 0 t (omega arith)) (two s 2048 (t + 2) (omega arith))
+    ∙ ap (λ (m : List ℕ). tree m t f) (take-all WINDOW s (omega arith))
+
+-- the same of a part that is lent
+pub tree-window : (s : List ℕ) (from t f : ℕ) → from + WINDOW ≤ length s
+    → four (take (from + WINDOW - from) (drop from s)) t f ≡ tree (get from WINDOW s) t f
+tree-window s from t f h =
+    let e : from + WINDOW - from ≡ WINDOW = omega arith in
+    ap (λ (n : ℕ). four (take n (drop from s)) t f) e ∙ tree-four (get from WINDOW s) t f (length-get from WINDOW s h)

@@ -2,7 +2,8 @@
 // From the BLAKE3 specification, with the names of the authors' reference_impl.rs; `hash128` is what `hash_vec` keeps of the hash.
 //
 // One tree serves two kinds of list: bytes that lie side by side (stride 1), and the first bytes of items of `stride` bytes behind the 8
-// bytes of a count (echoes 7 and 16), which are gathered chunk by chunk.
+// bytes of a count (echoes 7 and 16), which are gathered chunk by chunk. Of the first kind four whole chunks are hashed at once: the crate
+// blake3_chunks.
 ghost use mathlib.Core.Path.{_≡_};
 ghost use Prim.Native.Nat.{_+_, _-_, _*_, _/_, _^_, _<_, _≤_};
 ghost use lib.ListN.{length, getD};
@@ -11,9 +12,11 @@ ghost use Rattle.lists.specs.Same.{same?};
 ghost use Rattle.algebra.specs.Group.{odd};
 ghost use Rattle.block.specs.Block.{blockAt, bytesOf};
 ghost use Rattle.blake3_node.specs.Node as N;
+ghost use Rattle.blake3_chunks.specs.Chunks as C;
 ghost use Rattle.blake3.specs.Tree as T;
 ghost use Rattle.blake3.specs.TreeLaws.{Largest};
 ghost use Rattle.blake3.specs.Firsts.{firsts};
+use blake3_chunks::WINDOW;
 use blake3_core::IV;
 use blake3_node::CHUNK_END;
 use blake3_node::CHUNK_LEN;
@@ -80,6 +83,17 @@ fn leaf(s: &[u8], stride: usize, from: usize, len: usize, t: u64, f: u32) -> [u3
     }
 }
 
+// The four whole chunks from `from` on.
+fn four(s: &[u8], from: usize, t: u64, f: u32) -> [u32; 8]
+    requires { ⌜ from + C.WINDOW ≤ length (now s) ⌝ }
+    requires { ⌜ t + C.LANES < 2 ^ 64 ⌝ }
+    requires { ⌜ f < 16 ⌝ }
+    ensures { λ r. ⌜ r ≡ T.tree (get from C.WINDOW (now (s .entry))) t f ⌝ }
+{
+    let e = from + WINDOW;
+    blake3_chunks::four(&s[from..e], t, f)
+}
+
 // The tree over the len bytes from `from` on of `firsts stride s`; t is the number of the first chunk, and f is ROOT at the top, else 0.
 fn tree(s: &[u8], stride: usize, from: usize, len: usize, t: u64, f: u32) -> [u32; 8]
     requires { ⌜ (0 < stride) × (from + len ≤ length (firsts stride (now s))) ⌝ }
@@ -89,6 +103,11 @@ fn tree(s: &[u8], stride: usize, from: usize, len: usize, t: u64, f: u32) -> [u3
 {
     if len <= CHUNK_LEN {
         return leaf(s, stride, from, len, t, f);
+    }
+    if stride == 1 {
+        if len == WINDOW {
+            return four(s, from, t, f);
+        }
     }
     let k = left_chunks(chunks(len));
     let n = CHUNK_LEN * (k as usize);

@@ -81,9 +81,13 @@ eight = 0 ∷ 1 ∷ 2 ∷ 3 ∷ 4 ∷ 5 ∷ 6 ∷ 7 ∷ []
 abbrev pub words8 : List ℕ → List ℕ
 words8 h = map (λ (i : ℕ). getD h i 0) eight
 
--- the state at the start: the chaining value h, half of IV, the counter t of 64 bits, the number of bytes n, the flags f
+-- the state before the first round: the chaining value h, half of IV, the counter's two words, the number of bytes n, the flags f
+abbrev pub state : List ℕ → ℕ → ℕ → ℕ → ℕ → List ℕ
+state h low high n f = words8 h ++ (take 4 IV ++ (low ∷ high ∷ n ∷ f ∷ []))
+
+-- the same with the counter t of 64 bits
 abbrev pub start : List ℕ → ℕ → ℕ → ℕ → List ℕ
-start h t n f = words8 h ++ (take 4 IV ++ (t % 2 ^ 32 ∷ t / 2 ^ 32 ∷ n ∷ f ∷ []))
+start h t n f = state h (t % 2 ^ 32) (t / 2 ^ 32) n f
 
 -- the first half of the state xor the second half
 abbrev pub fold : List ℕ → List ℕ

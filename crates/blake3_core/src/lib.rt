@@ -122,8 +122,9 @@ pub fn high(t: u64) -> u32
     (t >> 32) as u32
 }
 
-pub fn start(h: &[u32; 8], t: u64, n: u32, f: u32) -> [u32; 16]
-    ensures { λ r. ⌜ r ≡ S.start (now (h .entry)) t n f ⌝ }
+// The state before the first round, with the counter in two words.
+pub fn state(h: &[u32; 8], low: u32, high: u32, n: u32, f: u32) -> [u32; 16]
+    ensures { λ r. ⌜ r ≡ S.state (now (h .entry)) low high n f ⌝ }
 {
     let iv = IV;
     [
@@ -139,11 +140,17 @@ pub fn start(h: &[u32; 8], t: u64, n: u32, f: u32) -> [u32; 16]
         iv[1],
         iv[2],
         iv[3],
-        low(t),
-        high(t),
+        low,
+        high,
         n,
         f,
     ]
+}
+
+pub fn start(h: &[u32; 8], t: u64, n: u32, f: u32) -> [u32; 16]
+    ensures { λ r. ⌜ r ≡ S.start (now (h .entry)) t n f ⌝ }
+{
+    state(h, low(t), high(t), n, f)
 }
 
 pub fn fold(v: &[u32; 16]) -> [u32; 8]

@@ -22,6 +22,11 @@ use block::Block;
 // As many Blocks as are hashed side by side.
 pub const LANES: usize = 64;
 
+// The bytes of those Blocks, and of their hashes.
+const BLOCKS_LEN: usize = LANES * 16;
+
+const HASHES_LEN: usize = LANES * 32;
+
 // The four words of a Block.
 struct Words(u32, u32, u32, u32);
 
@@ -144,9 +149,9 @@ pub fn hash_blocks(out: &mut [u8], blocks: &[u8], count: usize)
     let mut t: usize = 0;
     while count - t >= LANES {
         let a = t * 32;
-        let e = a + 2048;
+        let e = a + HASHES_LEN;
         let b = t * 16;
-        let f = b + 1024;
+        let f = b + BLOCKS_LEN;
         window(&mut out[a..e], &blocks[b..f]);
         t += LANES;
     }
@@ -161,8 +166,8 @@ pub fn hash_blocks(out: &mut [u8], blocks: &[u8], count: usize)
 
 // For C: the hashes of 64 Blocks.
 #[no_mangle]
-pub extern "C" fn nuz_blake3_blocks(blocks: &[u8; 1024], out: &mut [u8; 2048])
+pub extern "C" fn nuz_blake3_blocks(blocks: &[u8; BLOCKS_LEN], out: &mut [u8; HASHES_LEN])
     ensures { λ _. ⌜ now (out .exit) ≡ cat S.LANES (hashAt (now (blocks .entry))) ⌝ }
 {
-    hash_blocks(out, blocks, 64);
+    hash_blocks(out, blocks, LANES);
 }

@@ -1,5 +1,5 @@
 -- A chunk's blocks, one after the other.
-use mathlib.Core.Path.{_≡_, refl, sym, ap, ap₂, _∙_}
+use mathlib.Core.Path.{_≡_, refl, ap, _∙_}
 use mathlib.Core.List.{List, [], _∷_, _++_, map}
 use Prim.Native.Nat.{ℕ, zero, suc, _+_, _-_, _*_, _/_, _≤_}
 use native.Mathlib.Numerals.{add-one}
@@ -15,16 +15,18 @@ pub tail : (s : List ℕ) (k : ℕ) → take (length s - k) (drop k s) ≡ drop 
 tail s k = take-all (length s - k) (drop k s) (le-of-eq (length-drop k s))
 
 -- one more block
-pub next : (s : List ℕ) (t k d : ℕ) (h m : List ℕ) → h ≡ after k s t → d ≡ startFlag k → m ≡ blockWords (take (length s - 64 * k) (drop (64 * k) s))
-    → compress h m t 64 d ≡ after (k + 1) s t
+pub next : (s : List ℕ) (t k d : ℕ) {h m r : List ℕ}
+    → h ≡ after k s t → d ≡ startFlag k → m ≡ blockWords (take (length s - 64 * k) (drop (64 * k) s))
+    → r ≡ compress h m t 64 d → r ≡ after (k + 1) s t
 unfolding after
-next s t k d h m eh ed em = rw (add-one, eh, ed, em, tail)
+next s t k d eh ed em er = er ∙ rw (add-one, eh, ed, em, tail)
 
 -- the last block
-pub last : (s : List ℕ) (t f k d : ℕ) (h m : List ℕ) → h ≡ after k s t → d ≡ startFlag k → m ≡ blockWords (take (length s - 64 * k) (drop (64 * k) s))
-    → (length s - 1) / 64 ≡ k → compress h m t (length s - 64 * k) (d + 2 + f) ≡ chunk s t f
+pub last : (s : List ℕ) (t f k d : ℕ) {h m r : List ℕ}
+    → h ≡ after k s t → d ≡ startFlag k → m ≡ blockWords (take (length s - 64 * k) (drop (64 * k) s))
+    → (length s - 1) / 64 ≡ k → r ≡ compress h m t (length s - 64 * k) (d + 2 + f) → r ≡ chunk s t f
 unfolding chunk
-last s t f k d h m eh ed em ek = rw (ek, eh, ed, em, tail)
+last s t f k d eh ed em ek er = er ∙ rw (ek, eh, ed, em, tail)
 
 -- zeros behind a list change no word of it
 zeros : (n k : ℕ) → _≡_ {A = ℕ} (getD (replicate n 0) k 0) 0

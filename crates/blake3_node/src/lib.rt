@@ -39,7 +39,7 @@ fn load(s: &[u8], at: usize) -> u32
 }
 
 // The words of a whole block.
-fn whole(s: &[u8]) -> [u32; 16]
+pub fn whole(s: &[u8]) -> [u32; 16]
     requires { ⌜ N.BLOCK-LEN ≤ length (now s) ⌝ }
     ensures { λ r. ⌜ r ≡ N.blockWords (now (s .entry)) ⌝ }
 {

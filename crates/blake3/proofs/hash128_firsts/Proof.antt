@@ -1,8 +1,10 @@
-use mathlib.Core.Path.{ap, _∙_}
+use mathlib.Core.Path.{_≡_}
 use mathlib.Core.List.{List}
 use Prim.Native.Nat.{ℕ}
 use native.Mathlib.Omega.{arith}
+use Rattle.block.specs.declared.Block.{Block}
 use Rattle.block.specs.Block.{blockAt}
+use Rattle.blake3_node.specs.Node.{ROOT}
 use Rattle.blake3.specs.Tree.{tree, digest, bytes, hash}
 use Rattle.blake3.specs.FirstLaws.{length-firsts, firsts-fit, all-firsts}
 use borrow.Author.Needs.{needs}
@@ -19,13 +21,14 @@ tree-requires c κs =
     let b = c .before in
     omega (arith, length-firsts (b .args .stride) (b .args .s .now) (b .pre .0), firsts-fit (b .args .stride) (b .args .s .now) (b .pre .0))
 
-returns : tie.Need-returns
+of-tree : {m m′ h : List ℕ} {r : Block} → m ≡ m′ → h ≡ tree m 0 ROOT → r ≡ blockAt (bytes h) 0 → r ≡ blockAt (hash m′) 0
 unfolding digest hash
+of-tree em eh er = rw (er, eh, em)
+
+returns : tie.Need-returns
 returns c =
     let b = c .before .before .before in
-    c .block .ensures
-    ∙ ap (λ (h : List ℕ). blockAt (bytes h) 0)
-    (c .before .tree .ensures ∙ ap (λ (m : List ℕ). tree m 0 8) (all-firsts (b .args .stride) (b .args .s .now) (b .pre .0) (b .pre .1)))
+    of-tree (all-firsts (b .args .stride) (b .args .s .now) (b .pre .0) (b .pre .1)) (c .before .tree .ensures) (c .block .ensures)
 
 pub hash128-firsts-spec : {M : Type 1} → statement M
 hash128-firsts-spec = tie.close (tie.spec (λ c. search needs) (λ c. search needs) add-n tree-requires (λ c κs. search needs) returns)

@@ -1,21 +1,19 @@
-use mathlib.Core.Path.{ap₂}
-use mathlib.Core.List.{[], _∷_, _++_}
+use mathlib.Core.Path.{_≡_}
+use mathlib.Core.List.{List}
 use Prim.Native.Nat.{ℕ}
-use lib.ListN.{take}
 use Rattle.blake3_core.specs.Compress as S
 use borrow.Author.Needs.{needs}
 use Rattle.blake3_core.proofs.start.Statement.{statement}
 use Rattle.blake3_core.proofs.start.Tie as tie
 
+with-counter : (h : List ℕ) (n f : ℕ) {x y x′ y′ : ℕ} {r : List ℕ} → x ≡ x′ → y ≡ y′ → r ≡ S.state h x y n f → r ≡ S.state h x′ y′ n f
+with-counter h n f p q e = rw (e, p, q)
+
 returns : tie.Need-returns
 returns c =
-    let a = c .before .before .before .before .before .before .before .before .before .before .args in
-    ap₂ (λ (x y : ℕ). S.words8 (a .h .now) ++ (take 4 S.IV ++ (x ∷ y ∷ a .n ∷ a .f ∷ []))) (c .before .low .ensures) (c .high .ensures)
+    let a = c .before .before .before .args in
+    with-counter (a .h .now) (a .n) (a .f) (c .before .before .low .ensures) (c .before .high .ensures) (c .state .ensures)
 
 pub start-spec : {M : Type 1} → statement M
 start-spec =
-    tie.close
-    (tie.spec
-    (λ c. search needs) (λ c. search needs) (λ c. search needs) (λ c. search needs) (λ c. search needs) (λ c. search needs)
-    (λ c. search needs) (λ c. search needs) (λ c. search needs) (λ c. search needs) (λ c. search needs) (λ c. search needs)
-    (λ c κs. search needs) (λ c κs. search needs) returns)
+    tie.close (tie.spec (λ c κs. search needs) (λ c κs. search needs) (λ c κs. search needs) returns)

@@ -1,10 +1,10 @@
 -- As `compress`: seven rounds, from the message words that the lane has.
-use mathlib.Core.Path.{refl, ap, _∙_}
+use mathlib.Core.Path.{ap}
 use mathlib.Core.List.{List}
 use Prim.Native.Nat.{ℕ}
 use Rattle.blake3_core.specs.Compress as S
 use Rattle.blake3.specs.declared.Digest.{Digest}
-use Rattle.blake3_core.proofs.Rounds.{turn}
+use Rattle.blake3_core.proofs.Rounds.{seven}
 use Rattle.blake3_lanes.specs.Lanes.{digestOf}
 use borrow.Author.Needs.{needs}
 use Rattle.blake3_lanes.proofs.lane.Statement.{statement}
@@ -14,7 +14,7 @@ abbrev digest : List ℕ → Digest
 digest h = record { 0 = h }
 
 returns : tie.Need-returns
-unfolding digestOf S.compress S.rounds
+unfolding digestOf S.compress
 returns c =
     let d7 = c .before .before in
     let p6 = d7 .before .before .before .before .before .before in
@@ -29,23 +29,16 @@ returns c =
     let d2 = p2 .before .before in
     let p1 = d2 .before .before .before .before .before .before in
     let d1 = p1 .before .before in
-    let w1 = p1 .permute .ensures in
-    let w2 = p2 .permute2 .ensures ∙ ap S.permute w1 in
-    let w3 = p3 .permute3 .ensures ∙ ap S.permute w2 in
-    let w4 = p4 .permute4 .ensures ∙ ap S.permute w3 in
-    let w5 = p5 .permute5 .ensures ∙ ap S.permute w4 in
-    let w6 = p6 .permute6 .ensures ∙ ap S.permute w5 in
-    ap digest (
-    c .fold .ensures
-    ∙ ap S.fold
-    (turn _ w6 (d7 .before .before .before .columns7 .ensures) (d7 .diagonals7 .ensures) ∙ ap (S.round _)
-    (turn _ w5 (d6 .before .before .before .columns6 .ensures) (d6 .diagonals6 .ensures) ∙ ap (S.round _)
-    (turn _ w4 (d5 .before .before .before .columns5 .ensures) (d5 .diagonals5 .ensures) ∙ ap (S.round _)
-    (turn _ w3 (d4 .before .before .before .columns4 .ensures) (d4 .diagonals4 .ensures) ∙ ap (S.round _)
-    (turn _ w2 (d3 .before .before .before .columns3 .ensures) (d3 .diagonals3 .ensures) ∙ ap (S.round _)
-    (turn _ w1 (d2 .before .before .before .columns2 .ensures) (d2 .diagonals2 .ensures) ∙ ap (S.round _)
-    (turn _ refl (d1 .before .before .before .columns .ensures) (d1 .diagonals .ensures) ∙ ap (S.round _)
-    (d1 .before .before .before .before .before .before .start .ensures)))))))))
+    let b = d1 .before .before .before .before .before .before in
+    ap digest
+    (seven _ (S.start S.IV 0 16 11) (b .start .ensures) (d1 .before .before .before .columns .ensures) (d1 .diagonals .ensures)
+    (p1 .permute .ensures) (d2 .before .before .before .columns2 .ensures) (d2 .diagonals2 .ensures)
+    (p2 .permute2 .ensures) (d3 .before .before .before .columns3 .ensures) (d3 .diagonals3 .ensures)
+    (p3 .permute3 .ensures) (d4 .before .before .before .columns4 .ensures) (d4 .diagonals4 .ensures)
+    (p4 .permute4 .ensures) (d5 .before .before .before .columns5 .ensures) (d5 .diagonals5 .ensures)
+    (p5 .permute5 .ensures) (d6 .before .before .before .columns6 .ensures) (d6 .diagonals6 .ensures)
+    (p6 .permute6 .ensures) (d7 .before .before .before .columns7 .ensures) (d7 .diagonals7 .ensures)
+    (c .fold .ensures))
 
 pub lane-spec : {M : Type 1} → statement M
 lane-spec =

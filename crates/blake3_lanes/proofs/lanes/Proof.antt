@@ -1,9 +1,9 @@
 -- The loop's invariant: the digests of the first t lanes stand in front.
 use mathlib.Core.Path.{_≡_, refl}
 use mathlib.Core.List.{_++_}
-use Prim.Native.Nat.{_+_, _-_, _*_, _≤_}
+use Prim.Native.Nat.{_+_, _-_, _≤_}
 use native.Mathlib.Omega.{arith}
-use lib.ListN.{length, drop, getD}
+use lib.ListN.{drop, getD}
 use Rattle.lists.specs.Over.{tab, tab-zero, tab-turn, tab-end}
 use Rattle.blake3_lanes.specs.Lanes.{noWords, digestOf}
 use borrow.Author.Needs.{needs}

@@ -1,9 +1,8 @@
 -- The loop's invariant: the hashes of the first t Blocks stand in front.
-use mathlib.Core.Path.{_≡_, refl, sym, ap, _∙_}
+use mathlib.Core.Path.{_∙_}
 use Prim.Native.Nat.{_+_, _-_, _*_, _≤_}
 use native.Mathlib.Omega.{arith}
-use lib.ListN.{length}
-use Rattle.lists.specs.Over.{Written, written-zero, written-turn, written-end, next-chunk}
+use Rattle.lists.specs.Over.{Written, written-zero, written-turn, written-end}
 use Rattle.blake3_lanes.specs.Lanes.{hashAt}
 use Rattle.blake3_lanes.specs.LaneLaws.{length-hashAt, lane-hash}
 use borrow.Author.Needs.{needs}

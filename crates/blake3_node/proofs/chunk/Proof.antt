@@ -1,5 +1,5 @@
 use native.Mathlib.Numerals.{add-one}
-use mathlib.Core.Path.{_≡_, refl, ap, _∙_}
+use mathlib.Core.Path.{_≡_, refl}
 use Prim.Native.Nat.{_*_, _-_, _≤_}
 use native.Mathlib.Omega.{arith}
 use borrow.Author.Needs.{needs}
@@ -21,13 +21,18 @@ loop-holds c = (refl, refl, omega arith, omega arith)
 
 loop-again : tie.Need-loop-again Inv-loop μ-loop
 loop-again c =
-    let l = c .before .before .before .before .before .before in
-    (c .compress .ensures ∙ next _ _ _ _ _ _ (l .loop .inv .0) (l .loop .inv .1) (c .before .before .before .whole .ensures), rw add-one, omega arith, omega arith)
+    let l = c .before .before .before .before .before .before in (
+      next _ _ (l .loop .k) _ (l .loop .inv .0) (l .loop .inv .1) (c .before .before .before .whole .ensures) (c .compress .ensures),
+      rw add-one,
+      omega arith,
+      omega arith,
+    )
 
 returns : tie.Need-returns Inv-loop μ-loop
 returns c =
     let l = c .before .before .before .before .before .before in
-    c .compress2 .ensures ∙ last _ _ _ _ _ _ _ (l .loop .inv .0) (l .loop .inv .1) (c .before .before .before .rest .ensures) (omega arith)
+    last _ _ _ (l .loop .k) _ (l .loop .inv .0) (l .loop .inv .1) (c .before .before .before .rest .ensures)
+    (omega arith) (c .compress2 .ensures)
 
 pub chunk-spec : {M : Type 1} → statement M
 chunk-spec =
