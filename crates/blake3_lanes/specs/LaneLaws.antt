@@ -1,10 +1,11 @@
--- A lane's digest is the hash of its Block; the Blocks of a window are Blocks of the whole.
-use mathlib.Core.Path.{_≡_, ap, _∙_}
-use mathlib.Core.List.{List}
-use Prim.Native.Nat.{ℕ, _+_, _-_, _*_, _<_}
+-- A lane's digest is the hash of its Block; the Blocks of a window are Blocks of the whole; the hashes of some lanes of a window.
+use mathlib.Core.Path.{_≡_, sym, ap, _∙_}
+use mathlib.Core.List.{List, _++_, append-assoc}
+use Prim.Native.Nat.{ℕ, _+_, _-_, _*_, _<_, _≤_}
 use native.Mathlib.Omega.{arith}
 use lib.ListN.{length, take, drop, getD}
-use Rattle.lists.specs.Over.{tab, cat, length-cat, getD-tab}
+use lib.Seq.{take-at, drop-at}
+use Rattle.lists.specs.Over.{tab, cat, cat-add, length-cat, getD-tab}
 use Rattle.lists.specs.Rows.{cat-ext}
 use Rattle.lists.specs.Bytes.{Bytes}
 use Rattle.block.specs.declared.Block.{Block}
@@ -40,3 +41,24 @@ pub hash-part : (s : List ℕ) (a e j m : ℕ) → a ≡ j * 16 → e ≡ a + m 
 hash-part s a e j m ea ee = cat-ext m (hashAt (take (e - a) (drop a s))) (λ k. hashAt s (j + k)) (λ k h.
     ap (λ (b : Block). hash (bytesOf b)) (
     block-get s a (e - a) (k * 16) (omega arith) ∙ ap (blockAt s) (let q : a + k * 16 ≡ (j + k) * 16 = omega arith in q)))
+
+-- c chunks from chunk a on, of n chunks of k elements each
+get-cat : (n k a c : ℕ) (g : ℕ → List ℕ) → ((j : ℕ) → j < n → length (g j) ≡ k) → a + c ≤ n → take (c * k) (drop (a * k) (cat n g)) ≡ cat c
+    (λ q. g (a + q))
+get-cat n k a c g h l =
+    let x : List ℕ = cat a g in
+    let y : List ℕ = cat c (λ q. g (a + q)) in
+    let z : List ℕ = cat (n - (a + c)) (λ q. g (a + c + q)) in
+    let whole : cat n g ≡ x ++ (y ++ z) =
+    ap (λ m. cat m g) (let e : n ≡ a + c + (n - (a + c)) = omega arith in e) ∙ sym (cat-add g (a + c) (n - (a + c)))
+    ∙ ap (λ (w : List ℕ). w ++ z) (sym (cat-add g a c)) ∙ append-assoc x y z in
+    ap (λ (w : List ℕ). take (c * k) (drop (a * k) w)) whole
+    ∙ ap (take (c * k)) (drop-at x (y ++ z) (a * k) (length-cat a k g (λ j m. h j (omega arith))))
+    ∙ take-at y z (c * k) (length-cat c k (λ q. g (a + q)) (λ j m. h (a + j) (omega arith)))
+
+-- the hashes of c lanes from lane a on, in which the Blocks b stand
+pub hash-lanes : (s : List ℕ) (n a c : ℕ) (b : ℕ → Block) → a + c ≤ n → ((q : ℕ) → q < c → blockAt s ((a + q) * 16) ≡ b q)
+    → take (c * 32) (drop (a * 32) (cat n (hashAt s))) ≡ cat c (λ q. hash (bytesOf (b q)))
+hash-lanes s n a c b l e =
+    get-cat n 32 a c (hashAt s) (λ j h. length-hashAt s j) l
+    ∙ cat-ext c (λ q. hashAt s (a + q)) (λ q. hash (bytesOf (b q))) (λ q h. ap (λ (x : Block). hash (bytesOf x)) (e q h))

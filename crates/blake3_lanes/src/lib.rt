@@ -115,8 +115,8 @@ fn lanes(ms: [Words; LANES]) -> [Digest; LANES]
     ds
 }
 
-// The hashes of 64 Blocks.
-fn window(out: &mut [u8], blocks: &[u8])
+// The hashes of 64 Blocks: one window.
+pub fn hash_window(out: &mut [u8], blocks: &[u8])
     requires { ⌜ length (now out) ≡ S.LANES * 32 ⌝ }
     requires { ⌜ length (now blocks) ≡ S.LANES * 16 ⌝ }
     ensures { λ _. ⌜ now (out .exit) ≡ cat S.LANES (hashAt (now (blocks .entry))) ⌝ }
@@ -152,7 +152,7 @@ pub fn hash_blocks(out: &mut [u8], blocks: &[u8], count: usize)
         let e = a + HASHES_LEN;
         let b = t * 16;
         let f = b + BLOCKS_LEN;
-        window(&mut out[a..e], &blocks[b..f]);
+        hash_window(&mut out[a..e], &blocks[b..f]);
         t += LANES;
     }
     while t < count {
@@ -169,5 +169,5 @@ pub fn hash_blocks(out: &mut [u8], blocks: &[u8], count: usize)
 pub extern "C" fn nuz_blake3_blocks(blocks: &[u8; BLOCKS_LEN], out: &mut [u8; HASHES_LEN])
     ensures { λ _. ⌜ now (out .exit) ≡ cat S.LANES (hashAt (now (blocks .entry))) ⌝ }
 {
-    hash_blocks(out, blocks, LANES);
+    hash_window(out, blocks);
 }

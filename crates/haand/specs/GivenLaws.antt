@@ -2,7 +2,7 @@
 use mathlib.Core.Path.{_≡_, refl, sym, ap, _∙_}
 use mathlib.Core.List.{List}
 use Prim.Native.Nat.{ℕ, _+_, _*_, _<_, _≤_}
-use native.Mathlib.Nat.{mul-le-mul}
+use native.Mathlib.Nat.{add-mul, mul-le-mul, mul-le-mul-right}
 use native.Mathlib.Omega.{arith}
 use lib.ListN.{length}
 use Rattle.lists.specs.Over.{in-record, in-chunks}
@@ -46,6 +46,12 @@ module _ {n i l t : ℕ} {recs : List ℕ} (a : Asked n i l t recs) where
     entry-in =
         let e = in-record t (leaky l) (leakyLen n) (32 + k * 18) 18 (length rows) (a .below) (omega (arith, in-chunks k n 18 h)) (omega (arith, q .rows)) in e
 
+-- the x records of m positions from t on
+pub x-window : (n l t m : ℕ) (recs : List ℕ) → length recs ≡ bitsCount l * recordLen n → t + m ≤ leaky l → (t + m) * recordLen n
+    ≤ length recs
+unfolding bitsCount
+x-window n l t m recs e h = let q : t + m ≤ bitsCount l = omega arith in omega (arith, mul-le-mul-right (recordLen n) q)
+
 -- ---- sections of the work area
 pub bits-len-is : {n i l : ℕ} → Ranges n i l → bitsLen n l ≡ bitsCount l * recordLen n
 bits-len-is {n} {i} {l} r = bits-len n l (record { two = r .two; eight = r .eight; one = r .one; most = r .most })
@@ -86,6 +92,14 @@ module _ {n i l : ℕ} {w : List ℕ} (h : Work n i l w) where
   row-inside s a c k t b ha hm ht p =
       let e : t * k + k ≤ c * k = in-chunks t c k ht in
       omega (arith, e, inside s a (c * k) b ha hm (omega arith))
+
+  -- m rows from row t on
+  pub rows-inside : (s a c k t m : ℕ) → s < SECTIONS → Starts n i l s a → c * k ≡ sizeOf (frame n l i) s → t + m ≤ c → 0 < m → 0 < k
+      → a + t * k + m * k ≤ length w
+  rows-inside s a c k t m b ha hm ht p q =
+      let e : (t + m) * k ≤ c * k = mul-le-mul-right k ht in
+      let z : 1 * k ≤ m * k = mul-le-mul-right k p in
+      omega (arith, e, add-mul t m k, inside s a (c * k) b ha hm (omega (arith, e, z, add-mul t m k)))
 
   pub bits-inside : (a : ℕ) → Starts n i l BITS a → a + bitsCount l * recordLen n ≤ length w
   unfolding bitsCount

@@ -2,4 +2,3 @@ pub mod Given
 pub mod GivenLaws
 pub mod Parts
 pub mod Sent
-pub mod Received

@@ -1,25 +1,31 @@
 -- Parts of the definitions of round 14 (rounds: Haand), named for the functions that compute them.
 use mathlib.Core.Path.{_≡_, refl, sym, ap, ap₂, _∙_}
-use mathlib.Core.Bool.{Bool, cond}
+use mathlib.Core.Bool.{Bool, true, false}
+use mathlib.Core.Logic.{_≢_}
 use mathlib.Core.List.{List, [], _∷_, _++_, append-assoc}
-use Prim.Native.Nat.{ℕ, zero, suc, _+_, _-_, _*_, _≤_}
-use lib.ListN.{length, getD, take, drop, replicate, length-append}
-use lib.Seq.{take-at, drop-at, drop-drop, length-take-le}
+use Prim.Native.Nat.{ℕ, zero, suc, _+_, _-_, _*_, _<_, _≤_}
+use lib.ListN.{length, take, drop, replicate, length-append}
+use lib.Seq.{take-at, take-all, drop-at, drop-drop, length-take-le}
 use borrow.Rule.Slice.PartMut.{putMid}
+use native.Mathlib.Nat.{mul-assoc, mul-le-mul-left}
 use native.Mathlib.Omega.{arith}
+use Rattle.lists.specs.Pick.{pick}
 use Rattle.lists.specs.Over.{cat, over-next, over-full}
-use Rattle.algebra.specs.Group.{XorGroup, addb, num, odd}
+use Rattle.lists.specs.Rows.{cat-ext}
+use Rattle.algebra.specs.Group.{XorGroup, num}
+use Rattle.algebra.specs.Sum.{neq, Same, apart, apart?, others, others-ext}
 use Rattle.block.specs.declared.Block.{Block}
 use Rattle.block.specs.Block.{bytesOf}
 use Rattle.block.specs.Group.{blocks}
 use Rattle.block.specs.Trip.{length-bytesOf}
-use Rattle.share.specs.Record.{recordLen, bitAt, macAt, keyAt}
+use Rattle.share.specs.Record.{recordLen, keyAt}
 use Rattle.share.specs.Share.{shareAt}
 use Rattle.engine.specs.declared.Frame.{Frame}
 use Rattle.rounds.specs.Area.{leakyLen, rows}
 use Rattle.rounds.specs.Loops.{rowOf, rows-of}
-use Rattle.rounds.specs.Haand.{x, H, G, u, phi, leakyEntry, leakyRow}
-use Rattle.rounds.specs.HaandLaws.{length-leakyRow}
+use Rattle.rounds.specs.Haand.{x, G, u, phi, leakyEntry}
+use Rattle.haand_hash.specs.Window.{hashes, gAt, hAt}
+use Rattle.haand_hash.specs.WindowLaws.{g-is, h-is}
 
 -- a buffer that is written in two parts
 pub two-parts : (a b : ℕ) (x y x′ y′ l : List ℕ) → length l ≡ a + b → length x ≡ a → x′ ≡ x → y′ ≡ y → putMid a b (putMid 0 a l x′) y′ ≡ x ++ y
@@ -44,27 +50,66 @@ drop-replicate zero m v = ap (λ j. replicate j v) (let e : m ≡ m - 0 = omega 
 drop-replicate (suc k) zero v = ap (λ j. replicate j v) (let e : 0 ≡ 0 - suc k = omega arith in e)
 drop-replicate (suc k) (suc m) v = drop-replicate k m v ∙ ap (λ j. replicate j v) (let e : m - k ≡ suc m - suc k = omega arith in e)
 
--- an entry of a row of LEAKY, of a party with the x key k: u and the two bits H
-unfoldable pub entry : Block → Block → Block → List ℕ
-entry k delta p =
-    bytesOf (blocks .op (blocks .op (G k) (G (blocks .op k delta))) p) ++ (num (H k) ∷ num (H (blocks .op k delta)) ∷ [])
+-- an entry of a row of LEAKY: G and H of a party's x key and of that key plus delta, and phi
+unfoldable pub entryOf : Block → Block → Block → Bool → Bool → List ℕ
+entryOf g g′ p h h′ = bytesOf (blocks .op (blocks .op g g′) p) ++ (num h ∷ num h′ ∷ [])
 
-pub length-entry : (k delta p : Block) → length (entry k delta p) ≡ 18
-unfolding entry
-length-entry k delta p =
-    length-append (bytesOf (blocks .op (blocks .op (G k) (G (blocks .op k delta))) p)) _ ∙ ap (λ n. n + 2) (length-bytesOf _)
+-- that of party k, from the hashes of the x keys of a position, and of the keys plus delta
+unfoldable pub entryAt : ℕ → List ℕ → List ℕ → Block → ℕ → List ℕ
+entryAt i keys sums p k = entryOf (gAt i keys k) (gAt i sums k) p (hAt i keys k) (hAt i sums k)
 
--- as the rows of LEAKY have them
-pub entries-of : (f : Frame) (delta : Block) (recs : List ℕ) (t : ℕ)
-    → cat (f .n) (rowOf (f .i) 18 (λ k. entry (keyAt recs (t * recordLen (f .n)) k) delta (phi f delta recs t))) ≡ rows f 18 (leakyEntry f delta recs t)
-unfolding entry leakyEntry u x shareAt
-entries-of f delta recs t = rows-of f 18 (leakyEntry f delta recs t)
+pub length-entryAt : (i : ℕ) (keys sums : List ℕ) (p : Block) (k : ℕ) → length (entryAt i keys sums p k) ≡ 18
+unfolding entryAt entryOf
+length-entryAt i keys sums p k =
+    length-append (bytesOf (blocks .op (blocks .op (gAt i keys k) (gAt i sums k)) p)) _ ∙ ap (λ n. n + 2) (length-bytesOf _)
+
+row-ext : (i m : ℕ) (g h : ℕ → List ℕ) (k : ℕ) → (i ≢ k → g k ≡ h k) → rowOf i m g k ≡ rowOf i m h k
+unfolding rowOf
+row-ext i m g h k e = go (neq i k) (apart? i k)
+  where
+    go : (b : Bool) → Same i k b → pick b (g k) (replicate m 0) ≡ pick b (h k) (replicate m 0)
+    go true (apart ne) = e ne
+    go false s = refl
+
+-- ---- where they are the hashes of position t
+module _ (f : Frame) (delta : Block) (recs : List ℕ) (t : ℕ) (keys sums : List ℕ) (own : f .i < f .n)
+    (ek : keys ≡ hashes (f .n) (f .i) (keyAt recs (t * recordLen (f .n))))
+    (es : sums ≡ hashes (f .n) (f .i) (λ k. blocks .op (keyAt recs (t * recordLen (f .n)) k) delta)) where
+  abbrev key : ℕ → Block
+  key = keyAt recs (t * recordLen (f .n))
+
+  entry-is : (k : ℕ) → k < f .n → f .i ≢ k → entryAt (f .i) keys sums (phi f delta recs t) k ≡ leakyEntry f delta recs t k
+  unfolding entryAt entryOf leakyEntry u x shareAt
+  entry-is k l ne =
+      ap₂ (λ (a b : List ℕ). a ++ b)
+      (ap₂ (λ (a b : Block). bytesOf (blocks .op (blocks .op a b) (phi f delta recs t)))
+      (g-is (f .n) (f .i) k key keys ek own l ne) (g-is (f .n) (f .i) k (λ k. blocks .op (key k) delta) sums es own l ne))
+      (ap₂ (λ (a b : Bool). num a ∷ num b ∷ [])
+      (h-is (f .n) (f .i) k key keys ek own l ne) (h-is (f .n) (f .i) k (λ k. blocks .op (key k) delta) sums es own l ne))
+
+  -- as the rows of LEAKY have them
+  pub entries-of : cat (f .n) (rowOf (f .i) 18 (entryAt (f .i) keys sums (phi f delta recs t))) ≡ rows f 18 (leakyEntry f delta recs t)
+  entries-of = cat-ext (f .n) _ _ (λ k l. row-ext (f .i) 18 _ _ k (entry-is k l)) ∙ rows-of f 18 (leakyEntry f delta recs t)
+
+  pub sums-of : others blocks (f .i) (f .n) (gAt (f .i) keys) ≡ others blocks (f .i) (f .n) (λ k. G (x f recs t .key k))
+  unfolding x shareAt
+  sums-of = others-ext blocks (f .i) (f .n) (gAt (f .i) keys) (λ k. G (key k)) (λ k l ne. g-is (f .n) (f .i) k key keys ek own l ne)
+
+-- ---- the rows of a window
+-- they fit into the room that those of 32 positions of 2 parties take
+pub rows-fit : (n m : ℕ) → 2 ≤ n → m * (n - 1) ≤ 32 → m * leakyLen n ≤ 2176
+unfolding leakyLen
+rows-fit n m two fits =
+    let each : 32 + n * 18 ≤ (n - 1) * 68 = omega arith in
+    omega (arith, mul-le-mul-left m each, mul-assoc m (n - 1) 68)
 
 -- the row that was copied out of an array
 pub row-copied : (m k : ℕ) (x r z row : List ℕ) → x ≡ take m row → row ≡ r ++ z → length r ≡ k → m ≡ k → x ≡ r
 row-copied m k x r z row hx hr hk hm = hx ∙ ap₂ take hm hr ∙ take-at r z k hk
 
-pub row-fits : (f : Frame) (delta : Block) (recs : List ℕ) (t m : ℕ) (row : List ℕ)
-    → row ≡ leakyRow f delta recs t ++ replicate (176 - leakyLen (f .n)) 0 → m ≡ leakyLen (f .n) → m ≤ length row
-row-fits f delta recs t m row hr hm =
-    omega (arith, ap length hr, length-append (leakyRow f delta recs t) (replicate (176 - leakyLen (f .n)) 0), length-leakyRow f delta recs t)
+-- the rows of a window that were made in front of a buffer and copied from there
+pub window-copied : (m k size : ℕ) (y x r rows : List ℕ) → y ≡ take m (take k (x ++ r)) → x ≡ rows → length rows ≡ size → m ≡ size → k
+    ≡ size → y ≡ rows
+window-copied m k size y x r rows hy hx hl hm hk =
+    hy ∙ ap₂ (λ a b. take a (take b (x ++ r))) hm hk ∙ ap (λ (z : List ℕ). take size (take size (z ++ r))) hx
+    ∙ ap (take size) (take-at rows r size hl) ∙ take-all size rows (omega arith)

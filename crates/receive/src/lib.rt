@@ -381,7 +381,7 @@ fn keep_zs(
     let masks = area::section_at(n, l, MASKS);
     let recs = area::section_at(n, l, BITS);
     let rows = area::section_at(n, l, ZS);
-    haand::keep_z(work, masks, recs, rows, incoming, starts, lens, n, i, l);
+    haand_recv::keep_z(work, masks, recs, rows, incoming, starts, lens, n, i, l);
 }
 
 // Round 15: the others' e.

@@ -66,7 +66,7 @@ loop-again c =
     let blocks = s .args .blocks .now in (
       omega (arith, whole i),
       written-more (hashAt blocks) (k .t) 64 (k .t * 32) (k .t * 32 + 2048) ((k .t + 64) * 32) (s .args .out .now) (k .out) _ (k .inv .1)
-          (p .window .ensures ∙ hash-part blocks (k .t * 16) (k .t * 16 + 1024) (k .t) 64 refl refl)
+          (p .hash-window .ensures ∙ hash-part blocks (k .t * 16) (k .t * 16 + 1024) (k .t) 64 refl refl)
           (omega (arith, length-hashes blocks (k .t) 64)) (omega arith) (omega (arith, whole i, s .pre .1)) (omega arith),
     )
 

@@ -3,31 +3,56 @@ use mathlib.Core.Path.{_≡_, refl, sym, ap, ap₂, _∙_}
 use mathlib.Core.List.{List, _++_}
 use Prim.Native.Nat.{ℕ, _+_, _-_, _*_, _<_, _≤_}
 use native.Mathlib.Omega.{arith}
-use native.Mathlib.Nat.{zero-mul}
-use lib.ListN.{length, take, drop, replicate}
+use native.Mathlib.Nat.{add-mul, mul-le-mul-right, zero-mul}
+use lib.ListN.{length, take, drop}
+use lib.Seq.{length-take-le}
 use denote.Ref.{now}
+use borrow.Rule.Slice.PartMut.{postOf}
 use borrow.Author.Needs.{needs}
-use Rattle.lists.specs.Over.{in-chunks, next-chunk}
+use Rattle.lists.specs.Over.{cat, length-cat}
+use Rattle.lists.specs.Sect.{length-put}
 use Rattle.plan.specs.Plan.{leaky}
 use Rattle.engine.specs.declared.Frame.{Frame}
 use Rattle.engine.specs.Step.{frame}
-use Rattle.engine.specs.Area.{off, sec}
+use Rattle.engine.specs.Area.{sec}
 use Rattle.rounds.specs.Area.{BITS, LEAKY, SECTIONS, leakyLen, sizeOf, at, keep}
-use Rattle.rounds.specs.Loops.{part-sec, lent-part, Keeping, keeping-none, keeping-turn, keeping-end, keeping-other}
+use Rattle.rounds.specs.Loops.{part-sec, lent-part, Keeping, keeping-none, keeping-more, keeping-end, keeping-other}
 use Rattle.rounds.specs.Haand as R
-use Rattle.haand.specs.GivenLaws.{size-bits, size-leaky, bits-len-is, area, row-inside, bits-inside, asked-sec}
 use Rattle.rounds.specs.HaandLaws.{length-leakyRow}
-use Rattle.haand.specs.Parts.{row-copied, row-fits}
+use Rattle.haand.specs.GivenLaws.{size-bits, size-leaky, bits-len-is, area, rows-inside, bits-inside, asked-sec}
+use Rattle.haand.specs.Parts.{rows-fit, window-copied}
 use Rattle.haand.proofs.keep_leaky.Statement.{statement}
 use Rattle.haand.proofs.keep_leaky.Tie as tie
 
 abbrev Inv-loop : tie.InvT-loop
-Inv-loop work₀ recs rows delta n i l count end len t₀ work t =
+Inv-loop work₀ recs rows delta n i l count end len made₀ t₀ work made t =
     (t ≤ leaky l)
+    × (length made ≡ 2176)
     × Keeping (sizeOf (frame n l i)) SECTIONS LEAKY (R.leakyRow (frame n l i) (delta .0) (sec (sizeOf (frame n l i)) BITS work₀)) t (t * leakyLen n) work₀ work
 
 abbrev μ-loop : tie.MeasureT-loop
-μ-loop work₀ recs rows delta n i l count end len t₀ work t = leaky l - t
+μ-loop work₀ recs rows delta n i l count end len made₀ t₀ work made t = leaky l - t
+
+-- ---- of a call
+module _ (s : tie.Start Inv-loop μ-loop) where
+  abbrev f : Frame
+  f = frame (s .args .n) (s .args .l) (s .args .i)
+
+  abbrev w₀ : List ℕ
+  w₀ = now (s .args .work)
+
+  abbrev g : ℕ → List ℕ
+  g = R.leakyRow f (s .args .delta .0) (sec (sizeOf f) BITS w₀)
+
+  abbrev row : ℕ
+  row = leakyLen (s .args .n)
+
+  some-row : 0 < row
+  unfolding leakyLen
+  some-row = omega arith
+
+  long : (t m : ℕ) → length (cat m (λ q. g (t + q))) ≡ m * row
+  long t m = length-cat m row (λ q. g (t + q)) (λ q h. length-leakyRow f (s .args .delta .0) (sec (sizeOf f) BITS w₀) (t + q))
 
 add-end : tie.Need-add-end Inv-loop μ-loop
 add-end c =
@@ -37,121 +62,196 @@ add-end c =
 loop-holds : tie.Need-loop-holds Inv-loop μ-loop
 loop-holds c =
     let s = c .before .before .before .before in
-    let f : Frame = frame (s .args .n) (s .args .l) (s .args .i) in
-    (omega arith, rw zero-mul (keeping-none (sizeOf f) SECTIONS LEAKY (omega arith) (now (s .args .work)) (area (s .pre .0)) _))
+    (omega arith, refl, rw zero-mul (keeping-none (sizeOf (f s)) SECTIONS LEAKY (omega arith) (w₀ s) (area (s .pre .0)) (g s)))
+
+sub-window : tie.Need-sub-window Inv-loop μ-loop
+sub-window c = omega (arith, c .before .loop .inv .0, c .before .before .before .before .leaky .ensures)
+
+window-requires : tie.Need-window-requires Inv-loop μ-loop
+window-requires c κs =
+    let r = c .before .before .before .before .before .before .pre .0 .ranges in
+    ((r .two, (r .eight, omega arith)), omega (arith, c .loop-test .taken))
 
 -- ---- in a turn
-module _ (c : tie.In-loop Inv-loop μ-loop) where
+module _ (c : tie.After-window Inv-loop μ-loop) where
   abbrev start : tie.Start Inv-loop μ-loop
-  start = c .before .before .before .before .before .before
-
-  abbrev f : Frame
-  f = frame (start .args .n) (start .args .l) (start .args .i)
+  start = c .before .before .before .before .before .before .before
 
   abbrev t : ℕ
-  t = c .before .loop .t
+  t = c .before .before .loop .t
 
-  below : t < leaky (start .args .l)
-  below = omega (arith, c .loop-test .taken, c .before .before .before .before .leaky .ensures)
+  abbrev m : ℕ
+  m = c .window .result
+
+  abbrev len : ℕ
+  len = c .before .before .before .leaky-len .result
+
+  abbrev w : List ℕ
+  w = c .before .before .loop .work
+
+  some : t + m ≤ leaky (start .args .l)
+  some = omega (arith, c .window .ensures .1, c .before .loop-test .taken, c .before .before .before .before .before .leaky .ensures)
+
+  len-is : len ≡ row start
+  len-is = c .before .before .before .leaky-len .ensures
+
+  size-is : m * len ≡ m * row start
+  size-is = ap (λ k. m * k) len-is
+
+  room : m * len ≤ 2176
+  room = omega (arith, size-is, rows-fit (start .args .n) m (start .pre .0 .ranges .two) (c .window .ensures .2))
 
   -- BITS is read
-  records-in : start .args .recs + c .before .before .before .bits-len .result ≤ length (c .before .loop .work)
+  records-in : start .args .recs + c .before .before .before .before .bits-len .result ≤ length w
   records-in =
       omega (
         arith,
         bits-inside (start .pre .0) (start .args .recs) (start .pre .1 .0),
-        c .before .before .before .bits-len .ensures,
+        c .before .before .before .before .bits-len .ensures,
         bits-len-is (start .pre .0 .ranges),
-        c .before .loop .inv .1 .same,
+        c .before .before .loop .inv .2 .same,
       )
 
-  records : (e : ℕ) → e ≡ start .args .recs + c .before .before .before .bits-len .result
-      → take (e - start .args .recs) (drop (start .args .recs) (c .before .loop .work)) ≡ sec (sizeOf f) BITS (now (start .args .work))
+  records : (e : ℕ) → e ≡ start .args .recs + c .before .before .before .before .bits-len .result
+      → take (e - start .args .recs) (drop (start .args .recs) w) ≡ sec (sizeOf (f start)) BITS (w₀ start)
   records e he =
-      part-sec (sizeOf f) BITS (start .args .recs) e (c .before .loop .work) (start .pre .1 .0)
-      (he ∙ ap (λ m. start .args .recs + m) (c .before .before .before .bits-len .ensures ∙ bits-len-is (start .pre .0 .ranges) ∙ sym (size-bits f)))
-      ∙ keeping-other (sizeOf f) SECTIONS LEAKY (omega arith) (now (start .args .work)) (area (start .pre .0)) _ t (t * leakyLen (start .args .n)) BITS
-      (c .before .loop .work) (c .before .loop .inv .1) (λ p. omega arith)
+      part-sec (sizeOf (f start)) BITS (start .args .recs) e w (start .pre .1 .0)
+      (he ∙ ap (λ k. start .args .recs + k) (c .before .before .before .before .bits-len .ensures ∙ bits-len-is (start .pre .0 .ranges)
+      ∙ sym (size-bits (f start))))
+      ∙ keeping-other (sizeOf (f start)) SECTIONS LEAKY (omega arith) (w₀ start) (area (start .pre .0)) (g start) t (t * row start) BITS
+      w (c .before .before .loop .inv .2) (λ p. omega arith)
 
-  -- the row is written
-  row-in : let m = c .before .before .leaky-len .result in start .args .rows + t * m + m ≤ length (c .before .loop .work)
-  unfolding leakyLen
-  row-in =
-      let len = c .before .before .leaky-len in
+  -- the rows are written
+  rows-in : start .args .rows + t * len + m * len ≤ length w
+  rows-in =
       omega (
         arith,
-        row-inside (start .pre .0) LEAKY (start .args .rows) (leaky (start .args .l)) (leakyLen (start .args .n)) t (omega arith)
-            (start .pre .1 .1) (sym (size-leaky f)) below (omega arith),
-        c .before .loop .inv .1 .same,
-        ap (λ m. t * m) (len .ensures),
-        len .ensures,
+        rows-inside (start .pre .0) LEAKY (start .args .rows) (leaky (start .args .l)) (row start) t m (omega arith)
+            (start .pre .1 .1) (sym (size-leaky (f start))) some (c .window .ensures .0) (some-row start),
+        c .before .before .loop .inv .2 .same,
+        ap (λ k. t * k) len-is,
+        size-is,
       )
 
-part-leaky-row-end : tie.Need-part-leaky-row-end Inv-loop μ-loop
-part-leaky-row-end c = records-in (c .before)
+  lent : let p = start .args .rows + t * len in length (take (p + m * len - p) (drop p w)) ≡ m * row start
+  lent = lent-part (start .args .rows + t * len) (m * len) (m * row start) w size-is rows-in
 
-leaky-row-requires : tie.Need-leaky-row-requires Inv-loop μ-loop
-leaky-row-requires c κs = let i = c .before .before in asked-sec (start i .pre .0) (t i) _ (below i) (records i _ refl)
+put-window-requires : tie.Need-put-window-requires Inv-loop μ-loop
+put-window-requires c κs =
+    let i = c .before .before .before in
+    let s = start i in
+    let made = i .before .before .loop .made in
+    let a = asked-sec (s .pre .0) (t i) _ (omega (arith, some i, i .window .ensures .0)) (records i _ refl) in (
+      (s .pre .0 .ranges, a .records),
+      (
+        some i,
+        (
+          i .window .ensures .2,
+          length-take-le (m i * len i - 0) made (omega (arith, room i, i .before .before .loop .inv .1)) ∙
+              (let q : m i * len i - 0 ≡ m i * row s = omega (arith, size-is i) in q),
+        ),
+      ),
+    )
 
-mul-a : tie.Need-mul-a Inv-loop μ-loop
-mul-a c = let i = c .before .before .before in omega (arith, row-in i)
+-- the rows of the window, in front of the buffer
+module _ (c : tie.After-put-window Inv-loop μ-loop) where
+  abbrev turn : tie.After-window Inv-loop μ-loop
+  turn = c .before .before .before .before
 
-add-a : tie.Need-add-a Inv-loop μ-loop
-add-a c = let i = c .before .before .before in omega (arith, row-in i)
+  abbrev old : List ℕ
+  old = turn .before .before .loop .made
 
-add-e : tie.Need-add-e Inv-loop μ-loop
-add-e c = let i = c .before .before .before in omega (arith, row-in i)
+  made-is : c .put-window .last .0 ≡ cat (m turn) (λ q. g (start turn) (t turn + q))
+  made-is =
+      let s = start turn in
+      c .put-window .ensures ∙ ap (λ (r : List ℕ). cat (m turn) (λ q. R.leakyRow (f s) (s .args .delta .0) r (t turn + q)))
+      (records turn _ refl)
 
-part-copy-end : tie.Need-part-copy-end Inv-loop μ-loop
-part-copy-end c = let i = c .before .before .before in omega (arith, row-in i)
-
--- the part that is lent for the row
-lent : (c : tie.In-loop Inv-loop μ-loop) → let m = c .before .before .leaky-len .result in let p = start c .args .rows + t c * m in
-    length (take (p + m - p) (drop p (c .before .loop .work))) ≡ leakyLen (start c .args .n)
-lent c =
-    let len = c .before .before .leaky-len in
-    lent-part (start c .args .rows + t c * len .result) (len .result) (leakyLen (start c .args .n)) (c .before .loop .work) (len .ensures) (row-in c)
+  still : length (c .put-window .last .0 ++ postOf 0 (m turn * len turn - 0) old) ≡ 2176
+  still =
+      length-put 0 (m turn * len turn - 0) (c .put-window .last .0) old
+      (ap length made-is ∙ long (start turn) (t turn) (m turn) ∙ (let q : m turn * row (start turn) ≡ m turn * len turn - 0 = omega
+      (arith, size-is turn) in q))
+      (omega (arith, room turn, turn .before .before .loop .inv .1))
+      ∙ turn .before .before .loop .inv .1
 
 copy-requires : tie.Need-copy-requires Inv-loop μ-loop
 copy-requires c κs =
-    let r = c .before .before in
-    let i = r .before .before .before in
-    row-fits (f i) (start i .args .delta .0) _ (t i) _ (r .leaky-row .result) (r .leaky-row .ensures) (lent i)
+    let y = c .before .before .before .before in
+    let i = turn y in
+    omega (
+      arith,
+      lent i,
+      size-is i,
+      length-take-le (m i * len i - 0) (y .put-window .last .0 ++ postOf 0 (m i * len i - 0) (old y)) (omega (arith, room i, still y)),
+    )
 
 loop-again : tie.Need-loop-again Inv-loop μ-loop
 loop-again c =
     let cp = c .before .before in
-    let r = cp .before .before .before in
-    let i = r .before .before .before in
-    let n = start i .args .n in
-    let len = i .before .before .leaky-len in
-    let w = now (start i .args .work) in
-    let g : ℕ → List ℕ = R.leakyRow (f i) (start i .args .delta .0) (sec (sizeOf (f i)) BITS w) in
-    let long : length (g (t i)) ≡ leakyLen n = length-leakyRow (f i) (start i .args .delta .0) (sec (sizeOf (f i)) BITS w) (t i) in
-    let p = start i .args .rows + t i * len .result in
-    let eq : p ≡ off (sizeOf (f i)) LEAKY + t i * leakyLen n = ap₂ (λ a m. a + t i * m) (start i .pre .1 .1) (len .ensures) in (
-      omega (arith, below i),
-      keeping-turn (sizeOf (f i)) SECTIONS LEAKY (omega arith) w (area (start i .pre .0)) g (t i) (t i * leakyLen n) (leakyLen n) p (p + len .result) ((t i + 1) * leakyLen n)
-          (i .before .loop .work) (cp .copy .last .0) (i .before .loop .inv .1)
-          (row-copied _ (leakyLen n) _ (g (t i)) (replicate (176 - leakyLen n) 0) (r .leaky-row .result) (cp .copy .ensures)
-          (r .leaky-row .ensures ∙ ap (λ (x : List ℕ). R.leakyRow (f i) (start i .args .delta .0) x (t i) ++ replicate (176 - leakyLen n) 0) (records i _ refl)) long (lent i))
-          long eq (ap (λ m. p + m) (len .ensures)) (sym (next-chunk (t i) (leakyLen n))) (omega (arith, in-chunks (t i) (leaky (start i .args .l)) (leakyLen n) (below i), size-leaky (f i), next-chunk (t i) (leakyLen n))),
+    let y = cp .before .before .before .before .before in
+    let i = turn y in
+    let s = start i in
+    let p = s .args .rows + t i * len i in (
+      some i,
+      still y,
+      keeping-more (sizeOf (f s)) SECTIONS LEAKY (omega arith) (w₀ s) (area (s .pre .0)) (g s) (t i) (m i) (t i * row s) (m i * row s) p
+          (p + m i * len i) ((t i + m i) * row s)
+          (w i) (cp .copy .last .0) (i .before .before .loop .inv .2)
+          (window-copied _ _ (m i * row s) (cp .copy .last .0) (y .put-window .last .0) _ (cat (m i) (λ q. g s (t i + q)))
+          (cp .copy .ensures) (made-is y) (long s (t i) (m i))
+          (lent i) (let q : m i * len i - 0 ≡ m i * row s = omega (arith, size-is i) in q))
+          (long s (t i) (m i)) (ap₂ (λ a k. a + t i * k) (s .pre .1 .1) (len-is i)) (ap (λ k. p + k) (size-is i))
+          (sym (add-mul (t i) (m i) (row s)))
+          (omega (arith, mul-le-mul-right (row s) (some i), size-leaky (f s))),
     )
 
 same-length : tie.Need-same-length Inv-loop μ-loop
-same-length c = c .before .loop .inv .1 .same
+same-length c = c .before .loop .inv .2 .same
 
 returns : tie.Need-returns Inv-loop μ-loop
 unfolding keep at R.leakyRows
 returns c =
     let s = c .before .before .before .before .before .before in
     let l = c .before .loop in
-    let f : Frame = frame (s .args .n) (s .args .l) (s .args .i) in
     let e : l .t ≡ leaky (s .args .l) = omega (arith, c .before .before .before .before .leaky .ensures) in
-    keeping-end (sizeOf f) SECTIONS LEAKY (omega arith) (now (s .args .work)) (area (s .pre .0)) _ (l .t) (leaky (s .args .l)) (l .t * leakyLen (s .args .n)) (l .work) (l .inv .1) e
-    (omega (arith, size-leaky f, ap (λ m. m * leakyLen (s .args .n)) e))
+    keeping-end (sizeOf (f s)) SECTIONS LEAKY (omega arith) (w₀ s) (area (s .pre .0)) (g s) (l .t) (leaky (s .args .l)) (l .t * row s)
+    (l .work) (l .inv .2) e
+    (omega (arith, size-leaky (f s), ap (λ k. k * row s) e))
 
 pub keep-leaky-spec : {M : Type 1} → statement M
 keep-leaky-spec =
     tie.close
-    (tie.spec Inv-loop μ-loop (λ c κs. search needs) (λ c κs. search needs) add-end (λ c κs. search needs) loop-holds (λ c. search needs) (λ c. search needs) part-leaky-row-end leaky-row-requires mul-a add-a add-e (λ c. search needs) (λ c. search needs) part-copy-end (λ c. search needs) copy-requires (λ c. search needs) (λ c. search needs) loop-again same-length returns)
+    (tie.spec
+    Inv-loop
+    μ-loop
+    (λ c κs. search needs)
+    (λ c κs. search needs)
+    add-end
+    (λ c κs. search needs)
+    loop-holds
+    sub-window
+    window-requires
+    (λ c. omega (arith, room c))
+    (λ c. search needs)
+    (λ c. search needs)
+    (λ c. omega (arith, room c, c .before .before .loop .inv .1))
+    (λ c. search needs)
+    (λ c. search needs)
+    (λ c. records-in (c .before .before))
+    put-window-requires
+    (λ c. omega (arith, rows-in (turn (c .before))))
+    (λ c. omega (arith, rows-in (turn (c .before))))
+    (λ c. omega (arith, rows-in (turn (c .before))))
+    (λ c. search needs)
+    (λ c. search needs)
+    (λ c. rows-in (turn (c .before)))
+    (λ c. search needs)
+    (λ c. search needs)
+    (λ c. let y = c .before .before .before in omega (arith, still y, room (turn y)))
+    copy-requires
+    (λ c. omega (arith, some (turn (c .before .before .before .before .before .before .before))))
+    (λ c. omega (arith, some (turn (c .before .before .before .before .before .before .before))))
+    loop-again
+    same-length
+    returns)

@@ -1,32 +1,58 @@
 use mathlib.Core.Path.{sym, ap, _∙_}
+use mathlib.Core.Logic.{_≢_}
+use Prim.Native.Nat.{_+_, _*_, _-_, _≤_}
+use native.Mathlib.Omega.{arith}
 use lib.ListN.{replicate}
 use denote.Ref.{now}
 use borrow.Author.Needs.{needs}
-use Rattle.block.specs.declared.Block.{Block}
+use Rattle.lists.specs.Over.{in-chunks}
 use Rattle.block.specs.Group.{blocks}
-use Rattle.share.specs.Record.{keyAt}
-use Rattle.rounds.specs.Haand.{G}
 use Rattle.rounds.specs.Loops.{sel-own, sel-other, row-own, row-other}
-use Rattle.haand.specs.Parts.{entry}
+use Rattle.haand_hash.specs.Window.{place}
+use Rattle.haand_hash.specs.WindowLaws.{place-lt}
+use Rattle.haand.specs.Parts.{entryOf, entryAt}
 use Rattle.haand.proofs.put_entry_of.Statement.{statement}
 use Rattle.haand.proofs.put_entry_of.Tie as tie
 
 returns : tie.Need-returns
 returns c =
     let s = c .before .before .before .before .before in
-    let a = s .before .before .before .args in (
-      c .before .before .before .clear .ensures ∙ ap (λ m. replicate m 0) (s .before .before .before .pre .0 .0) ∙ sym (row-own (a .i) 18 _ (a .k) (s .if1 .taken)),
+    let st = s .before .before .before .before in
+    let a = st .args in (
+      c .before .before .before .clear .ensures ∙ ap (λ m. replicate m 0) (st .pre .0 .0) ∙ sym
+          (row-own (a .i) 18 _ (a .k) (s .if1 .taken)),
       c .zero .ensures ∙ sel-own blocks (a .i) (a .k) _ (s .if1 .taken),
     )
 
+-- the hash of another party lies within
+inside : (s : tie.Start) → s .args .i ≢ s .args .k → place (s .args .i) (s .args .k) * 32 + 32 ≤ (s .args .n - 1) * 32
+inside s ne =
+    let a = s .args in
+    in-chunks (place (a .i) (a .k)) (a .n - 1) 32 (place-lt (a .n) (a .i) (a .k) (s .pre .0 .1 .0) (s .pre .0 .1 .1) ne)
+
+hash-of-requires : tie.Need-hash-of-requires
+hash-of-requires c κs =
+    let s = c .before .before .before .before in
+    (c .if1 .left, omega (arith, inside s (c .if1 .left), s .pre .1 .0))
+
+hash-of-requires-2 : tie.Need-hash-of-requires-2
+hash-of-requires-2 c κs =
+    let s = c .before .before .before .before .before in
+    (c .before .if1 .left, omega (arith, inside s (c .before .if1 .left), s .pre .1 .1))
+
 returns-2 : tie.Need-returns-2
+unfolding entryAt
 returns-2 c =
-    let p = c .before .before in
-    let s = p .before .before .before in
-    let a = s .before .before .before .args in (
-      p .put-entry .ensures .0 ∙ ap (λ (x : Block). entry x (a .delta .0) (a .p)) (p .before .key-at .ensures)
-          ∙ sym (row-other (a .i) 18 (λ k. entry (keyAt (now (a .recs)) (a .at) k) (a .delta .0) (a .p)) (a .k) (s .if1 .left)),
-      sel-other blocks (a .i) (a .k) _ _ (s .if1 .left) (p .put-entry .ensures .1 ∙ ap G (p .before .key-at .ensures)),
+    let p = c .before .before .before in
+    let h2 = p .before .before in
+    let h = h2 .before in
+    let s = h .before in
+    let a = s .before .before .before .before .args in (
+      p .put-entry .ensures
+          ∙ (λ j. entryOf (h .hash-of .ensures .0 j) (h2 .hash-of2 .ensures .0 j) (a .p) (h .hash-of .ensures .1 j)
+          (h2 .hash-of2 .ensures .1 j))
+          ∙ sym (row-other (a .i) 18 (entryAt (a .i) (now (a .keys)) (now (a .sums)) (a .p)) (a .k) (s .if1 .left)),
+      sel-other blocks (a .i) (a .k) _ _ (s .if1 .left) (h .hash-of .ensures .0),
     )
 
 pub put-entry-of-spec : {M : Type 1} → statement M
@@ -37,7 +63,8 @@ put-entry-of-spec =
     (λ c κs. search needs)
     (λ c. search needs)
     returns
-    (λ c κs. search needs)
+    hash-of-requires
+    hash-of-requires-2
     (λ c κs. search needs)
     (λ c. search needs)
     returns-2)

@@ -1,0 +1,137 @@
+-- The loop's invariant: the parts of the first p positions are written.
+use mathlib.Core.Path.{_≡_, refl, sym, ap, _∙_}
+use mathlib.Core.List.{List}
+use Prim.Native.Nat.{ℕ, _+_, _*_, _-_, _≤_}
+use native.Mathlib.Nat.{zero-mul, le-mul-of-pos-right}
+use native.Mathlib.Omega.{arith}
+use lib.ListN.{length}
+use denote.Ref.{now}
+use borrow.Author.Needs.{needs}
+use Rattle.lists.specs.Over.{Written, written-zero, written-turn, written-end, in-record, in-chunks, next-chunk}
+use Rattle.block.specs.Block.{bytesOf}
+use Rattle.block.specs.Trip.{length-bytesOf}
+use Rattle.share.specs.Record.{recordLen}
+use Rattle.engine.specs.Area.{toOthers, length-toOthers}
+use Rattle.rounds.specs.Loops.{lent-part}
+use Rattle.haand_hash.specs.Window.{partOf}
+use Rattle.haand_hash.proofs.gather.Statement.{statement}
+use Rattle.haand_hash.proofs.gather.Tie as tie
+
+abbrev Inv-loop : tie.InvT-loop
+Inv-loop out₀ recs n i t m keys len step p₀ out p =
+    (p ≤ m) × Written (λ p. toOthers n i (λ k. bytesOf (partOf keys recs ((t + p) * recordLen n) k))) p (p * ((n - 1) * 16)) out₀ out
+
+abbrev μ-loop : tie.MeasureT-loop
+μ-loop out₀ recs n i t m keys len step p₀ out p = m - p
+
+-- ---- of a call
+module _ (s : tie.Start Inv-loop μ-loop) where
+  abbrev g : ℕ → List ℕ
+  g p = toOthers (s .args .n) (s .args .i) (λ k. bytesOf (partOf (s .args .keys) (now (s .args .recs))
+      ((s .args .t + p) * recordLen (s .args .n)) k))
+
+  abbrev len : ℕ
+  len = (s .args .n - 1) * 16
+
+  long : (p : ℕ) → length (g p) ≡ len
+  long p =
+      let a = s .args in
+      length-toOthers 16 (a .n) (a .i) (λ k. bytesOf (partOf (a .keys) (now (a .recs)) ((a .t + p) * recordLen (a .n)) k))
+      (λ k h ne. length-bytesOf (partOf (a .keys) (now (a .recs)) ((a .t + p) * recordLen (a .n)) k))
+
+loop-holds : tie.Need-loop-holds Inv-loop μ-loop
+loop-holds c = let s = c .before .before .before in (omega arith, rw zero-mul (written-zero (g s) (now (s .args .out))))
+
+-- ---- in a turn
+module _ (c : tie.In-loop Inv-loop μ-loop) where
+  abbrev start : tie.Start Inv-loop μ-loop
+  start = c .before .before .before .before .before
+
+  abbrev p : ℕ
+  p = c .before .loop .p
+
+  part-in : p * len start + len start ≤ length (c .before .loop .out)
+  part-in = omega
+      (arith, in-chunks p (start .args .m) (len start) (c .loop-test .taken), c .before .loop .inv .1 .same, start .pre .0 .1 .1)
+
+  record-in : (start .args .t + p) * recordLen (start .args .n) + recordLen (start .args .n) ≤ length (now (start .args .recs))
+  record-in =
+      let a = start .args in
+      let e = in-record (a .t + p) (a .t + a .m) (recordLen (a .n)) 0 (recordLen (a .n)) (length (now (a .recs)))
+      (omega (arith, c .loop-test .taken)) (omega arith) (start .pre .1) in
+      omega (arith, e)
+
+  step-is : (start .args .t + p) * c .before .before .record-len .result ≡ (start .args .t + p) * recordLen (start .args .n)
+  step-is = ap (λ m. (start .args .t + p) * m) (c .before .before .record-len .ensures)
+
+mul-a : tie.Need-mul-a Inv-loop μ-loop
+mul-a c = omega (arith, part-in c)
+
+add-e : tie.Need-add-e Inv-loop μ-loop
+add-e c = omega (arith, part-in c)
+
+add-put-parts : tie.Need-add-put-parts Inv-loop μ-loop
+add-put-parts c =
+    let i = c .before in
+    let n = recordLen (start i .args .n) in
+    omega (arith, record-in i, le-mul-of-pos-right {m = n} (start i .args .t + p i) (omega arith))
+
+mul-put-parts : tie.Need-mul-put-parts Inv-loop μ-loop
+mul-put-parts c = let i = c .before in omega (arith, record-in i, step-is i)
+
+put-parts-requires : tie.Need-put-parts-requires Inv-loop μ-loop
+put-parts-requires c κs =
+    let i = c .before in
+    let s = start i in (
+      (omega (arith, s .pre .0 .0), (s .pre .0 .1 .0, lent-part (p i * len s) (len s) (len s) (i .before .loop .out) refl (part-in i))),
+      omega (arith, record-in i, step-is i),
+    )
+
+loop-again : tie.Need-loop-again Inv-loop μ-loop
+loop-again c =
+    let w = c .before .before in
+    let i = w .before .before in
+    let s = start i in
+    let a = s .args in
+    let k = i .before .loop in (
+      omega (arith, i .loop-test .taken),
+      written-turn (g s) (p i) (p i * len s) (p i * len s + len s) ((p i + 1) * len s) (now (a .out)) (k .out) (w .put-parts .last .0)
+          (k .inv .1)
+          (w .put-parts .ensures ∙ ap (λ at. toOthers (a .n) (a .i) (λ k. bytesOf (partOf (a .keys) (now (a .recs)) at k))) (step-is i))
+          (ap (λ m. p i * len s + m) (long s (p i))) (omega (arith, part-in i, k .inv .1 .same)) (sym (next-chunk (p i) (len s))),
+    )
+
+same-length : tie.Need-same-length Inv-loop μ-loop
+same-length c = c .before .loop .inv .1 .same
+
+returns : tie.Need-returns Inv-loop μ-loop
+returns c =
+    let s = c .before .before .before .before .before in
+    let l = c .before .loop in
+    let e : l .p ≡ s .args .m = omega arith in
+    written-end (g s) (l .p) (s .args .m) (l .p * len s) (now (s .args .out)) (l .out) (l .inv .1) e
+    (omega (arith, s .pre .0 .1 .1, ap (λ m. m * len s) e))
+
+pub gather-spec : {M : Type 1} → statement M
+gather-spec =
+    tie.close
+    (tie.spec
+    Inv-loop
+    μ-loop
+    (λ c. search needs)
+    (λ c. search needs)
+    (λ c κs. search needs)
+    loop-holds
+    mul-a
+    add-e
+    (λ c. search needs)
+    (λ c. search needs)
+    (λ c. part-in c)
+    add-put-parts
+    mul-put-parts
+    put-parts-requires
+    (λ c. search needs)
+    (λ c. search needs)
+    loop-again
+    same-length
+    returns)

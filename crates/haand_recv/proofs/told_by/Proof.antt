@@ -1,0 +1,68 @@
+use mathlib.Core.Path.{ap, ap₂, _∙_}
+use mathlib.Core.Bool.{Bool}
+use mathlib.Core.List.{List}
+use Prim.Native.Nat.{ℕ}
+use native.Mathlib.Omega.{arith}
+use lib.ListN.{length}
+use denote.Ref.{now}
+use borrow.Author.Needs.{needs}
+use Rattle.algebra.specs.Group.{bits, addb}
+use Rattle.share.specs.Record.{bitAt}
+use Rattle.share.specs.Share.{shareAt}
+use Rattle.encode.specs.Stretch.{in-list}
+use Rattle.plan.specs.Plan.{leaky}
+use Rattle.rounds.specs.Loops.{sel-own, sel-other, letter-long}
+use Rattle.rounds.specs.Haand as R
+use Rattle.haand.specs.GivenLaws.{position-most, x-in}
+use Rattle.haand.specs.Sent.{xor-addb}
+use Rattle.haand_recv.specs.Received.{received, toldBy}
+use Rattle.haand_recv.proofs.told_by.Statement.{statement}
+use Rattle.haand_recv.proofs.told_by.Tie as tie
+
+returns : tie.Need-returns
+returns c = let a = c .before .before .before .before .before .before .args in sel-own bits (a .i) (a .k) _ (c .if1 .taken)
+
+letter-requires : tie.Need-letter-requires
+letter-requires c κs =
+    let s = c .before .before .before .before .before .before in (
+      (omega (arith, s .pre .1 .1 .starts-n), omega (arith, s .pre .1 .1 .lens-n)),
+      s .pre .1 .1 .inside (s .args .k) (s .pre .0 .1)
+          (c .if1 .left),
+    )
+
+x-at-requires : tie.Need-x-at-requires
+x-at-requires c κs = let p = c .before .before .before .before .before .before .before .before .pre .0 .0 in
+    (p .ranges .eight, position-most p)
+
+bit-at-requires : tie.Need-bit-at-requires
+bit-at-requires c κs = omega
+    (arith, x-in (c .before .before .before .before .before .before .before .before .before .pre .0 .0), c .x-at .ensures)
+
+received-requires : tie.Need-received-requires
+received-requires c κs =
+    let m = c .before .before .before in
+    let s = m .before .before .before .before .before .before .before in (
+      position-most (s .pre .0 .0),
+      omega (
+        arith,
+        letter-long (s .pre .1 .1) (s .args .k) (s .pre .0 .1) (m .before .if1 .left),
+        ap length (m .letter .ensures),
+        in-list (s .args .t) (leaky (s .args .l)) 2 (s .pre .0 .0 .below),
+      ),
+    )
+
+returns-2 : tie.Need-returns-2
+unfolding toldBy R.x R.mask shareAt
+returns-2 c =
+    let x = c .before .before in
+    let m = x .before .before in
+    let a = m .before .before .before .before .before .before .before .args in
+    sel-other bits (a .i) (a .k) _ _ (m .before .if1 .left)
+    (xor-addb (x .before .mask-bit .result) (c .received .result)
+    ∙ ap₂ addb (x .before .mask-bit .ensures)
+    (c .received .ensures ∙ ap₂ (λ (l : List ℕ) (b : Bool). received l (a .t) b) (m .letter .ensures)
+    (c .before .bit-at .ensures ∙ ap (bitAt (now (a .recs))) (x .x-at .ensures))))
+
+pub told-by-spec : {M : Type 1} → statement M
+told-by-spec =
+    tie.close (tie.spec returns letter-requires (λ c κs. search needs) x-at-requires bit-at-requires received-requires returns-2)
