@@ -13,7 +13,7 @@ use Rattle.lists.specs.Tab.{take-tab}
 use Rattle.lists.specs.Sect.{get}
 use Rattle.lists.specs.Rows.{chunk}
 use Rattle.lists.specs.Bytes.{Bytes, bytes-append}
-use Rattle.algebra.specs.Group.{sel}
+use Rattle.algebra.specs.Group.{XorGroup, sel}
 use Rattle.algebra.specs.Sum.{sum, others, neq}
 use Rattle.block.specs.Block.{Block, leOf, wordAt, blockAt, le8, bytesOf, xorOf, zeroOf}
 use Rattle.block.specs.Group.{blocks}
@@ -32,6 +32,22 @@ block-ext s t a b h =
     let e0 : wordAt s a ≡ wordAt t b = word-ext s t a b (λ j l. h j (omega arith)) in
     let e1 : wordAt s (a + 8) ≡ wordAt t (b + 8) =
     word-ext s t (a + 8) (b + 8) (λ j l. ap (λ k. getD s k 0) (add-assoc a 8 j) ∙ h (8 + j) (omega arith) ∙ ap (λ k. getD t k 0) (sym (add-assoc b 8 j))) in
+    λ i. record { 0 = e0 i; 1 = e1 i }
+
+-- bytes that are no more than those of a zero are zero
+pub word-below : (s t : List ℕ) (a b : ℕ) → ((j : ℕ) → j < 8 → getD s (a + j) 0 ≤ getD t (b + j) 0) → wordAt t b ≡ 0 → wordAt s a ≡ 0
+unfolding wordAt
+word-below s t a b h z =
+    let h0 : getD s a 0 ≤ getD t b 0 = rw (sym (add-zero a), sym (add-zero b)) (h 0 (omega arith)) in
+    omega (arith, h 1 (omega arith), h 2 (omega arith), h 3 (omega arith), h 4 (omega arith), h 5 (omega arith), h 6 (omega arith), h 7 (omega arith))
+
+pub block-below : (s t : List ℕ) (a b : ℕ) → ((j : ℕ) → j < 16 → getD s (a + j) 0 ≤ getD t (b + j) 0) → blockAt t b ≡ blocks .nil
+    → blockAt s a ≡ blocks .nil
+unfolding blockAt blocks zeroOf
+block-below s t a b h z =
+    let e0 : wordAt s a ≡ 0 = word-below s t a b (λ j l. h j (omega arith)) (ap (λ (x : Block). x .0) z) in
+    let e1 : wordAt s (a + 8) ≡ 0 =
+    word-below s t (a + 8) (b + 8) (λ j l. rw (add-assoc a 8 j, add-assoc b 8 j) (h (8 + j) (omega arith))) (ap (λ (x : Block). x .1) z) in
     λ i. record { 0 = e0 i; 1 = e1 i }
 
 module _ (s : List ℕ) (a at : ℕ) where

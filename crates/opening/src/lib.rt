@@ -187,7 +187,7 @@ fn put_section(work: &mut [u8], x: &[u8], n: usize, l: usize, s: usize)
 {
     let a = area::section_at(n, l, s);
     let e = a + x.len();
-    toss::copy(&mut work[a..e], x);
+    fill::copy(&mut work[a..e], x);
 }
 
 // Zeros from the first section on that is no input.
@@ -196,7 +196,7 @@ fn clear_rest(work: &mut [u8], n: usize, l: usize)
     ensures { λ _. ⌜ now (work .exit) ≡ cleared (frame n l 0) (now (work .entry)) ⌝ }
 {
     let a = area::section_at(n, l, EMPTY);
-    haand::clear(&mut work[a..]);
+    fill::clear(&mut work[a..]);
 }
 
 // Delta, the seeds and the masks.

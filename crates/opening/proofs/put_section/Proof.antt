@@ -3,8 +3,9 @@ use mathlib.Core.List.{List}
 use Prim.Native.Nat.{ℕ, _+_, _-_, _≤_}
 use native.Mathlib.Omega.{arith}
 use denote.Ref.{now}
-use lib.ListN.{length}
+use lib.ListN.{length, take, drop, length-take, length-drop}
 use Rattle.lists.specs.Sect.{put}
+use Rattle.fill.specs.Copied.{copied}
 use Rattle.area.specs.SectionLaws.{section-ends, puts-section}
 use borrow.Author.Needs.{needs}
 use Rattle.opening.proofs.put_section.Statement.{statement}
@@ -28,7 +29,9 @@ returns c =
     let s = c .before .before .before .before .before .before .before in
     let a = s .args in
     let x = now (a .x) in
-    ap (λ (y : List ℕ). put (k .result) (k .result + length x - k .result) y (now (a .work))) (c .before .before .copy .ensures)
+    ap (λ (y : List ℕ). put (k .result) (k .result + length x - k .result) y (now (a .work)))
+    (copied (take (k .result + length x - k .result) (drop (k .result) (now (a .work)))) x _
+    (simp (length-take, length-drop) (omega (arith, ends (c .before .before .before .before)))) (c .before .before .copy .ensures))
     ∙ puts-section (a .n) (a .l) 0 (a .s) (k .result) (k .result + length x) (k .ensures) (ap (λ m. k .result + m) (s .pre .long)) x (now (a .work))
 
 pub put-section-spec : {M : Type 1} → statement M
