@@ -69,11 +69,8 @@ fn padded(s: &[u8]) -> [u32; 16]
     ensures { λ r. ⌜ r ≡ N.blockWords (now (s .entry)) ⌝ }
 {
     let mut b = [0u8; 64];
-    let mut i: usize = 0;
-    while i < s.len() {
-        b[i] = s[i];
-        i += 1;
-    }
+    let e = s.len();
+    fill::copy(&mut b[0..e], s);
     whole(&b)
 }
 

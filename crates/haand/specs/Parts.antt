@@ -1,31 +1,25 @@
 -- Parts of the definitions of round 14 (rounds: Haand), named for the functions that compute them.
-use mathlib.Core.Path.{_≡_, refl, sym, ap, ap₂, _∙_}
-use mathlib.Core.Bool.{Bool, cond}
+use mathlib.Core.Path.{_≡_, refl, sym, ap, _∙_}
+use mathlib.Core.Bool.{Bool}
 use mathlib.Core.List.{List, [], _∷_, _++_, append-assoc}
-use Prim.Native.Nat.{ℕ, zero, suc, _+_, _-_, _*_, _≤_}
-use lib.ListN.{length, getD, take, drop, replicate, length-append}
-use lib.Seq.{take-at, drop-at, drop-drop, length-take-le}
+use Prim.Native.Nat.{ℕ, _+_, _-_, _*_, _≤_}
+use lib.ListN.{length, take, drop, replicate, length-append}
+use lib.Seq.{drop-at, drop-drop, length-take-le}
 use borrow.Rule.Slice.PartMut.{putMid}
 use native.Mathlib.Omega.{arith}
-use Rattle.lists.specs.Over.{cat, over-next, over-full}
-use Rattle.algebra.specs.Group.{XorGroup, addb, num, odd}
+use Rattle.lists.specs.Over.{cat, over-next}
+use Rattle.algebra.specs.Group.{XorGroup, num}
 use Rattle.block.specs.declared.Block.{Block}
 use Rattle.block.specs.Block.{bytesOf}
 use Rattle.block.specs.Group.{blocks}
 use Rattle.block.specs.Trip.{length-bytesOf}
-use Rattle.share.specs.Record.{recordLen, bitAt, macAt, keyAt}
+use Rattle.share.specs.Record.{recordLen, keyAt}
 use Rattle.share.specs.Share.{shareAt}
 use Rattle.engine.specs.declared.Frame.{Frame}
 use Rattle.rounds.specs.Area.{leakyLen, rows}
 use Rattle.rounds.specs.Loops.{rowOf, rows-of}
 use Rattle.rounds.specs.Haand.{x, H, G, u, phi, leakyEntry, leakyRow}
 use Rattle.rounds.specs.HaandLaws.{length-leakyRow}
-
--- a buffer that is written in two parts
-pub two-parts : (a b : ℕ) (x y x′ y′ l : List ℕ) → length l ≡ a + b → length x ≡ a → x′ ≡ x → y′ ≡ y → putMid a b (putMid 0 a l x′) y′ ≡ x ++ y
-two-parts a b x y x′ y′ l h hx ex ey =
-    over-next x y y′ l (putMid 0 a l x′) a b (a + b) (ap (λ (p : List ℕ). putMid 0 a l p) ex) hx ey refl
-    ∙ over-full (x ++ y) l (a + b) (omega arith)
 
 -- a buffer of which the back is written first, then two parts of a bytes before it
 pub three-parts : (a m : ℕ) (x y z x′ y′ z′ l : List ℕ) → a + a ≤ length l → length x ≡ a → x′ ≡ x → y′ ≡ y → z′ ≡ z
@@ -38,11 +32,6 @@ three-parts a m x y z x′ y′ z′ l h hx ex ey ez =
     ∙ ap (λ (r : List ℕ). (x ++ y) ++ r) (drop-at (take (a + a) l) (z ++ drop m (drop (a + a) l)) (a + a) n ∙ ap (λ (r : List ℕ). z ++ r) (drop-drop m (a + a) l))
     ∙ append-assoc x y (z ++ drop (a + a + m) l) ∙ ap (λ (r : List ℕ). x ++ r) (sym (append-assoc y z (drop (a + a + m) l)))
     ∙ sym (append-assoc x (y ++ z) (drop (a + a + m) l))
-
-pub drop-replicate : (k m v : ℕ) → drop k (replicate m v) ≡ replicate (m - k) v
-drop-replicate zero m v = ap (λ j. replicate j v) (let e : m ≡ m - 0 = omega arith in e)
-drop-replicate (suc k) zero v = ap (λ j. replicate j v) (let e : 0 ≡ 0 - suc k = omega arith in e)
-drop-replicate (suc k) (suc m) v = drop-replicate k m v ∙ ap (λ j. replicate j v) (let e : m - k ≡ suc m - suc k = omega arith in e)
 
 -- an entry of a row of LEAKY, of a party with the x key k: u and the two bits H
 unfoldable pub entry : Block → Block → Block → List ℕ
@@ -59,10 +48,6 @@ pub entries-of : (f : Frame) (delta : Block) (recs : List ℕ) (t : ℕ)
     → cat (f .n) (rowOf (f .i) 18 (λ k. entry (keyAt recs (t * recordLen (f .n)) k) delta (phi f delta recs t))) ≡ rows f 18 (leakyEntry f delta recs t)
 unfolding entry leakyEntry u x shareAt
 entries-of f delta recs t = rows-of f 18 (leakyEntry f delta recs t)
-
--- the row that was copied out of an array
-pub row-copied : (m k : ℕ) (x r z row : List ℕ) → x ≡ take m row → row ≡ r ++ z → length r ≡ k → m ≡ k → x ≡ r
-row-copied m k x r z row hx hr hk hm = hx ∙ ap₂ take hm hr ∙ take-at r z k hk
 
 pub row-fits : (f : Frame) (delta : Block) (recs : List ℕ) (t m : ℕ) (row : List ℕ)
     → row ≡ leakyRow f delta recs t ++ replicate (176 - leakyLen (f .n)) 0 → m ≡ leakyLen (f .n) → m ≤ length row

@@ -4,11 +4,10 @@
 ghost use mathlib.Core.Path.{_≡_};
 ghost use mathlib.Core.List.{_++_};
 ghost use Prim.Native.Nat.{ℕ, _+_, _-_, _*_, _<_, _≤_};
-ghost use lib.ListN.{length, getD, take, replicate};
+ghost use lib.ListN.{length, getD, replicate};
 ghost use Rattle.lists.specs.Over.{cat};
 ghost use Rattle.algebra.specs.Group.{XorGroup, bits, sel, odd};
 ghost use Rattle.algebra.specs.Sum.{others, neq};
-ghost use Rattle.block.specs.Block.{le8};
 ghost use Rattle.block.specs.Group.{blocks};
 ghost use Rattle.share.specs.Record.{recordLen, macAt, keyAt};
 ghost use Rattle.plan.specs.Plan as Plan;
@@ -49,17 +48,6 @@ pub fn y_at(n: usize, l: usize, t: usize) -> usize
     ensures { λ r. ⌜ r ≡ (Plan.leaky l + t) * recordLen n ⌝ }
 {
     (plan::leaky(l) + t) * share::record_len(n)
-}
-
-// Zeros.
-pub fn clear(out: &mut [u8])
-    ensures { λ _. ⌜ now (out .exit) ≡ replicate (length (now (out .entry))) 0 ⌝ }
-{
-    let mut j = 0;
-    while j < out.len() {
-        out[j] = 0;
-        j += 1;
-    }
 }
 
 // The sum of the keys and MACs of the record at `at`, the own ones left out.
@@ -126,7 +114,7 @@ fn put_entry_of(
         × (r ≡ sel blocks (neq i k) (R.G (keyAt (now (recs .entry)) at k))) ⌝ }
 {
     if i == k {
-        clear(out);
+        fill::clear(out);
         return Block::zero();
     }
     put_entry(out, share::key_at(recs, at, k), delta, p)
@@ -183,43 +171,6 @@ pub fn leaky_row(recs: &[u8], delta: Delta, n: usize, i: usize, l: usize, t: usi
     row
 }
 
-// As many bytes of s as out has.
-pub fn copy(out: &mut [u8], s: &[u8])
-    requires { ⌜ length (now out) ≤ length (now s) ⌝ }
-    ensures { λ _. ⌜ now (out .exit) ≡ take (length (now (out .entry))) (now (s .entry)) ⌝ }
-{
-    let mut j = 0;
-    while j < out.len() {
-        out[j] = s[j];
-        j += 1;
-    }
-}
-
-// A list of `count` items, of which the bytes are lent.
-fn put_list(out: &mut [u8], count: usize, items: &[u8])
-    requires { ⌜ length (now out) ≡ 8 + length (now items) ⌝ }
-    ensures { λ _. ⌜ now (out .exit) ≡ le8 count ++ now (items .entry) ⌝ }
-{
-    encode::put_count(&mut out[0..8], count);
-    copy(&mut out[8..], items);
-}
-
-// The same list to every other party, in a stretch of its own.
-pub fn write_same(out: &mut [u8], count: usize, items: &[u8], n: usize)
-    requires { ⌜ (2 ≤ n) × (length (now out) ≡ (n - 1) * (8 + length (now items))) ⌝ }
-    ensures { λ _. ⌜ ((i : ℕ) → now (out .exit) ≡ toOthers n i (λ k. le8 count ++ now (items .entry))) ⌝ }
-{
-    let len = 8 + items.len();
-    let last = n - 1;
-    let mut q = 0;
-    while q < last {
-        let at = q * len;
-        let e = at + len;
-        put_list(&mut out[at..e], count, items);
-        q += 1;
-    }
-}
-
 // Keeps the rows of LEAKY, which starts at `rows`; BITS starts at `recs`.
 pub fn keep_leaky(
     work: &mut [u8],
@@ -243,7 +194,7 @@ pub fn keep_leaky(
         let row = leaky_row(&work[recs..end], delta, n, i, l, t);
         let a = rows + t * len;
         let e = a + len;
-        copy(&mut work[a..e], &row);
+        fill::copy(&mut work[a..e], &row);
         t += 1;
     }
 }

@@ -17,7 +17,8 @@ use Rattle.rounds.specs.Loops.{part-sec, lent-part, Keeping, keeping-none, keep
 use Rattle.rounds.specs.Haand as R
 use Rattle.haand.specs.GivenLaws.{size-bits, size-leaky, bits-len-is, area, row-inside, bits-inside, asked-sec}
 use Rattle.rounds.specs.HaandLaws.{length-leakyRow}
-use Rattle.haand.specs.Parts.{row-copied, row-fits}
+use Rattle.lists.specs.Over.{row-copied}
+use Rattle.haand.specs.Parts.{row-fits}
 use Rattle.haand.proofs.keep_leaky.Statement.{statement}
 use Rattle.haand.proofs.keep_leaky.Tie as tie
 

@@ -6,7 +6,7 @@ use lib.ListN.{length, take, replicate}
 use lib.Seq.{length-take-le}
 use borrow.Author.Needs.{needs}
 use Rattle.rounds.specs.Area.{leakyLen}
-use Rattle.haand.specs.Parts.{drop-replicate}
+use Rattle.lists.specs.Over.{drop-replicate}
 use Rattle.haand.proofs.leaky_row.Statement.{statement}
 use Rattle.haand.proofs.leaky_row.Tie as tie
 

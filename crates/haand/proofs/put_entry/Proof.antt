@@ -8,7 +8,8 @@ use Rattle.block.specs.Group.{blocks}
 use Rattle.block.specs.Trip.{length-bytesOf}
 use Rattle.encode.specs.Encode.{twoBits}
 use Rattle.rounds.specs.Haand.{G, H}
-use Rattle.haand.specs.Parts.{entry, two-parts}
+use Rattle.lists.specs.Over.{two-parts}
+use Rattle.haand.specs.Parts.{entry}
 use Rattle.haand.proofs.put_entry.Statement.{statement}
 use Rattle.haand.proofs.put_entry.Tie as tie
 
