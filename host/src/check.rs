@@ -2,7 +2,7 @@
 
 use std::{error, fmt};
 
-use crate::{record_len, Plan};
+use crate::{key_at, mac_at, record_len, Plan, ENTRY};
 
 /// One box's part.
 #[derive(Clone, Copy)]
@@ -75,14 +75,14 @@ pub fn check(plan: Plan, boxes: &[Outputs]) -> Result<Checked, Wrong> {
             beta ^= outputs.beta[at];
             result ^= bit;
             for (towards, other) in boxes.iter().enumerate() {
-                let mac = &record[1 + 32 * towards..][..16];
+                let mac = &record[mac_at(towards)..][..16];
                 if towards == holder {
-                    if record[1 + 32 * holder..][..32] != [0; 32] {
+                    if record[mac_at(holder)..][..ENTRY] != [0; ENTRY] {
                         return Err(Wrong::OwnEntry { holder, position });
                     }
                     continue;
                 }
-                let key = &other.results[at + 17 + 32 * holder..][..16];
+                let key = &other.results[at + key_at(holder)..][..16];
                 if !(0..16).all(|b| mac[b] == key[b] ^ (other.delta[b] * bit)) {
                     return Err(Wrong::Mac { holder, towards, position });
                 }
@@ -102,12 +102,12 @@ mod tests {
     /// Two boxes and one AND, by hand: alpha 1, beta 1, result 1, box 0 holding all the ones.
     fn sample() -> ([[u8; 16]; 2], Vec<Vec<u8>>, Vec<Vec<u8>>) {
         let deltas = [[3; 16], [5; 16]];
-        let mut ones = vec![vec![0; 65], vec![0; 65]];
+        let mut ones = vec![vec![0; mac_at(2)], vec![0; mac_at(2)]];
         ones[0][0] = 1;
-        ones[1][17..33].fill(9); // box 1's key of box 0
-        ones[0][33..49].fill(9 ^ 5); // box 0's MAC for box 1: its bit is 1
-        ones[0][49..65].fill(6); // box 0's key of box 1
-        ones[1][1..17].fill(6); // box 1's MAC for box 0: its bit is 0
+        ones[1][key_at(0)..mac_at(1)].fill(9); // box 1's key of box 0
+        ones[0][mac_at(1)..key_at(1)].fill(9 ^ 5); // box 0's MAC for box 1: its bit is 1
+        ones[0][key_at(1)..mac_at(2)].fill(6); // box 0's key of box 1
+        ones[1][mac_at(0)..key_at(0)].fill(6); // box 1's MAC for box 0: its bit is 0
         (deltas, ones.clone(), ones)
     }
 

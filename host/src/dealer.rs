@@ -5,7 +5,7 @@
 
 use std::io::{self, Write};
 
-use crate::{files, record_len, Inputs, Plan};
+use crate::{files, key_at, mac_at, record_len, Inputs, Plan};
 
 /// SplitMix64 (Steele, Lea, Flood): small, fast, and the same everywhere. Not for secrets.
 pub struct Generator(u64);
@@ -92,9 +92,9 @@ fn deal_shares<W: Write>(g: &mut Generator, deltas: &[[u8; 16]], count: usize, b
             records[j][0] = bit;
             for k in (0..n).filter(|k| *k != j) {
                 let mut block: [u8; 16] = g.array();
-                records[k][17 + 32 * j..][..16].copy_from_slice(&block);
+                records[k][key_at(j)..][..16].copy_from_slice(&block);
                 block.iter_mut().zip(deltas[k]).for_each(|(byte, delta)| *byte ^= delta * bit);
-                records[j][1 + 32 * k..][..16].copy_from_slice(&block);
+                records[j][mac_at(k)..][..16].copy_from_slice(&block);
             }
         }
         for (file, record) in boxes.iter_mut().zip(&records) {
@@ -116,6 +116,7 @@ pub fn deal_in_memory(plan: Plan, seed: u64) -> (Vec<Inputs>, files::Common) {
 #[cfg(test)]
 mod tests {
     use super::*;
+    use crate::ENTRY;
 
     fn block(bytes: &[u8], at: usize) -> [u8; 16] {
         bytes[at..at + 16].try_into().unwrap()
@@ -136,11 +137,11 @@ mod tests {
                         let record = &list(holder)[t * len..][..len];
                         assert!(record[0] < 2);
                         ones += usize::from(record[0]);
-                        assert_eq!(record[1 + 32 * j..][..32], [0; 32]);
+                        assert_eq!(record[mac_at(j)..][..ENTRY], [0; ENTRY]);
                         for k in (0..n).filter(|k| *k != j) {
-                            let key = block(&list(&boxes[k])[t * len..], 17 + 32 * j);
+                            let key = block(&list(&boxes[k])[t * len..], key_at(j));
                             let mac: [u8; 16] = std::array::from_fn(|b| key[b] ^ (boxes[k].delta[b] * record[0]));
-                            assert_eq!(block(record, 1 + 32 * k), mac);
+                            assert_eq!(block(record, mac_at(k)), mac);
                         }
                     }
                 }

@@ -58,6 +58,19 @@ pub fn record_len(n: usize) -> usize {
     unsafe { ffi::nuzsdike_record_len(ffi::number(n)) }
 }
 
+/// The bytes of an entry of a share record: a MAC, then a key.
+pub const ENTRY: usize = 32;
+
+/// Where the MAC for party k starts in a share record, and so its entry.
+pub const fn mac_at(k: usize) -> usize {
+    1 + ENTRY * k
+}
+
+/// Where the key of party k starts in a share record.
+pub const fn key_at(k: usize) -> usize {
+    mac_at(k) + 16
+}
+
 /// The numbers of a session of n boxes for l ANDs. Every length is the library's own answer; all are 0 where opening would refuse n or l.
 #[derive(Clone, Copy, Debug, PartialEq, Eq)]
 pub struct Plan {

@@ -32,4 +32,4 @@ pub mod rules;
 
 pub use mpc::faand::inside::{Sums, combine, r_sum};
 pub use run::{End, Message, Outcome, aes_blocks, cpu_time, honest, round_name, run};
-pub use session::{Party, Session, SplitMix, bucket_size, draw, drawn_bit, record_len};
+pub use session::{ENTRY, Party, Session, SplitMix, bucket_size, draw, drawn_bit, key_at, mac_at, record_len};

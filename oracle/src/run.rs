@@ -24,7 +24,7 @@ use crate::{
         faand::{self, Error},
     },
     ot_core::{self, Outputs},
-    session::{Session, record_len},
+    session::{ENTRY, Session, mac_at, record_len},
 };
 
 /// A message of the session.
@@ -251,7 +251,7 @@ fn outputs(s: &Session, i: usize) -> Outputs {
         let entries = p
             .bits
             .chunks_exact(record_len(s.n))
-            .map(|record| &record[1 + 32 * k..][..32]);
+            .map(|record| &record[mac_at(k)..][..ENTRY]);
         o.macs
             .push(entries.clone().map(|e| block(&e[..16])).collect());
         o.keys.push(

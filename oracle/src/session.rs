@@ -38,7 +38,20 @@ pub fn bucket_size(l: usize) -> usize {
 
 /// Bytes of a share record.
 pub fn record_len(n: usize) -> usize {
-    1 + 32 * n
+    mac_at(n)
+}
+
+/// Bytes of an entry of a share record: a MAC, then a key.
+pub const ENTRY: usize = 32;
+
+/// Where party k's MAC starts in a share record, and so its entry.
+pub fn mac_at(k: usize) -> usize {
+    1 + ENTRY * k
+}
+
+/// Where party k's key starts in a share record.
+pub fn key_at(k: usize) -> usize {
+    mac_at(k) + 16
 }
 
 impl Session {
@@ -94,8 +107,8 @@ impl Session {
         pairs.filter(|(j, k)| j != k).all(|(j, k)| {
             let records = lists[j].chunks_exact(len).zip(lists[k].chunks_exact(len));
             records.into_iter().all(|(mine, theirs)| {
-                let mac = &mine[1 + 32 * k..][..16];
-                let key = &theirs[1 + 32 * j + 16..][..16];
+                let mac = &mine[mac_at(k)..][..16];
+                let key = &theirs[key_at(j)..][..16];
                 let delta = &self.parties[k].delta;
                 (0..16).all(|t| mac[t] == key[t] ^ (mine[0] * delta[t]))
             })
@@ -335,14 +348,14 @@ impl SplitMix {
                 for k in (0..n).filter(|k| *k != j) {
                     let mut key = [0; 16];
                     self.fill(&mut key);
-                    let at = t * record + 1 + 32 * j + 16;
+                    let at = t * record + key_at(j);
                     lists[k][at..at + 16].copy_from_slice(&key);
                     if bit == 1 {
                         key.iter_mut()
                             .zip(deltas[k])
                             .for_each(|(byte, d)| *byte ^= d);
                     }
-                    let at = t * record + 1 + 32 * k;
+                    let at = t * record + mac_at(k);
                     lists[j][at..at + 16].copy_from_slice(&key);
                 }
             }

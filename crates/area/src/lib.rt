@@ -9,6 +9,8 @@ ghost use Rattle.engine.specs.Step.{frame};
 ghost use Rattle.engine.specs.Area.{off};
 ghost use Rattle.rounds.specs.Area.{sizeOf, workLen, at};
 ghost use Rattle.rounds.specs.Table as Table;
+ghost use Rattle.area.specs.Place.{Place};
+use engine::Frame;
 use share::Delta;
 
 const DELTA: usize = 0;
@@ -74,6 +76,17 @@ pub fn work_len(n: usize, l: usize) -> usize
     } else {
         0
     }
+}
+
+// Where a section starts, and where it ends.
+pub struct Span(pub usize, pub usize);
+
+pub fn section_span(f: Frame, s: usize) -> Span
+    requires { ⌜ InRange (f .n) (f .l) × (s < 24) ⌝ }
+    ensures { λ r. ⌜ Place f s (r .0) (r .1) ⌝ }
+{
+    let a = section_at(f.n, f.l, s);
+    Span(a, a + section_len(f.n, f.l, s))
 }
 
 // Section s of the work area, where it lies.

@@ -75,10 +75,10 @@ fn put_item(
     let x = share_at(f.n, j);
     let a = a_at(f.n, j);
     let b = buckets::y_at(perm, f, j, 0);
-    let d = buckets::sum_bit(triples, a, alpha, x);
-    let e = buckets::sum_bit(recs, b, beta, x);
-    let d_mac = buckets::sum_mac(triples, a, alpha, x, k);
-    let e_mac = buckets::sum_mac(recs, b, beta, x, k);
+    let d = share::sum_bit(triples, a, alpha, x);
+    let e = share::sum_bit(recs, b, beta, x);
+    let d_mac = share::sum_mac(triples, a, alpha, x, k);
+    let e_mac = share::sum_mac(recs, b, beta, x, k);
     encode::put_bits_blocks(out, d, e, d_mac.0, e_mac.0);
 }
 
@@ -176,8 +176,8 @@ fn item_holds(
     let a = a_at(f.n, j);
     let b = buckets::y_at(perm, f, j, 0);
     let at = 8 + j * 34;
-    let d = buckets::mac_holds(m, at, at + 2, triples, a, alpha, x, k, delta);
-    let e = buckets::mac_holds(m, at + 1, at + 18, recs, b, beta, x, k, delta);
+    let d = share::mac_holds(m, at, at + 2, triples, a, alpha, x, k, delta);
+    let e = share::mac_holds(m, at + 1, at + 18, recs, b, beta, x, k, delta);
     d & e
 }
 
@@ -400,8 +400,8 @@ fn put_result(
     let x = share_at(f.n, j);
     let a = a_at(f.n, j);
     let b = buckets::y_at(perm, f, j, 0);
-    let d = buckets::sum_bit(triples, a, alpha, x) ^ d_told;
-    let e = buckets::sum_bit(recs, b, beta, x) ^ e_told;
+    let d = share::sum_bit(triples, a, alpha, x) ^ d_told;
+    let e = share::sum_bit(recs, b, beta, x) ^ e_told;
     let c = a + share::record_len(f.n);
     finish(out, triples, a, c, beta, x, f.n, f.i, d, e);
 }

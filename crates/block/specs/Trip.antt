@@ -39,7 +39,16 @@ pub word-below : (s t : List ℕ) (a b : ℕ) → ((j : ℕ) → j < 8 → getD 
 unfolding wordAt
 word-below s t a b h z =
     let h0 : getD s a 0 ≤ getD t b 0 = rw (sym (add-zero a), sym (add-zero b)) (h 0 (omega arith)) in
-    omega (arith, h 1 (omega arith), h 2 (omega arith), h 3 (omega arith), h 4 (omega arith), h 5 (omega arith), h 6 (omega arith), h 7 (omega arith))
+    omega (
+      arith,
+      h 1 (omega arith),
+      h 2 (omega arith),
+      h 3 (omega arith),
+      h 4 (omega arith),
+      h 5 (omega arith),
+      h 6 (omega arith),
+      h 7 (omega arith),
+    )
 
 pub block-below : (s t : List ℕ) (a b : ℕ) → ((j : ℕ) → j < 16 → getD s (a + j) 0 ≤ getD t (b + j) 0) → blockAt t b ≡ blocks .nil
     → blockAt s a ≡ blocks .nil

@@ -1,5 +1,4 @@
 pub mod Given
-pub mod Bits
 pub mod ToOthers
 pub mod Dvalues
 pub mod Opened

@@ -1,24 +1,20 @@
 -- Sections of the work area where they lie: what is lent of them.
 use mathlib.Core.Path.{_≡_, refl, ap, _∙_}
 use mathlib.Core.List.{List}
-use Prim.Native.Nat.{ℕ, _+_, _-_, _*_, _<_, _≤_}
+use Prim.Native.Nat.{ℕ, _-_, _*_, _<_, _≤_}
 use native.Mathlib.Omega.{arith}
 use lib.ListN.{length, take, drop}
 use Rattle.share.specs.Record.{recordLen}
 use Rattle.plan.specs.Plan.{InRange, bucketSize, leaky, bitsCount}
 use Rattle.engine.specs.declared.Frame.{Frame}
-use Rattle.engine.specs.Area.{off, length-sec}
+use Rattle.engine.specs.Area.{length-sec}
 use Rattle.rounds.specs.Area.{BITS, PERM, DS, SECTIONS, sizes, sizeOf, workLen, at}
 use Rattle.rounds.specs.AreaLaws.{section-in}
 use Rattle.rounds.specs.Loops.{part-sec}
+use Rattle.area.specs.Place.{Place}
 use Rattle.haand.specs.Given.{Ranges, Work}
 use Rattle.haand.specs.GivenLaws.{area}
 use Rattle.buckets.specs.Given.{Ranged, Lent}
-
--- section s lies from a to e
-pub record Place (f : Frame) (s a e : ℕ) : Type 0 where
-  pub starts : a ≡ off (sizeOf f) s
-  pub ends : e ≡ a + sizeOf f s
 
 pub size-perm : (f : Frame) → sizeOf f PERM ≡ leaky (f .l) * 4
 unfolding sizeOf sizes

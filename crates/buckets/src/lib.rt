@@ -5,12 +5,9 @@ ghost use Prim.Native.Nat.{_+_, _-_, _*_, _<_, _≤_};
 ghost use mathlib.Core.List.{_++_};
 ghost use lib.ListN.{length, getD, replicate};
 ghost use Rattle.lists.specs.Over.{cat};
-ghost use Rattle.algebra.specs.Group.{XorGroup, bits, sel, odd};
+ghost use Rattle.algebra.specs.Group.{bits, sel};
 ghost use Rattle.algebra.specs.Sum.{neq};
-ghost use Rattle.block.specs.Block.{blockAt, eqBlock};
-ghost use Rattle.block.specs.Group.{blocks};
 ghost use Rattle.share.specs.Record.{recordLen};
-ghost use Rattle.share.specs.Share.{shareAt, shares};
 ghost use Rattle.encode.specs.Encode.{dvalueItem};
 ghost use Rattle.plan.specs.Plan.{bucketSize, leaky, msgLen};
 ghost use Rattle.engine.specs.Step.{frame};
@@ -21,17 +18,15 @@ ghost use Rattle.rounds.specs.Mail as Mail;
 ghost use Rattle.rounds.specs.EchoLaws.{Received};
 ghost use Rattle.rounds.specs.FaultLaws.{Finds, faultAt};
 ghost use Rattle.rounds.specs.Buckets as B;
+ghost use Rattle.area.specs.Place.{Place};
 ghost use Rattle.haand.specs.Given.{Work};
 ghost use Rattle.buckets.specs.Given.{Ranged, Lent};
-ghost use Rattle.buckets.specs.Place.{Place};
 ghost use Rattle.buckets.specs.Dvalues.{told, bucketHolds, messageHolds, dFault};
 ghost use Rattle.buckets.specs.Opened.{toldSum, dRow};
-use block::Block;
+use area::Span;
 use engine::Frame;
 use rounds::Fault;
 use share::Delta;
-use share::Key;
-use share::Mac;
 
 // Sections of the work area.
 const BITS: usize = 4;
@@ -39,54 +34,6 @@ const BITS: usize = 4;
 const PERM: usize = 19;
 
 const DS: usize = 20;
-
-// ---- the sum of two records, part by part: the record at `a` of s and the one at `b` of t
-
-// The bit.
-pub fn sum_bit(s: &[u8], a: usize, t: &[u8], b: usize) -> bool
-    requires { ⌜ (a < length (now s)) × (b < length (now t)) ⌝ }
-    ensures { λ r. ⌜ r ≡ shares .op (shareAt (now (s .entry)) a) (shareAt (now (t .entry)) b) .bit ⌝ }
-{
-    share::bit_at(s, a) ^ share::bit_at(t, b)
-}
-
-// The MAC for k.
-pub fn sum_mac(s: &[u8], a: usize, t: &[u8], b: usize, k: usize) -> Mac
-    requires { ⌜ (k < 8) × (a + recordLen (k + 1) ≤ length (now s)) × (b + recordLen (k + 1) ≤ length (now t)) ⌝ }
-    ensures { λ r. ⌜ r .0 ≡ shares .op (shareAt (now (s .entry)) a) (shareAt (now (t .entry)) b) .mac k ⌝ }
-{
-    share::mac_at(s, a, k).xor(share::mac_at(t, b, k))
-}
-
-// The key of k.
-pub fn sum_key(s: &[u8], a: usize, t: &[u8], b: usize, k: usize) -> Key
-    requires { ⌜ (k < 8) × (a + recordLen (k + 1) ≤ length (now s)) × (b + recordLen (k + 1) ≤ length (now t)) ⌝ }
-    ensures { λ r. ⌜ r .0 ≡ shares .op (shareAt (now (s .entry)) a) (shareAt (now (t .entry)) b) .key k ⌝ }
-{
-    share::key_at(s, a, k).xor(share::key_at(t, b, k))
-}
-
-// Whether the MAC at `mac_at` of k's message m is the key of k of that sum, plus delta where the bit at `bit_at` is 1.
-pub fn mac_holds(
-    m: &[u8],
-    bit_at: usize,
-    mac_at: usize,
-    s: &[u8],
-    a: usize,
-    t: &[u8],
-    b: usize,
-    k: usize,
-    delta: Delta,
-) -> bool
-    requires { ⌜ («bit_at» < length (now m)) × («mac_at» + 16 ≤ length (now m)) ⌝ }
-    requires { ⌜ (k < 8) × (a + recordLen (k + 1) ≤ length (now s)) × (b + recordLen (k + 1) ≤ length (now t)) ⌝ }
-    ensures { λ r. ⌜ r ≡ eqBlock (blockAt (now (m .entry)) «mac_at») (blocks .op
-        (shares .op (shareAt (now (s .entry)) a) (shareAt (now (t .entry)) b) .key k) (sel blocks (odd (getD (now (m .entry)) «bit_at» 0)) (delta .0))) ⌝ }
-{
-    let key = sum_key(s, a, t, b, k);
-    let mac = key.xor_delta(delta.times(block::bit(m, bit_at)));
-    block::load(m, mac_at).equals(mac.0)
-}
 
 // ---- the permutation
 
@@ -164,8 +111,8 @@ fn put_bucket(out: &mut [u8], recs: &[u8], perm: &[u8], f: Frame, j: usize, k: u
     let mut e = 0;
     while e < due {
         let y1 = y_at(perm, f, j, e + 1);
-        let bit = sum_bit(recs, y0, recs, y1);
-        let mac = sum_mac(recs, y0, recs, y1, k);
+        let bit = share::sum_bit(recs, y0, recs, y1);
+        let mac = share::sum_mac(recs, y0, recs, y1, k);
         encode::put_dvalue(out, due, e, bit, mac.0);
         e += 1;
     }
@@ -244,7 +191,7 @@ fn bucket_holds(
     while e < due {
         let next = y_at(perm, f, j, e + 1);
         ok = ok
-            & mac_holds(
+            & share::mac_holds(
                 m,
                 bits + e,
                 macs + e * 16,
@@ -397,7 +344,7 @@ fn d_opened(
 {
     let first = y_at(perm, f, j, 0);
     let next = y_at(perm, f, j, e + 1);
-    let own = sum_bit(recs, first, recs, next);
+    let own = share::sum_bit(recs, first, recs, next);
     own ^ told_sum(incoming, starts, lens, f, j, e)
 }
 
@@ -423,17 +370,6 @@ fn put_ds(
         row[e] = block::bit_byte(d_opened(recs, perm, incoming, starts, lens, f, j, e));
         e += 1;
     }
-}
-
-// Where a section of the work area starts, and where it ends.
-pub struct Span(pub usize, pub usize);
-
-pub fn section_span(f: Frame, s: usize) -> Span
-    requires { ⌜ (Ranged f) × (s < 24) ⌝ }
-    ensures { λ r. ⌜ Place f s (r .0) (r .1) ⌝ }
-{
-    let a = area::section_at(f.n, f.l, s);
-    Span(a, a + area::section_len(f.n, f.l, s))
 }
 
 // The row from the sections of the work area, with zeros behind it.
@@ -489,8 +425,8 @@ pub fn keep_ds(
         (Mail.letter (now (incoming .entry)) (now (starts .entry)) (now (lens .entry)))) (now (work .entry)) ⌝ }
 {
     let f = Frame { n: n, i: i, l: l };
-    let recs = section_span(f, BITS);
-    let perm = section_span(f, PERM);
+    let recs = area::section_span(f, BITS);
+    let perm = area::section_span(f, PERM);
     let ds = area::section_at(n, l, DS);
     let due = plan::bucket_size(l) - 1;
     let mut j = 0;
@@ -498,7 +434,7 @@ pub fn keep_ds(
         let row = ds_row(work, recs, perm, incoming, starts, lens, f, j);
         let a = ds + j * due;
         let e = a + due;
-        haand::copy(&mut work[a..e], &row);
+        fill::copy(&mut work[a..e], &row);
         j += 1;
     }
 }

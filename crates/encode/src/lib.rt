@@ -2,6 +2,7 @@
 // caller lends as `&mut out[a..e]`. Reading what was written gives back the value: specs/Kinds.antt, specs/Fields.antt. A loop that writes a
 // count and then item after item leaves the list: specs/Stretch.antt. From src/utils/serde.rs of polytune.
 ghost use mathlib.Core.Path.{_≡_};
+ghost use mathlib.Core.List.{_++_};
 ghost use Prim.Native.Nat.{ℕ, _+_, _*_, _<_};
 ghost use lib.ListN.{length};
 ghost use Rattle.block.specs.Block.{le8, bytesOf};
@@ -17,17 +18,21 @@ pub fn put_count(out: &mut [u8], count: usize)
     block::store64(out, count as u64);
 }
 
+// A list of `count` items, of which the bytes are lent.
+pub fn put_list(out: &mut [u8], count: usize, items: &[u8])
+    requires { ⌜ length (now out) ≡ 8 + length (now items) ⌝ }
+    ensures { λ _. ⌜ now (out .exit) ≡ le8 count ++ now (items .entry) ⌝ }
+{
+    put_count(&mut out[0..8], count);
+    fill::copy(&mut out[8..], items);
+}
+
 // A list of bytes: `RNG ver`, or a dm of `fashare ver`.
 pub fn put_bytes(out: &mut [u8], s: &[u8])
     requires { ⌜ length (now out) ≡ 8 + length (now s) ⌝ }
     ensures { λ _. ⌜ now (out .exit) ≡ E.dmItem (now (s .entry)) ⌝ }
 {
-    put_count(&mut out[0..8], s.len());
-    let mut t = 0;
-    while t < s.len() {
-        out[8 + t] = s[t];
-        t += 1;
-    }
+    put_list(out, s.len(), s);
 }
 
 // (bit, MAC) of `fabitn`, (e, u) of `flaand`.

@@ -16,7 +16,7 @@ use Rattle.fashare.specs.Given.{Given}
 pub record-small : (n l q : ℕ) → n ≤ 8 → l ≤ 300000 → q < 40 → (3 * leaky l + q) * recordLen n ≤ 4500040 * 512
 record-small n l q h k v = mul-le-mul (let e : 3 * leaky l + q ≤ 4500040 = omega (arith, leaky-most l k) in e) (record-most n h)
 
-module _ (n i l : ℕ) (recs : List ℕ) (g : Given n i l recs) (q at : ℕ) (hq : q < 40) (ea : at ≡ (3 * leaky l + q) * recordLen n) where
+module _ (n l : ℕ) (recs : List ℕ) (g : Given n l recs) (q at : ℕ) (hq : q < 40) (ea : at ≡ (3 * leaky l + q) * recordLen n) where
   pub record-in : at + recordLen n ≤ length recs
   unfolding bitsCount
   record-in =

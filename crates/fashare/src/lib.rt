@@ -23,7 +23,7 @@ use share::Key;
 // ---- what is committed to
 
 // Where the record of string q begins.
-fn record_at(n: usize, l: usize, q: usize) -> usize
+pub fn record_at(n: usize, l: usize, q: usize) -> usize
     requires { ⌜ (n ≤ 8) × (l ≤ 300000) ⌝ }
     requires { ⌜ q < 40 ⌝ }
     ensures { λ r. ⌜ r ≡ (3 * leaky l + q) * recordLen n ⌝ }
@@ -33,7 +33,7 @@ fn record_at(n: usize, l: usize, q: usize) -> usize
 
 // "d0 is the XOR of own keys".
 pub fn d0(recs: &[u8], n: usize, i: usize, l: usize, q: usize) -> Block
-    requires { ⌜ (q < 40) × Given n i l (now recs) ⌝ }
+    requires { ⌜ (q < 40) × Given n l (now recs) ⌝ }
     ensures { λ r. ⌜ r ≡ S.d0 (frame n l i) (now (recs .entry)) q ⌝ }
 {
     let at = record_at(n, l, q);
@@ -50,7 +50,7 @@ pub fn d0(recs: &[u8], n: usize, i: usize, l: usize, q: usize) -> Block
 // "dm = own bit byte, then MACs by party, own left out".
 pub fn write_dm(out: &mut [u8], recs: &[u8], n: usize, i: usize, l: usize, q: usize)
     requires { ⌜ length (now out) ≡ dmLen n ⌝ }
-    requires { ⌜ (q < 40) × Given n i l (now recs) ⌝ }
+    requires { ⌜ (q < 40) × Given n l (now recs) ⌝ }
     ensures { λ _. ⌜ now (out .exit) ≡ S.dm (frame n l i) (now (recs .entry)) q ⌝ }
 {
     let at = record_at(n, l, q);
@@ -68,7 +68,7 @@ pub fn write_dm(out: &mut [u8], recs: &[u8], n: usize, i: usize, l: usize, q: us
 
 // BLAKE3 of dm.
 fn dm_digest(recs: &[u8], n: usize, i: usize, l: usize, q: usize) -> Digest
-    requires { ⌜ (q < 40) × Given n i l (now recs) ⌝ }
+    requires { ⌜ (q < 40) × Given n l (now recs) ⌝ }
     ensures { λ r. ⌜ r .0 ≡ T.digest (S.dm (frame n l i) (now (recs .entry)) q) ⌝ }
 {
     let mut dm = [0u8; 113];
@@ -80,7 +80,7 @@ fn dm_digest(recs: &[u8], n: usize, i: usize, l: usize, q: usize) -> Digest
 // "Send BLAKE3 of d0, d1, dm": the three commitments of string q.
 fn write_comm(out: &mut [u8], recs: &[u8], delta: Delta, n: usize, i: usize, l: usize, q: usize)
     requires { ⌜ length (now out) ≡ 96 ⌝ }
-    requires { ⌜ (q < 40) × Given n i l (now recs) ⌝ }
+    requires { ⌜ (q < 40) × Given n l (now recs) ⌝ }
     ensures { λ _. ⌜ now (out .exit) ≡ commItem (frame n l i) (delta .0) (now (recs .entry)) q ⌝ }
 {
     let key = Key(d0(recs, n, i, l, q));
@@ -92,7 +92,7 @@ fn write_comm(out: &mut [u8], recs: &[u8], delta: Delta, n: usize, i: usize, l: 
 
 // The commitments of all strings.
 fn comms(recs: &[u8], delta: Delta, n: usize, i: usize, l: usize) -> [u8; 3840]
-    requires { ⌜ Given n i l (now recs) ⌝ }
+    requires { ⌜ Given n l (now recs) ⌝ }
     ensures { λ r. ⌜ r ≡ cat 40 (commItem (frame n l i) (delta .0) (now (recs .entry))) ⌝ }
 {
     let mut all = [0u8; 3840];
@@ -109,11 +109,11 @@ fn comms(recs: &[u8], delta: Delta, n: usize, i: usize, l: usize) -> [u8; 3840]
 // Round 8: the same message to every other party. It is hashed once.
 pub fn write_comms(out: &mut [u8], recs: &[u8], delta: Delta, n: usize, i: usize, l: usize)
     requires { ⌜ length (now out) ≡ (n - 1) * msgLen n l 8 ⌝ }
-    requires { ⌜ Given n i l (now recs) ⌝ }
+    requires { ⌜ Given n l (now recs) ⌝ }
     ensures { λ _. ⌜ now (out .exit) ≡ toOthers n i (λ r. S.commMsg (frame n l i) (delta .0) (now (recs .entry))) ⌝ }
 {
     let all = comms(recs, delta, n, i, l);
-    haand::write_same(out, 40, &all, n);
+    rounds::write_same(out, 40, &all, n);
 }
 
 // Row k of the commitments: what party k sent, behind the count; zero for the own number.
@@ -123,10 +123,10 @@ fn comm_row(row: &mut [u8], incoming: &[u8], starts: &[usize], lens: &[usize], i
     ensures { λ _. ⌜ now (row .exit) ≡ pick (neq i k) (take 3840 (drop 8 (letter (now (incoming .entry)) (now (starts .entry)) (now (lens .entry)) k))) (replicate 3840 0) ⌝ }
 {
     if i == k {
-        haand::clear(row);
+        fill::clear(row);
     } else {
         let m = rounds::letter(incoming, starts, lens, k);
-        haand::copy(row, &m[8..3848]);
+        fill::copy(row, &m[8..3848]);
     }
 }
 

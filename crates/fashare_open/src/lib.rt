@@ -9,8 +9,7 @@ ghost use Rattle.algebra.specs.Group.{sel};
 ghost use Rattle.algebra.specs.Sum.{neq};
 ghost use Rattle.block.specs.Block.{blockAt};
 ghost use Rattle.block.specs.Group.{blocks};
-ghost use Rattle.share.specs.Record.{recordLen};
-ghost use Rattle.plan.specs.Plan.{InRange, leaky, dmLen, msgLen, bitsCount};
+ghost use Rattle.plan.specs.Plan.{dmLen, msgLen};
 ghost use Rattle.engine.specs.Step.{frame, byParty};
 ghost use Rattle.engine.specs.Area.{toOthers};
 ghost use Rattle.rounds.specs.Mail.{letter, Arrived};
@@ -22,31 +21,6 @@ use rounds::Fault;
 use share::Delta;
 use share::Key;
 use share::Mac;
-
-// Where the own record of string q begins.
-fn own_at(l: usize, n: usize, q: usize) -> usize
-    requires { ⌜ InRange n l × (q < 40) ⌝ }
-    ensures { λ r. ⌜ r ≡ (3 * leaky l + q) * recordLen n ⌝ }
-{
-    (3 * plan::leaky(l) + q) * share::record_len(n)
-}
-
-// The XOR of own keys of string q.
-fn d0(recs: &[u8], n: usize, i: usize, l: usize, q: usize) -> Block
-    requires { ⌜ InRange n l × (q < 40) ⌝ }
-    requires { ⌜ length (now recs) ≡ bitsCount l * recordLen n ⌝ }
-    ensures { λ r. ⌜ r ≡ Fashare.d0 (frame n l i) (now (recs .entry)) q ⌝ }
-{
-    let at = own_at(l, n, q);
-    let mut sum = Key(Block::zero());
-    let mut k = 0;
-    while k < n {
-        let key = Key(share::key_at(recs, at, k).0.const_mul(i != k));
-        sum = sum.xor(key);
-        k += 1;
-    }
-    sum.0
-}
 
 // Where dm q of party k begins in the rows of dms.
 fn dm_row(n: usize, k: usize, q: usize) -> usize
@@ -79,7 +53,7 @@ fn opened(recs: &[u8], dms: &[u8], delta: Delta, n: usize, i: usize, l: usize, q
     ensures { λ r. ⌜ r ≡ blocks .op (Fashare.d0 (frame n l i) (now (recs .entry)) q)
         (sel blocks (Fashare.others1 (frame n l i) (now (dms .entry)) q) (delta .0)) ⌝ }
 {
-    let key = Key(d0(recs, n, i, l, q));
+    let key = Key(fashare::d0(recs, n, i, l, q));
     let bit = others_bit(dms, n, i, q);
     let mac = key.xor_delta(delta.times(bit));
     mac.0
@@ -156,7 +130,7 @@ fn macs_for(recs: &[u8], dms: &[u8], n: usize, i: usize, l: usize, q: usize, k: 
     requires { ⌜ Given n l (now recs) (now dms) ⌝ }
     ensures { λ r. ⌜ r ≡ Fashare.macsFor (frame n l i) (now (recs .entry)) (now (dms .entry)) q k ⌝ }
 {
-    let own = share::mac_at(recs, own_at(l, n, q), k);
+    let own = share::mac_at(recs, fashare::record_at(n, l, q), k);
     let mut sum = Mac(Block::zero());
     let mut j = 0;
     while j < n {

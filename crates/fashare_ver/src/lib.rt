@@ -7,9 +7,8 @@ ghost use lib.ListN.{length, replicate};
 ghost use Rattle.lists.specs.Pick.{pick};
 ghost use Rattle.algebra.specs.Sum.{neq};
 ghost use Rattle.message.specs.Format.{formOf};
-ghost use Rattle.share.specs.Record.{recordLen};
 ghost use Rattle.encode.specs.Encode.{dmItem};
-ghost use Rattle.plan.specs.Plan.{InRange, leaky, dmLen, msgLen};
+ghost use Rattle.plan.specs.Plan.{dmLen, msgLen};
 ghost use Rattle.engine.specs.Step.{frame, byParty};
 ghost use Rattle.engine.specs.Area.{toOthers};
 ghost use Rattle.rounds.specs.Mail.{letter};
@@ -17,7 +16,7 @@ ghost use Rattle.rounds.specs.EchoLaws.{Received};
 ghost use Rattle.rounds.specs.StringLaws.{Told, ofParty};
 ghost use Rattle.rounds.specs.DmLaws.{Dues, Checked, dmsOf};
 ghost use Rattle.rounds.specs.Fashare as Fashare;
-ghost use Rattle.fashare_ver.specs.Given.{Given};
+ghost use Rattle.fashare.specs.Given.{Given};
 use message::Kind;
 use rounds::Fault;
 
@@ -119,7 +118,7 @@ fn keep_row(out: &mut [u8], m: &[u8], n: usize)
         let to = from + len;
         let a = q * len;
         let e = a + len;
-        haand::copy(&mut out[a..e], &m[from..to]);
+        fill::copy(&mut out[a..e], &m[from..to]);
         q += 1;
     }
 }
@@ -139,7 +138,7 @@ fn keep_party(
     ensures { λ _. ⌜ now (out .exit) ≡ pick (neq i k) (dmsOf n (letter (now (incoming .entry)) (now (starts .entry)) (now (lens .entry)) k)) (replicate (40 * dmLen n) 0) ⌝ }
 {
     if i == k {
-        haand::clear(out);
+        fill::clear(out);
     } else {
         let m = rounds::letter(incoming, starts, lens, k);
         keep_row(out, m, n);
@@ -171,33 +170,6 @@ pub fn keep_dms(
 
 // ---- messages
 
-// Where the own record of string q begins.
-fn own_at(l: usize, n: usize, q: usize) -> usize
-    requires { ⌜ InRange n l × (q < 40) ⌝ }
-    ensures { λ r. ⌜ r ≡ (3 * leaky l + q) * recordLen n ⌝ }
-{
-    (3 * plan::leaky(l) + q) * share::record_len(n)
-}
-
-// "dm = own bit byte, then MACs by party, own left out".
-pub fn write_dm(out: &mut [u8], recs: &[u8], n: usize, i: usize, l: usize, q: usize)
-    requires { ⌜ length (now out) ≡ dmLen n ⌝ }
-    requires { ⌜ (q < 40) × Given n l (now recs) ⌝ }
-    ensures { λ _. ⌜ now (out .exit) ≡ Fashare.dm (frame n l i) (now (recs .entry)) q ⌝ }
-{
-    let at = own_at(l, n, q);
-    out[0] = block::bit_byte(share::bit_at(recs, at));
-    let last = n - 1;
-    let mut p = 0;
-    while p < last {
-        let a = 1 + p * 16;
-        let e = a + 16;
-        let mac = share::mac_at(recs, at, plan::other(i, p));
-        block::store(&mut out[a..e], mac.0);
-        p += 1;
-    }
-}
-
 // dm q as an item of the message: its length, then its bytes.
 fn put_dm(out: &mut [u8], recs: &[u8], n: usize, i: usize, l: usize, q: usize)
     requires { ⌜ length (now out) ≡ 8 + dmLen n ⌝ }
@@ -207,7 +179,7 @@ fn put_dm(out: &mut [u8], recs: &[u8], n: usize, i: usize, l: usize, q: usize)
     let len = plan::dm_len(n);
     let e = 8 + len;
     encode::put_count(&mut out[0..8], len);
-    write_dm(&mut out[8..e], recs, n, i, l, q);
+    fashare::write_dm(&mut out[8..e], recs, n, i, l, q);
 }
 
 // The message, which is the same to all.

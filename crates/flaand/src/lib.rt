@@ -144,7 +144,7 @@ fn keep_e_row(
         (λ t. num (F.eTold (Mail.letter (now (incoming .entry)) (now (starts .entry)) (now (lens .entry))) k t))) k ⌝ }
 {
     if i == k {
-        haand::clear(row);
+        fill::clear(row);
         return;
     }
     let m = rounds::letter(incoming, starts, lens, k);

@@ -34,7 +34,7 @@ pub fn hold_h_comms(work: &mut [u8], hs: usize, comms: usize, n: usize, i: usize
         let len = k * 16;
         let from = hs + t * 16;
         let to = from + len;
-        haand::copy(&mut blocks[0..len], &work[from..to]);
+        fill::copy(&mut blocks[0..len], &work[from..to]);
         let a = row + t * 32;
         let e = a + k * 32;
         blake3_lanes::hash_blocks(&mut work[a..e], &blocks[0..len], k);
@@ -48,7 +48,7 @@ pub fn write_h_comms(out: &mut [u8], comms: &[u8], n: usize, i: usize, l: usize)
     requires { ⌜ (Ranges n i l) × (length (now comms) ≡ Plan.leaky l * 32) ⌝ }
     ensures { λ _. ⌜ now (out .exit) ≡ toOthers n i (λ k. le8 (Plan.leaky l) ++ now (comms .entry)) ⌝ }
 {
-    haand::write_same(out, plan::leaky(l), comms, n);
+    rounds::write_same(out, plan::leaky(l), comms, n);
 }
 
 // What party k told behind the count, as many bytes as the row has; zero for the own number.
@@ -68,11 +68,11 @@ fn keep_row(
         (drop 8 (Mail.letter (now (incoming .entry)) (now (starts .entry)) (now (lens .entry)) k))) k ⌝ }
 {
     if i == k {
-        haand::clear(row);
+        fill::clear(row);
         return;
     }
     let m = rounds::letter(incoming, starts, lens, k);
-    haand::copy(row, &m[8..]);
+    fill::copy(row, &m[8..]);
 }
 
 // The commitments of all others.

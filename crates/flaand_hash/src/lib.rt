@@ -28,7 +28,7 @@ pub fn write_hs(out: &mut [u8], hs: &[u8], n: usize, i: usize, l: usize)
     requires { ⌜ Hashes n i l (now hs) ⌝ }
     ensures { λ _. ⌜ now (out .exit) ≡ toOthers n i (λ k. F.hashMsg (frame n l i) (now (hs .entry))) ⌝ }
 {
-    haand::write_same(out, plan::leaky(l), hs, n);
+    rounds::write_same(out, plan::leaky(l), hs, n);
 }
 
 // Whether a and b are the same, Block by Block. All are compared.

@@ -50,17 +50,6 @@ pub fn y_at(n: usize, l: usize, t: usize) -> usize
     (plan::leaky(l) + t) * share::record_len(n)
 }
 
-// Zeros.
-pub fn clear(out: &mut [u8])
-    ensures { λ _. ⌜ now (out .exit) ≡ replicate (length (now (out .entry))) 0 ⌝ }
-{
-    let mut j = 0;
-    while j < out.len() {
-        out[j] = 0;
-        j += 1;
-    }
-}
-
 // The sum of the keys and MACs of the record at `at`, the own ones left out.
 fn keys_and_macs(recs: &[u8], at: usize, n: usize, i: usize) -> Block
     requires { ⌜ (n ≤ 8) × (at + recordLen n ≤ length (now recs)) ⌝ }
@@ -114,7 +103,7 @@ fn put_entry_of(
         × (r ≡ sel blocks (neq i k) (gAt i (now (keys .entry)) k)) ⌝ }
 {
     if i == k {
-        clear(out);
+        fill::clear(out);
         return Block::zero();
     }
     let a = haand_hash::hash_of(keys, i, k);
@@ -228,43 +217,6 @@ fn put_window(
     put_rows(out, &hashes, recs, delta, n, i, l, t, m);
 }
 
-// As many bytes of s as out has.
-pub fn copy(out: &mut [u8], s: &[u8])
-    requires { ⌜ length (now out) ≤ length (now s) ⌝ }
-    ensures { λ _. ⌜ now (out .exit) ≡ take (length (now (out .entry))) (now (s .entry)) ⌝ }
-{
-    let mut j = 0;
-    while j < out.len() {
-        out[j] = s[j];
-        j += 1;
-    }
-}
-
-// A list of `count` items, of which the bytes are lent.
-fn put_list(out: &mut [u8], count: usize, items: &[u8])
-    requires { ⌜ length (now out) ≡ 8 + length (now items) ⌝ }
-    ensures { λ _. ⌜ now (out .exit) ≡ le8 count ++ now (items .entry) ⌝ }
-{
-    encode::put_count(&mut out[0..8], count);
-    copy(&mut out[8..], items);
-}
-
-// The same list to every other party, in a stretch of its own.
-pub fn write_same(out: &mut [u8], count: usize, items: &[u8], n: usize)
-    requires { ⌜ (2 ≤ n) × (length (now out) ≡ (n - 1) * (8 + length (now items))) ⌝ }
-    ensures { λ _. ⌜ ((i : ℕ) → now (out .exit) ≡ toOthers n i (λ k. le8 count ++ now (items .entry))) ⌝ }
-{
-    let len = 8 + items.len();
-    let last = n - 1;
-    let mut q = 0;
-    while q < last {
-        let at = q * len;
-        let e = at + len;
-        put_list(&mut out[at..e], count, items);
-        q += 1;
-    }
-}
-
 // The most bytes that the rows of a window have: those of 32 positions of 2 parties.
 const MOST: usize = 2176;
 
@@ -294,7 +246,7 @@ pub fn keep_leaky(
         put_window(&mut made[0..size], &work[recs..end], delta, n, i, l, t, m);
         let a = rows + t * len;
         let e = a + size;
-        copy(&mut work[a..e], &made[0..size]);
+        fill::copy(&mut work[a..e], &made[0..size]);
         t += m;
     }
 }

@@ -239,7 +239,7 @@ pub fn keep_z(
         );
         let a = rows + t * 17;
         let e = a + size;
-        haand::copy(&mut work[a..e], &made[0..size]);
+        fill::copy(&mut work[a..e], &made[0..size]);
         t += m;
     }
 }

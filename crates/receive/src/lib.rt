@@ -298,7 +298,7 @@ fn keep_joint(
     );
     let a = area::section_at(n, l, JOINT);
     let e = a + area::section_len(n, l, JOINT);
-    toss::copy(&mut work[a..e], &seed);
+    fill::copy(&mut work[a..e], &seed);
 }
 
 // Round 5: the pairwise seeds.

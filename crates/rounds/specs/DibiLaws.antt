@@ -21,11 +21,10 @@ use Rattle.block.specs.Block.{blockAt, bytesOf, eqBlock}
 use Rattle.block.specs.Group.{blocks}
 use Rattle.block.specs.Trip.{length-bytesOf}
 use Rattle.blake3.specs.Tree.{hash}
-use Rattle.share.specs.Record.{recordLen, macAt, keyAt}
+use Rattle.share.specs.Record.{recordLen, macAt}
 use Rattle.share.specs.Share.{shareAt}
 use Rattle.encode.specs.Coded.{length-encode}
 use Rattle.plan.specs.Plan.{leaky, bitsCount, dmLen}
-use Rattle.plan.specs.PlanLaws.{leaky-most}
 use Rattle.engine.specs.declared.Frame.{Frame}
 use Rattle.rounds.specs.Fashare as Fashare
 
@@ -62,31 +61,10 @@ xor-sel true true false = refl
 xor-sel true true true = refl
 
 -- ---- own records
--- where it begins is no large number
-pub own-most : (n l q : ℕ) → n ≤ 8 → l ≤ 300000 → q < 40 → (3 * leaky l + q) * recordLen n ≤ 4500040 * 257
-own-most n l q h g e = mul-le-mul {n₂ = 4500040} {m₂ = 257} (omega (arith, leaky-most l g)) (omega arith)
-
 -- the record of string q lies within
 pub own-in : (n l q len : ℕ) → q < 40 → len ≡ bitsCount l * recordLen n → (3 * leaky l + q) * recordLen n + recordLen n ≤ len
 unfolding bitsCount
 own-in n l q len h e = omega (arith, in-chunks (3 * leaky l + q) (3 * leaky l + 160) (recordLen n) (omega arith))
-
-module _ (f : Frame) (recs : List ℕ) (q : ℕ) where
-  abbrev at : ℕ
-  at = (3 * leaky (f .l) + q) * recordLen (f .n)
-
-  pub own-key : (k : ℕ) → Fashare.own f recs q .key k ≡ keyAt recs at k
-  unfolding Fashare.own shareAt
-  own-key k = refl
-
-  pub own-mac : (k : ℕ) → Fashare.own f recs q .mac k ≡ macAt recs at k
-  unfolding Fashare.own shareAt
-  own-mac k = refl
-
-  -- d0, with the keys where they lie
-  pub d0-is : others blocks (f .i) (f .n) (keyAt recs at) ≡ Fashare.d0 f recs q
-  unfolding Fashare.d0 Fashare.own shareAt
-  d0-is = refl
 
 -- ---- dms: rows of 40 for each party
 pub dm-most : (n k q : ℕ) → n ≤ 8 → k < n → q < 40 → (k * 40 + q) * dmLen n ≤ 320 * 113

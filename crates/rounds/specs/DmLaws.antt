@@ -1,29 +1,25 @@
 -- Laws of the dms (round 10): what the form of a message says of each dm, the fault of one, and what no fault says.
 use mathlib.Core.Path.{_≡_, refl, sym, ap, ap₂, _∙_}
 use mathlib.Core.Logic.{_≢_}
-use mathlib.Core.List.{List, [], _∷_, _++_}
+use mathlib.Core.List.{List, [], _++_}
 use Prim.Native.Nat.{ℕ, zero, suc, _+_, _-_, _*_, _<_, _≤_}
 use native.Mathlib.Nat.{mul-le-mul}
-use native.Mathlib.Numerals.{add-one}
 use native.Mathlib.Omega.{arith}
-use lib.ListN.{length, getD, take, drop, set, length-take, length-set, length-append}
-use lib.Seq.{take-all, drop-at}
+use lib.ListN.{length, getD, take, drop, length-take, length-append}
+use lib.Seq.{take-all}
 use lib.Dec.{leb, eqb}
 use borrow.Author.Tests.{eqb-true, eq-eqb, ne-eqb, le-leb, lt-leb}
 use Rattle.lists.specs.Pick.{pick, pick-then}
 use borrow.Rule.Slice.PartMut.{putMid}
-use Rattle.lists.specs.Over.{cat, length-cat, over-set, over-next, over-full, Written}
-use Rattle.algebra.specs.Group.{num}
+use Rattle.lists.specs.Over.{cat, length-cat, over-next, over-full, Written}
 use Rattle.block.specs.Block.{wordAt, le8, bytesOf}
 use Rattle.block.specs.Trip.{length-le8, length-bytesOf}
-use Rattle.share.specs.Record.{recordLen, bitAt, macAt}
-use Rattle.share.specs.Share.{shareAt}
 use Rattle.message.specs.declared.Kind.the-variants.{Dms}
 use Rattle.message.specs.Format.{itemAt, formOf}
 use Rattle.message.specs.FormatLaws.{formed-at, formed-item, level-at, Dm, dm-held}
 use Rattle.encode.specs.Encode.{dmItem}
 use Rattle.encode.specs.Coded.{length-encode}
-use Rattle.plan.specs.Plan.{leaky, dmLen, msgLen, kindOf, countDue}
+use Rattle.plan.specs.Plan.{dmLen, msgLen, kindOf, countDue}
 use Rattle.plan.specs.Plan as Plan
 use Rattle.engine.specs.declared.Frame.{Frame}
 use Rattle.engine.specs.Step.{Fault, frame, other, byParty}
@@ -143,39 +139,7 @@ module _ (n : ℕ) (m : List ℕ) (d : Dues n m) where
         length-take-most : (a : ℕ) (s : List ℕ) → length (take a s) ≤ a
         length-take-most a s = omega (arith, length-take a s)
 
--- ---- dm as a loop writes it: the bit byte, then the MACs
-abbrev pub dmPart : List ℕ → ℕ → ℕ → ℕ → List ℕ
-dmPart recs at i zero = num (bitAt recs at) ∷ []
-dmPart recs at i (suc p) = bytesOf (macAt recs at (Plan.other i p))
-
-pub part-next : (recs : List ℕ) (at i p : ℕ) → dmPart recs at i (p + 1) ≡ bytesOf (macAt recs at (Plan.other i p))
-part-next recs at i p = rw (add-one p)
-
-dm-parts : (recs : List ℕ) (at i c : ℕ) → cat (suc c) (dmPart recs at i) ≡ num (bitAt recs at) ∷ cat c (λ p. bytesOf (macAt recs at (Plan.other i p)))
-unfolding cat
-dm-parts recs at i zero = refl
-dm-parts recs at i (suc c) = ap (λ (x : List ℕ). x ++ bytesOf (macAt recs at (Plan.other i c))) (dm-parts recs at i c)
-
-pub dm-is : (f : Frame) (recs : List ℕ) (q at : ℕ) (d : List ℕ) → at ≡ (3 * leaky (f .l) + q) * recordLen (f .n)
-    → d ≡ cat (f .n - 1 + 1) (dmPart recs at (f .i)) → d ≡ dm f recs q
-unfolding dm own shareAt
-dm-is f recs q at d ea h =
-    h ∙ ap (λ n. cat n (dmPart recs at (f .i))) (add-one (f .n - 1)) ∙ dm-parts recs at (f .i) (f .n - 1)
-    ∙ ap (λ a. num (bitAt recs a) ∷ cat (f .n - 1) (λ p. bytesOf (macAt recs a (Plan.other (f .i) p)))) ea
-
--- the bit byte is written
-pub dm-first : (g : ℕ → List ℕ) (v : ℕ) (l : List ℕ) → 0 < length l → g 0 ≡ v ∷ [] → Written g 1 1 (set l 0 v) (set l 0 v)
-unfolding cat
-dm-first g v l h e =
-    let w : set l 0 v ≡ cat 1 g ++ drop 1 l = over-set [] l 0 v refl h ∙ ap (λ (x : List ℕ). x ++ drop 1 l) (sym e) in
-    let n : length (cat 1 g) ≡ 1 = ap length e in
-    record {
-      here = w ∙ ap (λ (x : List ℕ). cat 1 g ++ x) (sym (ap (drop 1) w ∙ drop-at (cat 1 g) (drop 1 l) 1 n));
-      at = n;
-      fits = omega (arith, length-set l 0 v);
-      same = refl;
-    }
-
+-- ---- the message
 pub length-dm : (f : Frame) (recs : List ℕ) (q : ℕ) → length (dm f recs q) ≡ dmLen (f .n)
 unfolding dm dmLen
 length-dm f recs q =

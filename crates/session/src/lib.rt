@@ -153,7 +153,7 @@ fn make(
 fn zero(work: &mut [u8])
     ensures { λ _. ⌜ now (work .exit) ≡ replicate (length (now (work .entry))) 0 ⌝ }
 {
-    haand::clear(work);
+    fill::clear(work);
 }
 
 // The last call: the results are written, and the work area is zeroed.

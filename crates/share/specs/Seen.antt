@@ -1,4 +1,5 @@
--- The check of a list of records without a branch: bit bytes and own entries ORed together. A byte is no more than an OR that it is in, so where that is
+-- The check of a list of records without a branch: bit bytes and own entries ORed together. A byte is no more than an OR that it is in,
+-- so where that is
 -- as a record's has to be, each record is.
 use mathlib.Core.Path.{_≡_, refl, sym, ap, _∙_, subst}
 use mathlib.Core.List.{List}
@@ -70,17 +71,21 @@ module _ (n i : ℕ) (s : List ℕ) where
           (λ t l. record {
             bit = omega (arith, h .bit t l);
             mac = block-below s e (t * recordLen n + macOff i) 0
-                (λ k w. subst (λ x. getD s (t * recordLen n + macOff i + k) 0 ≤ getD e x 0) (let q : k ≡ 0 + k = omega arith in q) (h .own t l k (omega arith)))
+                (λ k w. subst (λ x. getD s (t * recordLen n + macOff i + k) 0 ≤ getD e x 0) (let q : k ≡ 0 + k = omega arith in q)
+                (h .own t l k (omega arith)))
                 m;
             key = block-below s e (t * recordLen n + keyOff i) 16
                 (λ k w. subst (λ x. getD s x 0 ≤ getD e (16 + k) 0)
-                (let q : t * recordLen n + macOff i + (16 + k) ≡ t * recordLen n + keyOff i + k = omega arith in q) (h .own t l (16 + k) (omega arith)))
+                (let q : t * recordLen n + macOff i + (16 + k) ≡ t * recordLen n + keyOff i + k = omega arith in q)
+                (h .own t l (16 + k) (omega arith)))
                 y;
           })
 
-      go : (a : Bool) → leb bits 1 ≡ a → (b : Bool) → eqBlock (blockAt e 0) (blocks .nil) ≡ b → (c : Bool) → eqBlock (blockAt e 16) (blocks .nil) ≡ c
+      go : (a : Bool) → leb bits 1 ≡ a → (b : Bool) → eqBlock (blockAt e 0) (blocks .nil) ≡ b → (c : Bool)
+          → eqBlock (blockAt e 16) (blocks .nil) ≡ c
           → ((a && b) && c) ≡ true → recordsFault n i s count ≡ 0
-      go true ea true eb true ec r = all (leb-true bits 1 ea) (block-eq (blockAt e 0) (blocks .nil) eb) (block-eq (blockAt e 16) (blocks .nil) ec)
+      go true ea true eb true ec r =
+          all (leb-true bits 1 ea) (block-eq (blockAt e 0) (blocks .nil) eb) (block-eq (blockAt e 16) (blocks .nil) ec)
       go true ea true eb false ec r = absurd (true-false (sym r))
       go true ea false eb c ec r = absurd (true-false (sym r))
       go false ea b eb c ec r = absurd (true-false (sym r))

@@ -1,6 +1,6 @@
 -- Laws about shares and the records that hold them.
 use mathlib.Core.Path.{_≡_, refl, sym, ap, ap₂, _∙_, subst}
-use mathlib.Core.Bool.{Bool, true, false}
+use mathlib.Core.Bool.{Bool, true, false, not, Bool·beq}
 use mathlib.Core.Logic.{_≢_}
 use mathlib.Core.List.{List, [], _∷_, _++_, append-nil}
 use Prim.Native.Nat.{ℕ, zero, suc, _+_, _*_, _<_, _≤_}
@@ -21,6 +21,13 @@ use Rattle.block.specs.Trip.{Small, small-xor, small-nil, length-bytesOf, bytes
 use Rattle.share.specs.Record.{recordLen, macOff, keyOff, bitAt, macAt, keyAt, recordsFault}
 use Rattle.share.specs.RecordLaws.{Valid, valid-faults, byte-part, bit-part, mac-part, key-part, small-mac, small-key}
 use Rattle.share.specs.Share.{Share, shareAt, shares, entryBytes, entryOf, recordOf}
+
+-- XOR of two bools, as the code has it
+pub xor-bits : (a b : Bool) → not (Bool·beq a b) ≡ addb a b
+xor-bits false false = refl
+xor-bits false true = refl
+xor-bits true false = refl
+xor-bits true true = refl
 
 -- ---- sums of shares, part by part
 module _ (a b : Share) where

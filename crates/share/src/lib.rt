@@ -4,9 +4,9 @@ ghost use mathlib.Core.Path.{_≡_};
 ghost use mathlib.Core.Bool.{true};
 ghost use mathlib.Core.List.{_++_};
 ghost use Prim.Native.Nat.{_+_, _*_, _<_, _≤_};
-ghost use lib.ListN.{length};
-ghost use Rattle.algebra.specs.Group.{XorGroup, sel};
-ghost use Rattle.block.specs.Block.{blockAt, bytesOf};
+ghost use lib.ListN.{length, getD};
+ghost use Rattle.algebra.specs.Group.{XorGroup, sel, odd};
+ghost use Rattle.block.specs.Block.{blockAt, bytesOf, eqBlock};
 ghost use Rattle.block.specs.Group.{blocks};
 ghost use Rattle.share.specs.Record.{recordLen, macOff, keyOff, bitAt, macAt, keyAt, ownZero, recordFault, recordsFault};
 ghost use Rattle.share.specs.Seen.{ored};
@@ -266,4 +266,52 @@ pub fn add_record(out: &mut [u8], s: &[u8], at: usize, n: usize, i: usize, d: bo
         k += 1;
     }
     out[0] = block::bit_byte(bit);
+}
+
+// ---- the sum of two records, part by part: the record at `a` of s and the one at `b` of t
+
+// The bit.
+pub fn sum_bit(s: &[u8], a: usize, t: &[u8], b: usize) -> bool
+    requires { ⌜ (a < length (now s)) × (b < length (now t)) ⌝ }
+    ensures { λ r. ⌜ r ≡ shares .op (shareAt (now (s .entry)) a) (shareAt (now (t .entry)) b) .bit ⌝ }
+{
+    bit_at(s, a) ^ bit_at(t, b)
+}
+
+// The MAC for k.
+pub fn sum_mac(s: &[u8], a: usize, t: &[u8], b: usize, k: usize) -> Mac
+    requires { ⌜ (k < 8) × (a + recordLen (k + 1) ≤ length (now s)) × (b + recordLen (k + 1) ≤ length (now t)) ⌝ }
+    ensures { λ r. ⌜ r .0 ≡ shares .op (shareAt (now (s .entry)) a) (shareAt (now (t .entry)) b) .mac k ⌝ }
+{
+    mac_at(s, a, k).xor(mac_at(t, b, k))
+}
+
+// The key of k.
+pub fn sum_key(s: &[u8], a: usize, t: &[u8], b: usize, k: usize) -> Key
+    requires { ⌜ (k < 8) × (a + recordLen (k + 1) ≤ length (now s)) × (b + recordLen (k + 1) ≤ length (now t)) ⌝ }
+    ensures { λ r. ⌜ r .0 ≡ shares .op (shareAt (now (s .entry)) a) (shareAt (now (t .entry)) b) .key k ⌝ }
+{
+    key_at(s, a, k).xor(key_at(t, b, k))
+}
+
+// Whether the MAC at `mac_at` of k's message m is the key of k of that sum, plus delta where the bit at `bit_at` is 1.
+pub fn mac_holds(
+    m: &[u8],
+    bit_at: usize,
+    mac_at: usize,
+    s: &[u8],
+    a: usize,
+    t: &[u8],
+    b: usize,
+    k: usize,
+    delta: Delta,
+) -> bool
+    requires { ⌜ («bit_at» < length (now m)) × («mac_at» + 16 ≤ length (now m)) ⌝ }
+    requires { ⌜ (k < 8) × (a + recordLen (k + 1) ≤ length (now s)) × (b + recordLen (k + 1) ≤ length (now t)) ⌝ }
+    ensures { λ r. ⌜ r ≡ eqBlock (blockAt (now (m .entry)) «mac_at») (blocks .op
+        (shares .op (shareAt (now (s .entry)) a) (shareAt (now (t .entry)) b) .key k) (sel blocks (odd (getD (now (m .entry)) «bit_at» 0)) (delta .0))) ⌝ }
+{
+    let key = sum_key(s, a, t, b, k);
+    let mac = key.xor_delta(delta.times(block::bit(m, bit_at)));
+    block::load(m, mac_at).equals(mac.0)
 }

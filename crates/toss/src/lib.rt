@@ -21,25 +21,13 @@ ghost use Rattle.rounds.specs.TossLaws.{openFault, pairRow};
 use blake3::Digest;
 use rounds::Fault;
 
-// The bytes of s, to a buffer of their length.
-pub fn copy(out: &mut [u8], s: &[u8])
-    requires { ⌜ length (now out) ≡ length (now s) ⌝ }
-    ensures { λ _. ⌜ now (out .exit) ≡ now (s .entry) ⌝ }
-{
-    let mut t = 0;
-    while t < s.len() {
-        out[t] = s[t];
-        t += 1;
-    }
-}
-
 // The commitment of party j to a seed: BLAKE3 of its 32 bytes and of j as 16 bits, high byte first.
 pub fn commitment(seed: &[u8], j: usize) -> Digest
     requires { ⌜ length (now seed) ≡ 32 ⌝ }
     ensures { λ r. ⌜ B.bytes (r .0) ≡ Toss.commitment (now (seed .entry)) j ⌝ }
 {
     let mut b = [0u8; 34];
-    copy(&mut b[0..32], seed);
+    fill::copy(&mut b[0..32], seed);
     b[32] = (j / 256 % 256) as u8;
     b[33] = (j % 256) as u8;
     blake3::digest_of(&b)
@@ -146,7 +134,7 @@ fn told_row(
     let mut row = [0u8; 32];
     if k != i {
         let m = rounds::letter(incoming, starts, lens, k);
-        copy(&mut row, &m[8..40]);
+        fill::copy(&mut row, &m[8..40]);
     }
     row
 }
@@ -169,7 +157,7 @@ pub fn keep_told(
         let row = told_row(incoming, starts, lens, n, i, k);
         let a = k * 32;
         let e = a + 32;
-        copy(&mut section[a..e], &row);
+        fill::copy(&mut section[a..e], &row);
         k += 1;
     }
 }
@@ -270,7 +258,7 @@ fn pair_seed(
     if k != i {
         let from = k * 32;
         let to = from + 32;
-        copy(&mut x, &pairs[from..to]);
+        fill::copy(&mut x, &pairs[from..to]);
         let m = rounds::letter(incoming, starts, lens, k);
         block::xor_inplace(&mut x, &m[8..40]);
     }
@@ -300,7 +288,7 @@ pub fn keep_pairwise(
         let row = pair_seed(&work[pairs_at..pairs_end], incoming, starts, lens, n, i, k);
         let a = rows_at + k * 32;
         let e = a + 32;
-        copy(&mut work[a..e], &row);
+        fill::copy(&mut work[a..e], &row);
         k += 1;
     }
 }

@@ -15,10 +15,10 @@ ghost use Rattle.rounds.specs.Buckets as B;
 ghost use Rattle.combine.specs.PairLaws.{Holds};
 ghost use Rattle.haand.specs.Given.{Work};
 ghost use Rattle.buckets.specs.Given.{Ranged};
-ghost use Rattle.buckets.specs.Place.{Place};
+ghost use Rattle.area.specs.Place.{Place};
 ghost use Rattle.triples.specs.Given.{Kept, Bucketed};
 ghost use Rattle.triples.specs.Laws.{leakyAt, abcRow};
-use buckets::Span;
+use area::Span;
 use engine::Frame;
 use share::Delta;
 use share::Key;
@@ -201,11 +201,11 @@ pub fn keep_triples(work: &mut [u8], delta: Delta, n: usize, i: usize, l: usize)
         (Area.at (frame n l i) Area.DS (now (work .entry)))) (now (work .entry)) ⌝ }
 {
     let f = Frame { n: n, i: i, l: l };
-    let recs = buckets::section_span(f, BITS);
-    let zs = buckets::section_span(f, ZS);
-    let es = buckets::section_span(f, ES);
-    let perm = buckets::section_span(f, PERM);
-    let opened = buckets::section_span(f, DS);
+    let recs = area::section_span(f, BITS);
+    let zs = area::section_span(f, ZS);
+    let es = area::section_span(f, ES);
+    let perm = area::section_span(f, PERM);
+    let opened = area::section_span(f, DS);
     let rows = area::section_at(n, l, TRIPLES);
     let len = 2 * share::record_len(n);
     let mut j = 0;
@@ -213,7 +213,7 @@ pub fn keep_triples(work: &mut [u8], delta: Delta, n: usize, i: usize, l: usize)
         let row = triple_row(work, recs, zs, es, perm, opened, delta, f, j);
         let a = rows + j * len;
         let e = a + len;
-        haand::copy(&mut work[a..e], &row);
+        fill::copy(&mut work[a..e], &row);
         j += 1;
     }
 }

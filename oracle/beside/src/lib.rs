@@ -5,9 +5,9 @@ mod ffi;
 use std::collections::BTreeMap;
 
 use oracle::{
-    Party, Session, SplitMix, cpu_time,
+    ENTRY, Party, Session, SplitMix, cpu_time,
     damage::{message_len, rounds},
-    record_len,
+    mac_at, record_len,
 };
 
 /// How our session ended for one party.
@@ -253,7 +253,7 @@ fn spoil_opening(g: &mut SplitMix, s: &Session, i: usize) -> Wrong {
     // the inputs may be damaged already
     for list in [&mut w.lent.bits, &mut w.lent.alpha, &mut w.lent.beta] {
         for record in list.chunks_exact_mut(record) {
-            record[1 + 32 * i..][..32].fill(0);
+            record[mac_at(i)..][..ENTRY].fill(0);
         }
     }
     match g.below(11) {
@@ -292,7 +292,7 @@ fn spoil_opening(g: &mut SplitMix, s: &Session, i: usize) -> Wrong {
             let at = record * g.below(list.len() / record);
             list[at] = 2 + g.below(254) as u8;
             // and the own entry, which comes after
-            list[at + 1 + 32 * i] = 1;
+            list[at + mac_at(i)] = 1;
             w.number = 1;
         }
         9 => {
@@ -301,7 +301,7 @@ fn spoil_opening(g: &mut SplitMix, s: &Session, i: usize) -> Wrong {
             w.number = 1;
         }
         _ => {
-            let at = record * g.below(s.bits_count()) + 1 + 32 * i + g.below(32);
+            let at = record * g.below(s.bits_count()) + mac_at(i) + g.below(ENTRY);
             w.lent.bits[at] = 1 + g.below(255) as u8;
             // a later record's bit comes after
             w.lent.beta[0] = 2;

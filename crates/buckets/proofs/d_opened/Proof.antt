@@ -10,7 +10,7 @@ use Rattle.plan.specs.PlanLaws.{bucket-low, bucket-high}
 use Rattle.rounds.specs.Mail.{letter}
 use Rattle.rounds.specs.Buckets.{later}
 use Rattle.rounds.specs.BucketsLaws.{y-within}
-use Rattle.buckets.specs.Bits.{xor-bits}
+use Rattle.share.specs.ShareLaws.{xor-bits}
 use Rattle.buckets.specs.Opened.{opened}
 use Rattle.buckets.proofs.d_opened.Statement.{statement}
 use Rattle.buckets.proofs.d_opened.Tie as tie

@@ -10,7 +10,7 @@ use Rattle.plan.specs.PlanLaws.{bucket-low, bucket-high}
 use Rattle.rounds.specs.Area.{BITS, PERM, at}
 use Rattle.rounds.specs.Mail.{letter}
 use Rattle.rounds.specs.Buckets.{later}
-use Rattle.haand.specs.Parts.{drop-replicate}
+use Rattle.lists.specs.Over.{drop-replicate}
 use Rattle.buckets.specs.Opened.{dRow}
 use Rattle.buckets.specs.Place.{ranged, lent-is, place-le, place-in, place-at}
 use Rattle.buckets.proofs.ds_row.Statement.{statement}

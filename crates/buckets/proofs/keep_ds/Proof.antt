@@ -8,7 +8,7 @@ use native.Mathlib.Omega.{arith}
 use lib.ListN.{length, take, drop, replicate}
 use borrow.Author.Needs.{needs}
 use denote.Ref.{now}
-use Rattle.lists.specs.Over.{in-chunks, next-chunk}
+use Rattle.lists.specs.Over.{in-chunks, next-chunk, row-copied}
 use Rattle.plan.specs.PlanLaws.{bucket-low}
 use Rattle.engine.specs.declared.Frame.{Frame}
 use Rattle.engine.specs.Step.{frame}
@@ -19,7 +19,6 @@ use Rattle.rounds.specs.Loops.{lent-part, Keeping, keeping-none, keeping-turn, 
 use Rattle.rounds.specs.Buckets.{later}
 use Rattle.area.specs.AreaLaws.{off-any}
 use Rattle.haand.specs.GivenLaws.{area, row-inside}
-use Rattle.haand.specs.Parts.{row-copied}
 use Rattle.buckets.specs.Opened.{dRow, length-dRow, ds-rows, row-long}
 use Rattle.buckets.specs.Place.{ranged, in-range, size-ds}
 use Rattle.buckets.proofs.keep_ds.Statement.{statement}
@@ -59,10 +58,10 @@ module _ (s : tie.Start Inv-loop μ-loop) where
   some = omega (arith, bucket-low (s .args .l))
 
 section-span-requires : tie.Need-section-span-requires Inv-loop μ-loop
-section-span-requires c κs = let s = c .before .before .before .before in (ranged (f s) (s .pre .0 .ranges), omega arith)
+section-span-requires c κs = let s = c .before .before .before .before in (in-range (f s) (ranged (f s) (s .pre .0 .ranges)), omega arith)
 
 section-span-requires-2 : tie.Need-section-span-requires-2 Inv-loop μ-loop
-section-span-requires-2 c κs = let s = c .before .before .before .before .before in (ranged (f s) (s .pre .0 .ranges), omega arith)
+section-span-requires-2 c κs = let s = c .before .before .before .before .before in (in-range (f s) (ranged (f s) (s .pre .0 .ranges)), omega arith)
 
 section-at-requires : tie.Need-section-at-requires Inv-loop μ-loop
 section-at-requires c κs =

@@ -12,7 +12,7 @@ use Rattle.engine.specs.declared.Frame.{Frame}
 use Rattle.rounds.specs.Mail.{letter}
 use Rattle.rounds.specs.Loops.{others-none, others-turn}
 use Rattle.rounds.specs.Buckets.{dTold}
-use Rattle.buckets.specs.Bits.{xor-bits}
+use Rattle.share.specs.ShareLaws.{xor-bits}
 use Rattle.buckets.specs.Opened.{toldSum}
 use Rattle.buckets.proofs.told_sum.Statement.{statement}
 use Rattle.buckets.proofs.told_sum.Tie as tie

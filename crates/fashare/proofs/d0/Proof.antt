@@ -41,7 +41,7 @@ key-at-requires c κs =
     let r = c .before .before .before in
     let s = r .before .before in
     let a = s .args in
-    (omega (arith, s .pre .1 .range), entry-in (a .n) (a .i) (a .l) (now (a .recs)) (s .pre .1) (a .q) (r .record-at .result) (s .pre .0) (r .record-at .ensures) (c .before .loop .k) (c .loop-test .taken))
+    (omega (arith, s .pre .1 .range), entry-in (a .n) (a .l) (now (a .recs)) (s .pre .1) (a .q) (r .record-at .result) (s .pre .0) (r .record-at .ensures) (c .before .loop .k) (c .loop-test .taken))
 
 const-mul-requires : tie.Need-const-mul-requires Inv-loop μ-loop
 const-mul-requires c κs = search needs

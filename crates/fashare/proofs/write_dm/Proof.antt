@@ -40,7 +40,7 @@ bit-at-requires : tie.Need-bit-at-requires Inv-loop μ-loop
 bit-at-requires c κs =
     let s = c .before .before .before in
     let a = s .args in
-    omega (arith, record-in (a .n) (a .i) (a .l) (now (a .recs)) (s .pre .1 .1) (a .q) (c .record-at .result) (s .pre .1 .0) (c .record-at .ensures))
+    omega (arith, record-in (a .n) (a .l) (now (a .recs)) (s .pre .1 .1) (a .q) (c .record-at .result) (s .pre .1 .0) (c .record-at .ensures))
 
 bit-byte-requires : tie.Need-bit-byte-requires Inv-loop μ-loop
 bit-byte-requires c κs = search needs
@@ -80,7 +80,7 @@ mac-at-requires c κs =
     let s = r .before .before .before in
     let a = s .args in
     let h : c .other .result < a .n = rw (c .other .ensures) (other-below (a .n) (a .i) (l .loop .p) (c .before .loop-test .taken)) in
-    (omega (arith, s .pre .1 .1 .range), entry-in (a .n) (a .i) (a .l) (now (a .recs)) (s .pre .1 .1) (a .q) (r .record-at .result) (s .pre .1 .0) (r .record-at .ensures) (c .other .result) h)
+    (omega (arith, s .pre .1 .1 .range), entry-in (a .n) (a .l) (now (a .recs)) (s .pre .1 .1) (a .q) (r .record-at .result) (s .pre .1 .0) (r .record-at .ensures) (c .other .result) h)
 
 sub-store : tie.Need-sub-store Inv-loop μ-loop
 sub-store c = search needs

@@ -19,14 +19,14 @@ Inv-loop recs dms n i l q k own sum₀ j₀ sum j = (j ≤ n) × (sum .0 ≡ oth
 abbrev μ-loop : tie.MeasureT-loop
 μ-loop recs dms n i l q k own sum₀ j₀ sum j = n - j
 
-own-at-requires : tie.Need-own-at-requires Inv-loop μ-loop
-own-at-requires c κs = let s = c .before .before in (s .pre .1 .range, s .pre .0 .0)
+record-at-requires : tie.Need-record-at-requires Inv-loop μ-loop
+record-at-requires c κs = let s = c .before .before in ((s .pre .1 .range .eight, s .pre .1 .range .most), s .pre .0 .0)
 
 mac-at-requires : tie.Need-mac-at-requires Inv-loop μ-loop
 mac-at-requires c κs =
     let s = c .before .before .before in
-    let e : c .own-at .result + recordLen (s .args .n) ≤ length (now (s .args .recs)) =
-    rw (c .own-at .ensures) (own-in (s .args .n) (s .args .l) (s .args .q) _ (s .pre .0 .0) (s .pre .1 .records)) in
+    let e : c .record-at .result + recordLen (s .args .n) ≤ length (now (s .args .recs)) =
+    rw (c .record-at .ensures) (own-in (s .args .n) (s .args .l) (s .args .q) _ (s .pre .0 .0) (s .pre .1 .records)) in
     (omega (arith, s .pre .1 .range .eight), omega (arith, e))
 
 loop-holds : tie.Need-loop-holds Inv-loop μ-loop
@@ -53,7 +53,7 @@ returns c =
     let o = m .before in
     let a = o .before .before .before .args in
     x .xor2 .ensures
-    ∙ ap₂ (blocks .op) (m .mac-at .ensures ∙ ap (λ t. macAt (now (a .recs)) t (a .k)) (o .own-at .ensures)) (others-end blocks (a .i) _ (l .loop .j) (a .n) _ (l .loop .inv .1) (omega arith))
+    ∙ ap₂ (blocks .op) (m .mac-at .ensures ∙ ap (λ t. macAt (now (a .recs)) t (a .k)) (o .record-at .ensures)) (others-end blocks (a .i) _ (l .loop .j) (a .n) _ (l .loop .inv .1) (omega arith))
     ∙ macs-is (frame (a .n) (a .l) (a .i)) (now (a .recs)) (now (a .dms)) (a .q) (a .k)
 
 pub macs-for-spec : {M : Type 1} → statement M
@@ -62,7 +62,7 @@ macs-for-spec =
     (tie.spec
     Inv-loop
     μ-loop
-    own-at-requires
+    record-at-requires
     mac-at-requires
     (λ c κs. search needs)
     loop-holds

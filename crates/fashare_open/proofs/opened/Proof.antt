@@ -7,7 +7,7 @@ use Rattle.fashare_open.proofs.opened.Statement.{statement}
 use Rattle.fashare_open.proofs.opened.Tie as tie
 
 d0-requires : tie.Need-d0-requires
-d0-requires c κs = let s = c .before .before in ((s .pre .1 .range, s .pre .0), s .pre .1 .records)
+d0-requires c κs = let s = c .before .before in (s .pre .0, record { range = s .pre .1 .range; records = s .pre .1 .records })
 
 others-bit-requires : tie.Need-others-bit-requires
 others-bit-requires c κs =

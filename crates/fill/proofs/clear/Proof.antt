@@ -21,16 +21,22 @@ loop-holds c = (omega arith, refl, fill-none _ 0)
 
 loop-again : tie.Need-loop-again Inv-loop μ-loop
 loop-again c =
-    let l = c .before in
-    (omega arith, length-set (l .loop .out) (l .loop .t) 0 ∙ l .loop .inv .1, rw (l .loop .inv .2) (fill-more (l .loop .t) 0 (now (l .before .args .out)) (omega arith)))
+    let l = c .before in (
+      omega arith,
+      length-set (l .loop .out) (l .loop .t) 0 ∙ l .loop .inv .1,
+      rw (l .loop .inv .2)
+          (fill-more (l .loop .t) 0 (now (l .before .args .out)) (omega arith)),
+    )
 
 returns : tie.Need-returns Inv-loop μ-loop
 returns c =
     let l = c .before in
     let o = now (l .before .args .out) in
-    l .loop .inv .2 ∙ over-full (replicate (l .loop .t) 0) o (l .loop .t) (omega arith) ∙ ap (λ m. replicate m 0) (let e : l .loop .t ≡ length o = omega arith in e)
+    l .loop .inv .2 ∙ over-full (replicate (l .loop .t) 0) o (l .loop .t) (omega arith) ∙ ap (λ m. replicate m 0)
+    (let e : l .loop .t ≡ length o = omega arith in e)
 
 pub clear-spec : {M : Type 1} → statement M
 clear-spec =
     tie.close
-    (tie.spec Inv-loop μ-loop loop-holds (λ c. search needs) (λ c. search needs) (λ c. search needs) loop-again (λ c. c .before .loop .inv .1) returns)
+    (tie.spec Inv-loop μ-loop loop-holds (λ c. search needs) (λ c. search needs) (λ c. search needs) loop-again
+    (λ c. c .before .loop .inv .1) returns)

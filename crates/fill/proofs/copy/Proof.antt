@@ -26,7 +26,8 @@ loop-again c =
       k .inv .0,
       omega arith,
       search needs,
-      copy-part (now (a .s)) (now (a .out)) (k .out) _ (k .at) (k .at + 16384) (omega arith) (omega arith) (k .inv .3) (c .before .before .copy-part .ensures),
+      copy-part (now (a .s)) (now (a .out)) (k .out) _ (k .at) (k .at + 16384) (omega arith) (omega arith) (k .inv .3)
+          (c .before .before .copy-part .ensures),
     )
 
 returns : tie.Need-returns Inv-loop μ-loop
@@ -35,7 +36,8 @@ returns c =
     let a = c .before .before .before .before .before .before .before .before .before .args in
     let n = length (now (a .out)) in
     copy-part (now (a .s)) (now (a .out)) (k .out) _ (k .at) n (omega arith) (omega arith) (k .inv .3)
-    (copied (take (n - k .at) (drop (k .at) (k .out))) (take (n - k .at) (drop (k .at) (now (a .s)))) _ (simp (length-take, length-drop) (omega arith)) (c .before .before .copy-bytes .ensures))
+    (copied (take (n - k .at) (drop (k .at) (k .out))) (take (n - k .at) (drop (k .at) (now (a .s)))) _
+    (simp (length-take, length-drop) (omega arith)) (c .before .before .copy-bytes .ensures))
     ∙ over-full (take n (now (a .s))) (now (a .out)) n (omega arith)
 
 pub copy-spec : {M : Type 1} → statement M

@@ -12,7 +12,8 @@ returns c =
     let k = c .before .before .before .before .before .before in
     let a = k .before .before .before .before .args in
     copied (now (a .out)) (now (a .s)) _ (omega arith)
-    (c .before .before .copy-bytes2 .ensures ∙ ap (take (length (now (a .out)))) (copied (replicate 16384 0) (now (a .s)) _ (omega arith) (k .copy-bytes .ensures)))
+    (c .before .before .copy-bytes2 .ensures ∙ ap (take (length (now (a .out))))
+    (copied (replicate 16384 0) (now (a .s)) _ (omega arith) (k .copy-bytes .ensures)))
 
 pub copy-part-spec : {M : Type 1} → statement M
 copy-part-spec =

@@ -1,8 +1,10 @@
-use mathlib.Core.Path.{ap, sym, _∙_}
+use mathlib.Core.Path.{_≡_, ap, sym, _∙_}
 use mathlib.Core.List.{List}
-use Prim.Native.Nat.{ℕ}
+use Prim.Native.Nat.{ℕ, _+_, _-_}
 use native.Mathlib.Omega.{arith}
+use lib.ListN.{length, take, drop}
 use denote.Ref.{now}
+use Rattle.fill.specs.Copied.{copied}
 use Rattle.engine.specs.Step.{frame}
 use Rattle.rounds.specs.Area.{SEED, JOINT}
 use Rattle.rounds.specs.Mail.{letter}
@@ -47,13 +49,18 @@ part-copy-end c =
 slice-aggregate-copy : tie.Need-slice-aggregate-copy
 slice-aggregate-copy c = search needs
 
-copy-requires : tie.Need-copy-requires
-copy-requires c κs =
-    let p = c .before .before in
+-- the section is as long as the seed
+same-long : (p : tie.After-section-len) → let s = p .before .before .before .before .before .before .before .before .before in
+    let at = p .before .section-at .result in
+    length (take (at + p .section-len .result - at) (drop at (now (s .args .work)))) ≡ length (p .before .before .joint-seed .result)
+same-long p =
     let s = p .before .before .before .before .before .before .before .before .before in
     let a = s .args in
     part-length (s .pre .0) JOINT _ _ (omega arith) (p .before .section-at .ensures) (p .section-len .ensures) _ (size-joint (frame (a .n) (a .l) (a .i)))
     ∙ sym (length-joint _ _ _ _ (p .before .before .joint-seed .ensures (a .l)))
+
+copy-requires : tie.Need-copy-requires
+copy-requires c κs = omega (arith, same-long (c .before .before))
 
 same-length : tie.Need-same-length
 same-length c = search needs
@@ -64,8 +71,9 @@ returns c =
     let q = p .before .before .before in
     let s = q .before .before .before .before .before .before .before .before .before in
     let a = s .args in
+    let at = q .before .section-at .result in
     put-back (s .pre .0) JOINT _ _ (omega arith) (q .before .section-at .ensures) (q .section-len .ensures) (p .copy .last .0) _
-    (p .copy .ensures ∙ q .before .before .joint-seed .ensures (a .l)
+    (copied (take (at + q .section-len .result - at) (drop at (now (a .work)))) (q .before .before .joint-seed .result) _ (same-long q) (p .copy .ensures) ∙ q .before .before .joint-seed .ensures (a .l)
     ∙ ap (λ (x : List ℕ). jointSeed (frame (a .n) (a .l) (a .i)) x (letter (now (a .incoming)) (now (a .starts)) (now (a .lens)))) (q .before .before .before .section .ensures))
 
 pub keep-joint-spec : {M : Type 1} → statement M

@@ -16,7 +16,7 @@ write-comms-requires : tie.Need-write-comms-requires
 write-comms-requires c κs =
     let s = c .before .before .before .before .before in
     let h = s .pre .0 in
-    (s .pre .1, record { range = range h; own = h .ranges .own; records = bits-long h (now (c .section .result)) (c .section .ensures) })
+    (s .pre .1, record { range = range h; records = bits-long h (now (c .section .result)) (c .section .ensures) })
 
 returns : tie.Need-returns
 returns c =

@@ -20,7 +20,9 @@ loop-holds : tie.Need-loop-holds Inv-loop μ-loop
 loop-holds c = (search needs, faults-zero _ _ _)
 
 -- the start of record t
-at : (c : tie.In-loop Inv-loop μ-loop) → c .before .loop .t * c .before .before .record-len .result ≡ c .before .loop .t * recordLen (c .before .before .before .before .args .n)
+at : (c : tie.In-loop Inv-loop μ-loop)
+    → c .before .loop .t * c .before .before .record-len .result ≡ c .before .loop .t * recordLen
+    (c .before .before .before .before .args .n)
 at c = ap (λ l. c .before .loop .t * l) (c .before .before .record-len .ensures)
 
 -- record t lies within, up to the own entry
@@ -28,7 +30,12 @@ inside : (c : tie.In-loop Inv-loop μ-loop) → let a = c .before .before .befor
     c .before .loop .t * c .before .before .record-len .result + recordLen (a .i + 1) ≤ length (now (a .s))
 inside c =
     let a = c .before .before .before .before in
-    omega (arith, at c, in-record (c .before .loop .t) (a .args .count) (recordLen (a .args .n)) 0 (recordLen (a .args .i + 1)) (length (now (a .args .s))) (c .loop-test .taken) (omega arith) (a .pre .1))
+    omega (
+      arith,
+      at c,
+      in-record (c .before .loop .t) (a .args .count) (recordLen (a .args .n)) 0 (recordLen (a .args .i + 1))
+          (length (now (a .args .s))) (c .loop-test .taken) (omega arith) (a .pre .1),
+    )
 
 mul-record-fault : tie.Need-mul-record-fault Inv-loop μ-loop
 mul-record-fault c = omega (arith, inside c)
@@ -47,7 +54,8 @@ found c =
 returns : tie.Need-returns Inv-loop μ-loop
 returns c =
     let a = c .before .before .before .before .before .before .args in
-    sym (faults-stay (a .n) (a .i) (now (a .s)) (c .before .before .before .loop .t + 1) (a .count) (c .before .record-fault .result) (omega arith) (found (c .before)) (c .if1 .taken))
+    sym (faults-stay (a .n) (a .i) (now (a .s)) (c .before .before .before .loop .t + 1) (a .count) (c .before .record-fault .result)
+    (omega arith) (found (c .before)) (c .if1 .taken))
 
 loop-again : tie.Need-loop-again Inv-loop μ-loop
 loop-again c = (omega arith, found (c .before) ∙ c .if1 .left)
@@ -60,4 +68,5 @@ returns-2 c =
 pub first-fault-spec : {M : Type 1} → statement M
 first-fault-spec =
     tie.close
-    (tie.spec Inv-loop μ-loop (λ c κs. search needs) loop-holds mul-record-fault record-fault-requires returns (λ c. search needs) (λ c. search needs) loop-again returns-2)
+    (tie.spec Inv-loop μ-loop (λ c κs. search needs) loop-holds mul-record-fault record-fault-requires returns (λ c. search needs)
+    (λ c. search needs) loop-again returns-2)

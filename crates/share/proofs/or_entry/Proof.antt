@@ -42,7 +42,8 @@ returns : tie.Need-returns Inv-loop μ-loop
 unfolding ored
 returns c =
     let a = c .before .before .args in
-    tab-end (c .before .loop .k) 32 (both (now (a .e)) (now (a .s)) (a .at)) (now (a .e)) (c .before .loop .e) (c .before .loop .inv .2) (omega arith) (omega arith)
+    tab-end (c .before .loop .k) 32 (both (now (a .e)) (now (a .s)) (a .at)) (now (a .e)) (c .before .loop .e) (c .before .loop .inv .2)
+    (omega arith) (omega arith)
 
 pub or-entry-spec : {M : Type 1} → statement M
 or-entry-spec =

@@ -2,9 +2,10 @@ use mathlib.Core.Path.{_≡_, refl, sym, ap, _∙_}
 use mathlib.Core.List.{List}
 use Prim.Native.Nat.{ℕ, _+_, _-_, _*_, _<_, _≤_}
 use native.Mathlib.Omega.{arith}
-use lib.ListN.{length}
+use lib.ListN.{length, take, drop}
 use denote.Ref.{now}
 use Rattle.lists.specs.Over.{in-chunks}
+use Rattle.fill.specs.Copied.{copied}
 use Rattle.engine.specs.Step.{frame}
 use Rattle.engine.specs.Area.{off}
 use Rattle.rounds.specs.Area.{PAIRS, PAIRWISE, sizeOf, workLen, at, keep}
@@ -78,7 +79,10 @@ loop-again c =
     let e = pairs-there (a .n) (a .l) (a .i) (a .pairs-at) (a .pairs-at + 32 * a .n) (a .rows-at) (l .loop .k) g (now (a .work)) (l .loop .work) (s .pre .1 .0 .0) refl (s .pre .1 .0 .1) (l .loop .inv .1) in (
       omega (arith, q .before .before .before),
       laid-turn g 32 (a .rows-at) (now (a .work)) (l .loop .k) (l .loop .work) (l .loop .inv .1) (a .rows-at + l .loop .k * 32) (a .rows-at + l .loop .k * 32 + 32)
-          (p .copy .last .0) refl refl (room q) (p .copy .ensures ∙ q .pair-seed .ensures ∙ ap (λ x. pairRow (a .i) x m (l .loop .k)) e) (p .copy .kept .0),
+          (p .copy .last .0) refl refl (room q)
+          (copied (take (a .rows-at + l .loop .k * 32 + 32 - (a .rows-at + l .loop .k * 32)) (drop (a .rows-at + l .loop .k * 32) (l .loop .work)))
+          (q .pair-seed .result) _ (omega arith) (p .copy .ensures)
+          ∙ q .pair-seed .ensures ∙ ap (λ x. pairRow (a .i) x m (l .loop .k)) e) (p .copy .kept .0),
     )
 
 same-length : tie.Need-same-length Inv-loop μ-loop

@@ -2,10 +2,11 @@ use mathlib.Core.Path.{_≡_, ap, _∙_}
 use mathlib.Core.List.{List}
 use Prim.Native.Nat.{ℕ, _+_, _-_, _*_, _≤_}
 use native.Mathlib.Omega.{arith}
-use lib.ListN.{length, replicate}
+use lib.ListN.{length, take, drop, replicate}
 use denote.Ref.{now}
 use Rattle.lists.specs.Pick.{pick}
 use Rattle.lists.specs.Over.{Written}
+use Rattle.fill.specs.Copied.{copied}
 use Rattle.algebra.specs.Sum.{neq}
 use Rattle.rounds.specs.Mail.{letter}
 use Rattle.rounds.specs.Toss.{told, toldRows}
@@ -38,7 +39,9 @@ loop-again c =
     let a = s .args in (
       omega (arith, r .before),
       even-turn (row (now (a .incoming)) (now (a .starts)) (now (a .lens)) (a .i)) (a .n) 32 (now (a .section)) (s .pre .0 .1)
-          (l .loop .k) (l .loop .section) (p .copy .last .0) (r .before .loop-test .taken) (l .loop .inv .1) (p .copy .ensures ∙ r .told-row .ensures) (p .copy .kept .0),
+          (l .loop .k) (l .loop .section) (p .copy .last .0) (r .before .loop-test .taken) (l .loop .inv .1)
+          (copied (take (l .loop .k * 32 + 32 - l .loop .k * 32) (drop (l .loop .k * 32) (l .loop .section))) (r .told-row .result) _
+          (omega arith) (p .copy .ensures) ∙ r .told-row .ensures) (p .copy .kept .0),
     )
 
 same-length : tie.Need-same-length Inv-loop μ-loop

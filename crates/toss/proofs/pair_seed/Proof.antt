@@ -1,8 +1,10 @@
 use mathlib.Core.Path.{_≡_, sym, ap, ap₂, _∙_}
 use native.Mathlib.Omega.{arith}
-use lib.ListN.{length, replicate}
+use Prim.Native.Nat.{_+_, _-_, _*_}
+use lib.ListN.{length, take, drop, replicate, length-take, length-drop}
 use denote.Ref.{now}
 use Rattle.lists.specs.Pick.{pick}
+use Rattle.fill.specs.Copied.{copied}
 use Rattle.lists.specs.Rows.{chunk}
 use Rattle.algebra.specs.Sum.{neq-true}
 use Rattle.block.specs.Block.{xorInplace}
@@ -32,7 +34,11 @@ returns c =
     let s = c .before .before .before .before .before .before .before .before .before .before .before .before .before .before in
     let a = s .args in
     c .before .xor-inplace .ensures
-    ∙ ap₂ xorInplace (c .before .before .before .before .before .before .copy .ensures ∙ row-part 32 (a .k) (now (a .pairs))) (ap told (c .before .before .before .before .letter .ensures))
+    ∙ ap₂ xorInplace
+    (copied (replicate 32 0) (take (a .k * 32 + 32 - a .k * 32) (drop (a .k * 32) (now (a .pairs)))) _
+    (simp (length-take, length-drop) (omega arith)) (c .before .before .before .before .before .before .copy .ensures)
+    ∙ row-part 32 (a .k) (now (a .pairs)))
+    (ap told (c .before .before .before .before .letter .ensures))
     ∙ ap (λ b. pick b (xorInplace (chunk 32 (a .k) (now (a .pairs))) (told (letter (now (a .incoming)) (now (a .starts)) (now (a .lens)) (a .k)))) (replicate 32 0))
     (sym (neq-true (a .i) (a .k) (λ e. c .before .before .before .before .before .before .before .before .before .if1 .taken (sym e))))
 

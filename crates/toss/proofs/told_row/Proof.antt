@@ -1,8 +1,10 @@
-use mathlib.Core.Path.{sym, ap, _∙_}
+use mathlib.Core.Path.{_≡_, sym, ap, _∙_}
+use Prim.Native.Nat.{_≤_}
 use native.Mathlib.Omega.{arith}
-use lib.ListN.{length, replicate}
+use lib.ListN.{length, take, drop, replicate, length-take, length-drop}
 use denote.Ref.{now}
 use Rattle.lists.specs.Pick.{pick}
+use Rattle.fill.specs.Copied.{copied}
 use Rattle.algebra.specs.Sum.{neq-true}
 use Rattle.rounds.specs.Mail.{letter}
 use Rattle.rounds.specs.Toss.{told}
@@ -16,21 +18,26 @@ letter-requires c κs =
     let s = c .before .before .before .before in
     letter-fits (s .args .n) (s .args .i) 40 (now (s .args .incoming)) (now (s .args .starts)) (now (s .args .lens)) (s .pre .1) (s .args .k) (s .pre .0) (c .if1 .taken)
 
+-- a message has 40 bytes
+long : (c : tie.After-letter) → 40 ≤ length (now (c .letter .result))
+long c =
+    let s = c .before .before .before .before .before in
+    rw (c .letter .ensures)
+    (letter-long (s .args .n) (s .args .i) 40 (now (s .args .incoming)) (now (s .args .starts)) (now (s .args .lens)) (s .pre .1)
+    (s .args .k) (s .pre .0) (c .before .if1 .taken))
+
 part-copy-end : tie.Need-part-copy-end
 part-copy-end c =
-    let s = c .before .before .before .before .before .before in
-    omega (
-      arith,
-      ap length (c .before .letter .ensures),
-      letter-long (s .args .n) (s .args .i) 40 (now (s .args .incoming)) (now (s .args .starts)) (now (s .args .lens)) (s .pre .1) (s .args .k) (s .pre .0) (c .before .before .if1 .taken),
-    )
+    omega (arith, long (c .before))
 
 returns : tie.Need-returns
 unfolding told
 returns c =
     let s = c .before .before .before .before .before .before .before .before .before in
     let a = s .args in
-    c .before .copy .ensures ∙ ap told (c .before .before .before .before .letter .ensures)
+    let m = c .before .before .before .before .letter .result in
+    copied (replicate 32 0) (take 32 (drop 8 (now m))) _ (simp (length-take, length-drop) (omega (arith, long (c .before .before .before .before)))) (c .before .copy .ensures)
+    ∙ ap told (c .before .before .before .before .letter .ensures)
     ∙ ap (λ b. pick b (told (letter (now (a .incoming)) (now (a .starts)) (now (a .lens)) (a .k))) (replicate 32 0)) (sym (neq-true (a .i) (a .k) (λ e. c .before .before .before .before .before .if1 .taken (sym e))))
 
 returns-2 : tie.Need-returns-2

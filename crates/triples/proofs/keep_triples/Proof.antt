@@ -8,7 +8,7 @@ use native.Mathlib.Omega.{arith}
 use lib.ListN.{length, take, drop, replicate}
 use borrow.Author.Needs.{needs}
 use denote.Ref.{now}
-use Rattle.lists.specs.Over.{in-chunks, next-chunk}
+use Rattle.lists.specs.Over.{in-chunks, next-chunk, row-copied}
 use Rattle.block.specs.declared.Block.{Block}
 use Rattle.share.specs.Record.{recordLen}
 use Rattle.engine.specs.declared.Frame.{Frame}
@@ -18,7 +18,6 @@ use Rattle.rounds.specs.Area.{BITS, ZS, ES, PERM, DS, TRIPLES, SECTIONS, sizeOf
 use Rattle.rounds.specs.Loops.{lent-part, Keeping, keeping-none, keeping-turn, keeping-end, keeping-other}
 use Rattle.area.specs.AreaLaws.{off-any}
 use Rattle.haand.specs.GivenLaws.{area, row-inside}
-use Rattle.haand.specs.Parts.{row-copied}
 use Rattle.buckets.specs.Place.{ranged, in-range}
 use Rattle.triples.specs.Given.{size-triples}
 use Rattle.triples.specs.Laws.{abcRow, row-same, length-abcRow, rows-are, row-long}
@@ -54,19 +53,19 @@ module _ (s : tie.Start Inv-loop μ-loop) where
   full = sym (size-triples f)
 
 section-span-requires : tie.Need-section-span-requires Inv-loop μ-loop
-section-span-requires c κs = let s = c .before in (ranged (f s) (s .pre .ranges), omega arith)
+section-span-requires c κs = let s = c .before in (in-range (f s) (ranged (f s) (s .pre .ranges)), omega arith)
 
 section-span-requires-2 : tie.Need-section-span-requires-2 Inv-loop μ-loop
-section-span-requires-2 c κs = let s = c .before .before in (ranged (f s) (s .pre .ranges), omega arith)
+section-span-requires-2 c κs = let s = c .before .before in (in-range (f s) (ranged (f s) (s .pre .ranges)), omega arith)
 
 section-span-requires-3 : tie.Need-section-span-requires-3 Inv-loop μ-loop
-section-span-requires-3 c κs = let s = c .before .before .before in (ranged (f s) (s .pre .ranges), omega arith)
+section-span-requires-3 c κs = let s = c .before .before .before in (in-range (f s) (ranged (f s) (s .pre .ranges)), omega arith)
 
 section-span-requires-4 : tie.Need-section-span-requires-4 Inv-loop μ-loop
-section-span-requires-4 c κs = let s = c .before .before .before .before in (ranged (f s) (s .pre .ranges), omega arith)
+section-span-requires-4 c κs = let s = c .before .before .before .before in (in-range (f s) (ranged (f s) (s .pre .ranges)), omega arith)
 
 section-span-requires-5 : tie.Need-section-span-requires-5 Inv-loop μ-loop
-section-span-requires-5 c κs = let s = c .before .before .before .before .before in (ranged (f s) (s .pre .ranges), omega arith)
+section-span-requires-5 c κs = let s = c .before .before .before .before .before in (in-range (f s) (ranged (f s) (s .pre .ranges)), omega arith)
 
 section-at-requires : tie.Need-section-at-requires Inv-loop μ-loop
 section-at-requires c κs =

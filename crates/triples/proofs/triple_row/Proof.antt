@@ -8,8 +8,9 @@ use borrow.Author.Needs.{needs}
 use denote.Ref.{now}
 use Rattle.engine.specs.declared.Frame.{Frame}
 use Rattle.rounds.specs.Area.{BITS, ZS, ES, PERM, DS, SECTIONS, at}
-use Rattle.haand.specs.Parts.{drop-replicate}
-use Rattle.buckets.specs.Place.{Place, ranged, place-in, place-at}
+use Rattle.lists.specs.Over.{drop-replicate}
+use Rattle.area.specs.Place.{Place}
+use Rattle.buckets.specs.Place.{ranged, place-in, place-at}
 use Rattle.triples.specs.Given.{bucketed-is}
 use Rattle.triples.specs.Laws.{row-same, row-is}
 use Rattle.triples.proofs.triple_row.Statement.{statement}

@@ -5,7 +5,7 @@ use native.Mathlib.Omega.{arith}
 use lib.ListN.{replicate}
 use lib.Seq.{length-take-le}
 use borrow.Author.Needs.{needs}
-use Rattle.haand.specs.Parts.{drop-replicate}
+use Rattle.lists.specs.Over.{drop-replicate}
 use Rattle.triples.proofs.z_record.Statement.{statement}
 use Rattle.triples.proofs.z_record.Tie as tie
 

@@ -3,7 +3,7 @@
 use std::env;
 
 use beside::Care;
-use oracle::{Session, SplitMix, Sums, cpu_time, honest, record_len};
+use oracle::{Session, SplitMix, Sums, cpu_time, honest, key_at, mac_at, record_len};
 
 /// The call for this round makes `fabitn`, the next.
 const MAKES_FABITN: u8 = 5;
@@ -15,7 +15,7 @@ fn lists(s: &Session) -> Vec<Sums> {
     let records = || s.parties[0].bits.chunks_exact(record_len(s.n));
     let bits: Vec<u8> = records().map(|record| record[0]).collect();
     (1..s.n)
-        .flat_map(|k| [1 + 32 * k, 17 + 32 * k])
+        .flat_map(|k| [mac_at(k), key_at(k)])
         .map(|at| {
             let blocks: Vec<[u8; 16]> = records()
                 .map(|record| record[at..][..16].try_into().unwrap())

@@ -7,12 +7,12 @@ use lib.Seq.{take-all}
 use borrow.Rule.Slice.PartMut.{putMid}
 use denote.Ref.{now}
 use borrow.Author.Needs.{needs}
+use Rattle.lists.specs.Over.{two-parts}
 use Rattle.lists.specs.Sect.{length-put, length-get}
 use Rattle.block.specs.Block.{le8}
 use Rattle.block.specs.Trip.{length-le8}
-use Rattle.haand.specs.Parts.{two-parts}
-use Rattle.haand.proofs.put_list.Statement.{statement}
-use Rattle.haand.proofs.put_list.Tie as tie
+use Rattle.encode.proofs.put_list.Statement.{statement}
+use Rattle.encode.proofs.put_list.Tie as tie
 
 returns : tie.Need-returns
 returns c =

@@ -1,21 +1,20 @@
 use mathlib.Core.Path.{ap, _∙_}
 use Prim.Native.Nat.{_+_}
 use native.Mathlib.Omega.{arith}
 use Rattle.area.specs.AreaLaws.{size-any, off-any, size-most, off-most}
-use Rattle.buckets.specs.Place.{in-range}
-use Rattle.buckets.proofs.section_span.Statement.{statement}
-use Rattle.buckets.proofs.section_span.Tie as tie
+use Rattle.area.proofs.section_span.Statement.{statement}
+use Rattle.area.proofs.section_span.Tie as tie
 
 section-at-requires : tie.Need-section-at-requires
-section-at-requires c κs = (in-range (c .args .f) (c .pre .0), omega (arith, c .pre .1))
+section-at-requires c κs = (c .pre .0, omega (arith, c .pre .1))
 
 section-len-requires : tie.Need-section-len-requires
-section-len-requires c κs = let s = c .before in (in-range (s .args .f) (s .pre .0), omega (arith, s .pre .1))
+section-len-requires c κs = let s = c .before in (s .pre .0, omega (arith, s .pre .1))
 
 add-t5 : tie.Need-add-t5
 add-t5 c =
     let s = c .before .before in
-    let r = in-range (s .args .f) (s .pre .0) in
+    let r = s .pre .0 in
     omega (
       arith,
       c .before .section-at .ensures,

@@ -9,9 +9,9 @@ use borrow.Author.Needs.{needs}
 use Rattle.lists.specs.Over.{Written, in-chunks, length-take-drop}
 use Rattle.block.specs.Block.{le8}
 use Rattle.engine.specs.Area.{toOthers}
 use Rattle.rounds.specs.RowsLaws.{even-zero, even-turn, even-end}
-use Rattle.haand.proofs.write_same.Statement.{statement}
-use Rattle.haand.proofs.write_same.Tie as tie
+use Rattle.rounds.proofs.write_same.Statement.{statement}
+use Rattle.rounds.proofs.write_same.Tie as tie
 
 abbrev Inv-loop : tie.InvT-loop
 Inv-loop out₀ count items n len last q₀ out q = (q ≤ n - 1) × Written (λ k. le8 count ++ items) q (q * (8 + length items)) out₀ out

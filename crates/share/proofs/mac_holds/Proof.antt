@@ -4,8 +4,8 @@ use borrow.Author.Needs.{needs}
 use Rattle.algebra.specs.Group.{XorGroup, sel}
 use Rattle.block.specs.Block.{eqBlock}
 use Rattle.block.specs.Group.{blocks}
-use Rattle.buckets.proofs.mac_holds.Statement.{statement}
-use Rattle.buckets.proofs.mac_holds.Tie as tie
+use Rattle.share.proofs.mac_holds.Statement.{statement}
+use Rattle.share.proofs.mac_holds.Tie as tie
 
 returns : tie.Need-returns
 returns c =

@@ -2,11 +2,11 @@ use mathlib.Core.Path.{ap₂, _∙_}
 use mathlib.Core.Bool.{Bool, not, Bool·beq}
 use borrow.Author.Needs.{needs}
 use denote.Ref.{now}
 use Rattle.share.specs.Record.{bitAt}
 use Rattle.share.specs.Share.{shareAt, shares}
-use Rattle.buckets.specs.Bits.{xor-bits}
-use Rattle.buckets.proofs.sum_bit.Statement.{statement}
-use Rattle.buckets.proofs.sum_bit.Tie as tie
+use Rattle.share.specs.ShareLaws.{xor-bits}
+use Rattle.share.proofs.sum_bit.Statement.{statement}
+use Rattle.share.proofs.sum_bit.Tie as tie
 
 returns : tie.Need-returns
 unfolding shares shareAt
