@@ -10,11 +10,11 @@ use Rattle.algebra.specs.Sum.{others}
 use Rattle.share.specs.Share.{Share, shares, recordOf}
 use Rattle.share.specs.ShareLaws.{Agree, agree-op, agree-sel, agree-refl, agree-record}
 use Rattle.encode.specs.Encode.{twoBitsTwoBlocks}
-use Rattle.engine.specs.declared.Frame.{Frame}
 use Rattle.rounds.specs.Opening.{Args}
 use Rattle.rounds.specs.Buckets.{Triple, permBytes}
 use Rattle.rounds.specs.Beaver as B
 use Rattle.alone.specs.Formula as F
+use Rattle.alone.specs.Formula.{Seen}
 use Rattle.alone.specs.Holds.{tripleRows}
 use Rattle.alone.specs.Cells.{encode-ext}
 use Rattle.alone.specs.Given.{Given}
@@ -27,54 +27,56 @@ agree-finish n i c β a c′ β′ a′ p q hc hb ha =
     agree-op n i (shares .op c (sel shares p β)) (sel shares q a) (shares .op c′ (sel shares p β′)) (sel shares q a′)
     (agree-op n i c (sel shares p β) c′ (sel shares p β′) hc (agree-sel n i p β β′ hb)) (agree-sel n i q a a′ ha)
 
-module _ (f : Frame) (a : Args) (strings order : List ℕ) (m : ℕ → ℕ → List ℕ) (I : Given f a m) (O : Ordered (f .l) order) where
+module _ (S : Seen) (I : Given S) (O : Ordered (S .inputs .party .l) (S .permutation)) where
+  open Seen S using (inputs as a, permutation as order, mail as m)
+  open Args (S .inputs) using (party as f)
+
   -- what PERM and TRIPLES hold
   abbrev perm : List ℕ
   perm = permBytes f order
 
   abbrev triples : List ℕ
-  triples = tripleRows f a strings order m
+  triples = tripleRows S
 
-  a-is : (j : ℕ) → j < f .l → Agree (f .n) (f .i) (B.a f triples j) (F.abc f a strings order m j .tx)
+  a-is : (j : ℕ) → j < f .l → Agree (f .n) (f .i) (B.a f triples j) (F.abc S j .tx)
   unfolding tripleRows
-  a-is j lj = a-read f (F.abc f a strings order m) j lj (small-abc f a strings order m I O j)
+  a-is j lj = a-read f (F.abc S) j lj (small-abc S I O j)
 
-  c-is : (j : ℕ) → j < f .l → Agree (f .n) (f .i) (B.c f triples j) (F.abc f a strings order m j .tz)
+  c-is : (j : ℕ) → j < f .l → Agree (f .n) (f .i) (B.c f triples j) (F.abc S j .tz)
   unfolding tripleRows
-  c-is j lj = c-read f (F.abc f a strings order m) j lj (small-abc f a strings order m I O j)
+  c-is j lj = c-read f (F.abc S) j lj (small-abc S I O j)
 
-  d-is : (j : ℕ) → j < f .l → Agree (f .n) (f .i) (B.d f triples (a .alpha) j) (F.beaverD f a strings order m j)
+  d-is : (j : ℕ) → j < f .l → Agree (f .n) (f .i) (B.d f triples (a .alpha) j) (F.beaverD S j)
   unfolding B.d F.beaverD F.alpha
   d-is j lj = agree-op (f .n) (f .i) _ _ _ _ (a-is j lj) (agree-refl (f .n) (f .i) _)
 
-  e-is : (j : ℕ) → j < f .l → B.e f (a .bits) perm (a .beta) j ≡ F.beaverE f a strings order m j
+  e-is : (j : ℕ) → j < f .l → B.e f (a .bits) perm (a .beta) j ≡ F.beaverE S j
   unfolding B.e F.beaverE F.beta
-  e-is j lj = ap (λ (s : Share). shares .op s (B.share f (a .beta) j)) (b-is f a strings order m I O j lj)
+  e-is j lj = ap (λ (s : Share). shares .op s (B.share f (a .beta) j)) (b-is S I O j lj)
 
-  pub msg-22 : (k : ℕ) → k < f .n → f .i ≢ k → B.faandMsg f (a .bits) perm triples (a .alpha) (a .beta) k ≡ F.sent22 f a strings order m k
+  pub msg-22 : (k : ℕ) → k < f .n → f .i ≢ k → B.faandMsg f (a .bits) perm triples (a .alpha) (a .beta) k ≡ F.sent22 S k
   unfolding B.faandMsg F.sent22
   msg-22 k lk ne =
       encode-ext (f .l) _ _ (λ j lj.
       (λ q. twoBitsTwoBlocks (d-is j lj .bit q) (e-is j lj q .bit) (d-is j lj .mac k lk ne q) (e-is j lj q .mac k)))
 
   -- the opened d and e
-  d-opened : (j : ℕ) → j < f .l → B.dOpened f triples (a .alpha) (m 22) j ≡ F.beaverDOpened f a strings order m j
+  d-opened : (j : ℕ) → j < f .l → B.dOpened f triples (a .alpha) (m 22) j ≡ F.beaverDOpened S j
   unfolding B.dOpened F.beaverDOpened
   d-opened j lj = ap (λ (b : Bool). addb b (others bits (f .i) (f .n) (λ k. B.dTold (m 22) k j))) (d-is j lj .bit)
 
-  e-opened : (j : ℕ) → j < f .l → B.eOpened f (a .bits) perm (a .beta) (m 22) j ≡ F.beaverEOpened f a strings order m j
+  e-opened : (j : ℕ) → j < f .l → B.eOpened f (a .bits) perm (a .beta) (m 22) j ≡ F.beaverEOpened S j
   unfolding B.eOpened F.beaverEOpened
   e-opened j lj = ap (λ (s : Share). addb (s .bit) (others bits (f .i) (f .n) (λ k. B.eTold (m 22) k j))) (e-is j lj)
 
-  pub results-are : B.results f (a .bits) perm triples (a .alpha) (a .beta) (m 22) ≡ F.result f a strings order m
+  pub results-are : B.results f (a .bits) perm triples (a .alpha) (a .beta) (m 22) ≡ F.result S
   unfolding B.results B.resultShare F.result F.resultShare F.beta
   results-are =
       cat-ext (f .l) _ _ (λ j lj.
       let c : Share = B.c f triples j in
       let b : Share = B.share f (a .beta) j in
       let s : Share = B.a f triples j in
-      let g : Triple = F.abc f a strings order m j in
+      let g : Triple = F.abc S j in
       ap₂ (λ (p q : Bool). recordOf (f .n) (f .i) (B.finish c b s p q)) (d-opened j lj) (e-opened j lj)
-      ∙ agree-record (f .n) (f .i) _ _
-      (agree-finish (f .n) (f .i) c b s (g .tz) b (g .tx) (F.beaverDOpened f a strings order m j) (F.beaverEOpened f a strings order m j)
+      ∙ agree-record (f .n) (f .i) _ _ (agree-finish (f .n) (f .i) c b s (g .tz) b (g .tx) (F.beaverDOpened S j) (F.beaverEOpened S j)
       (c-is j lj) (agree-refl (f .n) (f .i) b) (a-is j lj)))

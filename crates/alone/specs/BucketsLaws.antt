@@ -28,6 +28,7 @@ use Rattle.rounds.specs.Buckets.{Triple, two, combine, le4, word4, permBytes, e
 use Rattle.rounds.specs.Buckets as B
 use Rattle.rounds.specs.Beaver as Beaver
 use Rattle.alone.specs.Formula as F
+use Rattle.alone.specs.Formula.{Seen}
 use Rattle.alone.specs.Holds.{dRows, tripleRows}
 use Rattle.alone.specs.Given.{Given, small-x}
 use Rattle.alone.specs.Cells.{row-byte, part-in, encode-ext}
@@ -185,9 +186,12 @@ dvalue-ext c b b′ x x′ p q =
     ap₂ (λ (s t : List ℕ). s ++ t) (encode-ext c _ _ (λ e le. ap (λ (v : Bool). num v ∷ []) (p e le)))
     (encode-ext c _ _ (λ e le. ap bytesOf (q e le)))
 
-module _ (f : Frame) (a : Args) (strings order : List ℕ) (m : ℕ → ℕ → List ℕ) (I : Given f a m) (O : Ordered (f .l) order) where
+module _ (S : Seen) (I : Given S) (O : Ordered (S .inputs .party .l) (S .permutation)) where
+  open Seen S using (inputs as a, permutation as order, mail as m)
+  open Args (S .inputs) using (party as f)
+
   abbrev δ : Block
-  δ = F.delta f a strings order m
+  δ = F.delta S
 
   -- what PERM, ZS and ES hold
   abbrev perm : List ℕ
@@ -199,81 +203,78 @@ module _ (f : Frame) (a : Args) (strings order : List ℕ) (m : ℕ → ℕ → 
   abbrev es : List ℕ
   es = eRows f (m 15)
 
-  pub entry-is : (j e : ℕ) → j < f .l → e < bucketSize (f .l) → entry f perm j e ≡ F.entry f a strings order m j e
+  pub entry-is : (j e : ℕ) → j < f .l → e < bucketSize (f .l) → entry f perm j e ≡ F.entry S j e
   unfolding F.entry
   entry-is j e lj le = entry-read f order O j e lj le
 
-  entry-below : (j e : ℕ) → j < f .l → e < bucketSize (f .l) → F.entry f a strings order m j e < leaky (f .l)
+  entry-below : (j e : ℕ) → j < f .l → e < bucketSize (f .l) → F.entry S j e < leaky (f .l)
   unfolding F.entry
   entry-below j e lj le = place-below f order O j e lj le
 
   -- ---- round 21
-  d-is : (j e : ℕ) → j < f .l → e < later f → d f (a .bits) perm j e ≡ F.d f a strings order m j e
+  d-is : (j e : ℕ) → j < f .l → e < later f → d f (a .bits) perm j e ≡ F.d S j e
   unfolding d F.d F.y later
   d-is j e lj le =
       ap₂ (λ s t. shares .op (y f (a .bits) s) (y f (a .bits) t)) (entry-is j 0 lj (first-in (f .l)))
       (entry-is j (suc e) lj (later-in (f .l) e le))
 
-  pub msg-21 : (k : ℕ) → dvalueMsg f (a .bits) perm k ≡ F.sent21 f a strings order m k
+  pub msg-21 : (k : ℕ) → dvalueMsg f (a .bits) perm k ≡ F.sent21 S k
   unfolding dvalueMsg F.sent21
   msg-21 k =
       encode-ext (f .l) _ _ (λ j lj. dvalue-ext (later f) _ _ _ _
       (λ e le. ap (λ (s : Share). s .bit) (d-is j e lj le)) (λ e le. ap (λ (s : Share). s .mac k) (d-is j e lj le)))
 
-  pub length-ds : length (dRows f a strings order m) ≡ f .l * (bucketSize (f .l) - 1)
+  pub length-ds : length (dRows S) ≡ f .l * (bucketSize (f .l) - 1)
   unfolding dRows later
   length-ds = length-cat (f .l) (bucketSize (f .l) - 1) _ (λ j lj. length-tab (bucketSize (f .l) - 1) _)
 
   -- what DS holds
-  pub ds-is : ds f (a .bits) perm (m 21) ≡ dRows f a strings order m
+  pub ds-is : ds f (a .bits) perm (m 21) ≡ dRows S
   unfolding ds dRows dOpened F.dOpened
   ds-is =
       cat-ext (f .l) _ _ (λ j lj. tab-ext (later f) _ _ (λ e le.
       ap (λ (s : Share). num (addb (s .bit) (others bits (f .i) (f .n) (λ k. dTold f (m 21) k j e)))) (d-is j e lj le)))
 
-  d-read : (j e : ℕ) → j < f .l → e < later f
-      → odd (getD (dRows f a strings order m) (j * later f + e) 0) ≡ F.dOpened f a strings order m j e
+  d-read : (j e : ℕ) → j < f .l → e < later f → odd (getD (dRows S) (j * later f + e) 0) ≡ F.dOpened S j e
   unfolding dRows
   d-read j e lj le =
-      let row : ℕ → List ℕ = λ j. tab (later f) (λ e. num (F.dOpened f a strings order m j e)) in
+      let row : ℕ → List ℕ = λ j. tab (later f) (λ e. num (F.dOpened S j e)) in
       ap odd (row-byte (later f) (f .l) row (λ t lt. length-tab (later f) _) j e lj le ∙ getD-tab (later f) e _ 0 le)
-      ∙ odd-num (F.dOpened f a strings order m j e)
+      ∙ odd-num (F.dOpened S j e)
 
   -- ---- the combined triples
   -- entry e of bucket j
   alike : (j e : ℕ) → j < f .l → e < bucketSize (f .l)
-      → Alike (f .n) (f .i) (leakyAnd f δ (a .bits) zs es perm j e) (F.leakyAnd f a strings order m (F.entry f a strings order m j e))
+      → Alike (f .n) (f .i) (leakyAnd f δ (a .bits) zs es perm j e) (F.leakyAnd S (F.entry S j e))
   unfolding leakyAnd F.leakyAnd F.x
   alike j e lj le =
       subst (λ t. Alike (f .n) (f .i) (record { tx = x f (a .bits) t; ty = y f (a .bits) t; tz = zShare f δ (a .bits) zs es t })
-      (F.leakyAnd f a strings order m (F.entry f a strings order m j e))) (sym (entry-is j e lj le))
-      (record { tx = agree-refl (f .n) (f .i) _; tz = z-share-read f a strings order m I _ (entry-below j e lj le) })
+      (F.leakyAnd S (F.entry S j e))) (sym (entry-is j e lj le))
+      (record { tx = agree-refl (f .n) (f .i) _; tz = z-share-read S I _ (entry-below j e lj le) })
 
-  abc-alike : (j : ℕ) → j < f .l
-      → Alike (f .n) (f .i) (abc f δ (a .bits) zs es perm (dRows f a strings order m) j) (F.abc f a strings order m j)
+  abc-alike : (j : ℕ) → j < f .l → Alike (f .n) (f .i) (abc f δ (a .bits) zs es perm (dRows S) j) (F.abc S j)
   unfolding abc F.abc later
   abc-alike j lj =
       let g : ℕ → Triple = leakyAnd f δ (a .bits) zs es perm j in
       let c : ℕ = bucketSize (f .l) - 1 in
-      subst (λ (t : Triple). Alike (f .n) (f .i) t (F.abc f a strings order m j))
-      (sym (combine-ext g g _ (F.dOpened f a strings order m j) c (λ e le. refl) (λ e le. d-read j e lj le)))
-      (combine-alike (f .n) (f .i) g _ (F.dOpened f a strings order m j) c (λ e le. alike j e lj (all-in (f .l) e le)))
+      subst (λ (t : Triple). Alike (f .n) (f .i) t (F.abc S j))
+      (sym (combine-ext g g _ (F.dOpened S j) c (λ e le. refl) (λ e le. d-read j e lj le)))
+      (combine-alike (f .n) (f .i) g _ (F.dOpened S j) c (λ e le. alike j e lj (all-in (f .l) e le)))
 
   -- what TRIPLES holds
-  pub triples-are : B.tripleRows f δ (a .bits) zs es perm (dRows f a strings order m) ≡ tripleRows f a strings order m
+  pub triples-are : B.tripleRows f δ (a .bits) zs es perm (dRows S) ≡ tripleRows S
   unfolding B.tripleRows tripleRows tripleRow
   triples-are =
       cat-ext (f .l) _ _ (λ j lj.
       let s = abc-alike j lj in
       ap₂ (λ (s t : List ℕ). s ++ t) (agree-record (f .n) (f .i) _ _ (s .tx)) (agree-record (f .n) (f .i) _ _ (s .tz)))
 
-  pub small-abc : (j : ℕ) → SmallTriple (f .n) (F.abc f a strings order m j)
+  pub small-abc : (j : ℕ) → SmallTriple (f .n) (F.abc S j)
   unfolding F.abc F.leakyAnd
   small-abc j =
-      small-combine (f .n) _ (F.dOpened f a strings order m j) (later f)
-      (λ e le. record { tx = small-x f a strings order m I _; tz = small-z f a strings order m I _ })
+      small-combine (f .n) _ (F.dOpened S j) (later f) (λ e le. record { tx = small-x S I _; tz = small-z S I _ })
 
   -- b is the first y of the bucket
-  pub b-is : (j : ℕ) → j < f .l → Beaver.b f (a .bits) perm j ≡ F.abc f a strings order m j .ty
+  pub b-is : (j : ℕ) → j < f .l → Beaver.b f (a .bits) perm j ≡ F.abc S j .ty
   unfolding Beaver.b F.abc F.leakyAnd F.y
-  b-is j lj = ap (y f (a .bits)) (entry-is j 0 lj (first-in (f .l))) ∙ sym (combine-y _ (F.dOpened f a strings order m j) (later f))
+  b-is j lj = ap (y f (a .bits)) (entry-is j 0 lj (first-in (f .l))) ∙ sym (combine-y _ (F.dOpened S j) (later f))

@@ -22,6 +22,7 @@ use Rattle.rounds.specs.Opening.{Args}
 use Rattle.rounds.specs.Fashare.{d0, d1, dmAt, dmFault, dmFaults, dmRows, dmRow, others1, dibiMsg}
 use Rattle.rounds.specs.DmLaws.{Dues, dm-due, dues-place, dues-in, first-clean}
 use Rattle.alone.specs.Formula as F
+use Rattle.alone.specs.Formula.{Seen}
 use Rattle.alone.specs.Cells.{head-part, length-cells, cell, encode-ext}
 
 pub dm-some : (n : ℕ) → 0 < dmLen n
@@ -65,13 +66,14 @@ unfolding d1
 zero-or-one f delta recs q true = refl
 zero-or-one f delta recs q false = unit-r blocks (d0 f recs q)
 
-module _ (f : Frame) (a : Args) (strings order : List ℕ) (m : ℕ → ℕ → List ℕ)
-    (formed : (k : ℕ) → k < f .n → f .i ≢ k → formOf Dms 40 (m 10 k) ≡ 0) (clean : dmFaults f (m 10) .code ≡ 0) where
-  pub msg-12 : dibiMsg f (F.delta f a strings order m) (a .bits) (dmRows f (m 10)) ≡ F.sent12 f a strings order m
+module _ (S : Seen) where
+  open Seen S using (inputs as a, mail as m)
+  open Args (S .inputs) using (party as f)
+
+  pub msg-12 : ((k : ℕ) → k < f .n → f .i ≢ k → formOf Dms 40 (m 10 k) ≡ 0) → dmFaults f (m 10) .code ≡ 0
+      → dibiMsg f (F.delta S) (a .bits) (dmRows f (m 10)) ≡ F.sent12 S
   unfolding dibiMsg F.sent12 F.di F.dmBit others1
-  msg-12 =
-      encode-ext 40 _ _ (λ q lq. ap bytesOf
-      (ap (λ (b : Bool). blocks .op (d0 f (a .bits) q) (sel blocks b (F.delta f a strings order m)))
-      (others-ext bits (f .i) (f .n) _ (λ k. F.dmBit f a strings order m k q)
-      (λ k lk ne. ap odd (dm-bit-read f (m 10) formed clean k q lk ne lq)))
-      ∙ zero-or-one f (F.delta f a strings order m) (a .bits) q (others bits (f .i) (f .n) (λ k. F.dmBit f a strings order m k q))))
+  msg-12 formed clean =
+      encode-ext 40 _ _ (λ q lq. ap bytesOf (ap (λ (b : Bool). blocks .op (d0 f (a .bits) q) (sel blocks b (F.delta S)))
+      (others-ext bits (f .i) (f .n) _ (λ k. F.dmBit S k q) (λ k lk ne. ap odd (dm-bit-read f (m 10) formed clean k q lk ne lq)))
+      ∙ zero-or-one f (F.delta S) (a .bits) q (others bits (f .i) (f .n) (λ k. F.dmBit S k q))))

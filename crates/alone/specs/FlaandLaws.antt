@@ -26,6 +26,7 @@ use Rattle.rounds.specs.Haand.{x, r, G, phi, u, leakyRows, zRows}
 use Rattle.rounds.specs.Flaand.{e, flaandMsg, eTold, uTold, eRows, zKey, h, hs, commMsg, hashMsg}
 use Rattle.rounds.specs.Buckets.{zShare}
 use Rattle.alone.specs.Formula as F
+use Rattle.alone.specs.Formula.{Seen}
 use Rattle.alone.specs.Holds.{hRows}
 use Rattle.alone.specs.Given.{Given, small-delta, small-r}
 use Rattle.alone.specs.Base.{chunk-rows, length-rows}
@@ -74,9 +75,12 @@ module _ (f : Frame) (m : ℕ → List ℕ) where
       ∙ getD-tab (leaky (f .l)) t (λ t. num (eTold m j t)) 0 lt)
       ∙ odd-num (eTold m j t)
 
-module _ (f : Frame) (a : Args) (strings order : List ℕ) (m : ℕ → ℕ → List ℕ) (I : Given f a m) where
+module _ (S : Seen) (I : Given S) where
+  open Seen S using (inputs as a, mail as m)
+  open Args (S .inputs) using (party as f)
+
   abbrev δ : Block
-  δ = F.delta f a strings order m
+  δ = F.delta S
 
   -- what LEAKY and ZS hold
   abbrev leakys : List ℕ
@@ -86,25 +90,24 @@ module _ (f : Frame) (a : Args) (strings order : List ℕ) (m : ℕ → ℕ → 
   zs = zRows f (a .masks) (a .bits) (m 14)
 
   -- ---- round 15
-  pub msg-15 : (j : ℕ) → j < f .n → f .i ≢ j → flaandMsg f (a .bits) leakys zs j ≡ F.sent15 f a strings order m j
+  pub msg-15 : (j : ℕ) → j < f .n → f .i ≢ j → flaandMsg f (a .bits) leakys zs j ≡ F.sent15 S j
   unfolding flaandMsg e F.sent15 F.e F.z F.r F.u F.x F.phi u
   msg-15 j lj ne =
       encode-ext (leaky (f .l)) _ _ (λ t lt.
       (λ q. bitBlock (bits .op (z-read f (a .masks) (a .bits) (m 14) t lt q) (r f (a .bits) t .bit))
-      (u-read f δ (a .bits) (small-delta f a strings order m I) (I .bits-bytes) t lt j lj ne q)))
+      (u-read f δ (a .bits) (small-delta S I) (I .bits-bytes) t lt j lj ne q)))
 
   -- ---- z's share
-  pub small-z : (t : ℕ) → SmallShare (f .n) (F.zShare f a strings order m t)
+  pub small-z : (t : ℕ) → SmallShare (f .n) (F.zShare S t)
   unfolding F.zShare
   small-z t =
-      let s = small-r f a strings order m I t in
+      let s = small-r S I t in
       record {
         mac = s .mac;
-        key = λ k lk. small-xor _ _ (s .key k lk) (small-sel (eTold (m 15) k t) δ (small-delta f a strings order m I));
+        key = λ k lk. small-xor _ _ (s .key k lk) (small-sel (eTold (m 15) k t) δ (small-delta S I));
       }
 
-  pub z-share-read : (t : ℕ) → t < leaky (f .l)
-      → Agree (f .n) (f .i) (zShare f δ (a .bits) zs (eRows f (m 15)) t) (F.zShare f a strings order m t)
+  pub z-share-read : (t : ℕ) → t < leaky (f .l) → Agree (f .n) (f .i) (zShare f δ (a .bits) zs (eRows f (m 15)) t) (F.zShare S t)
   unfolding zShare F.zShare F.z F.r zKey
   z-share-read t lt = record {
     bit = z-read f (a .masks) (a .bits) (m 14) t lt;
@@ -113,11 +116,11 @@ module _ (f : Frame) (a : Args) (strings order : List ℕ) (m : ℕ → ℕ → 
   }
 
   -- ---- rounds 17 and 19
-  pub h-read : (t : ℕ) → t < leaky (f .l) → h f δ (a .bits) leakys zs (m 15) t ≡ F.h f a strings order m t
+  pub h-read : (t : ℕ) → t < leaky (f .l) → h f δ (a .bits) leakys zs (m 15) t ≡ F.h S t
   unfolding h F.h F.hTerm F.zShare F.x F.r F.z F.phi zKey
   h-read t lt =
       let s : Bool = x f (a .bits) t .bit in
-      let small-d = small-delta f a strings order m I in
+      let small-d = small-delta S I in
       let keys = key-hash-read f δ (a .bits) small-d (I .bits-bytes) t lt in
       let macs = mac-hash-read f (a .masks) (a .bits) (m 14) t lt in
       let own = phi-read f δ (a .bits) small-d (I .bits-bytes) t lt in
@@ -129,41 +132,40 @@ module _ (f : Frame) (a : Args) (strings order : List ℕ) (m : ℕ → ℕ → 
       (blocks .op (others blocks (f .i) (f .n) (λ j. blocks .op (term j) (told j))) (blocks .op (keys q) (macs q)))
       (blocks .op (sel blocks s (own q)) (sel blocks (bit q) δ)))
       ∙ h-alg blocks (f .i) (f .n) term (λ j. G (x f (a .bits) t .key j)) (λ j. G (x f (a .bits) t .mac j)) told
-      (sel blocks s (phi f δ (a .bits) t)) (sel blocks (F.z f a strings order m t) δ)
+      (sel blocks s (phi f δ (a .bits) t)) (sel blocks (F.z S t) δ)
 
-  pub small-h : (t : ℕ) → Small (F.h f a strings order m t)
+  pub small-h : (t : ℕ) → Small (F.h S t)
   unfolding F.h F.hTerm F.phi uTold
   small-h t =
       let sz = small-z t in
-      let sd = small-delta f a strings order m I in
+      let sd = small-delta S I in
       small-xor _ _
       (small-xor _ _
       (small-others (f .i) (f .n) _ (λ j lj.
       small-xor _ _ (small-xor _ _ (small-xor _ _ (small-xor _ _ (sz .mac j lj) (sz .key j lj)) (small-G _)) (small-G _))
-      (small-sel (F.x f a strings order m t .bit) _ (small-told j t))))
-      (small-sel (F.x f a strings order m t .bit) _ (small-phi f δ (a .bits) sd (I .bits-bytes) t)))
-      (small-sel (F.z f a strings order m t) δ sd)
+      (small-sel (F.x S t .bit) _ (small-told j t)))) (small-sel (F.x S t .bit) _ (small-phi f δ (a .bits) sd (I .bits-bytes) t)))
+      (small-sel (F.z S t) δ sd)
     where
       small-told : (j t : ℕ) → Small (uTold (m 15) j t)
       small-told j t = small-at (m 15 j) (I .mail-bytes 15 j) _
 
-  pub length-hs : length (hRows f a strings order m) ≡ leaky (f .l) * 16
+  pub length-hs : length (hRows S) ≡ leaky (f .l) * 16
   unfolding hRows
   length-hs = length-cat (leaky (f .l)) 16 _ (λ t lt. length-bytesOf _)
 
   -- what HS holds
-  pub hs-read : hs f δ (a .bits) leakys zs (m 15) ≡ hRows f a strings order m
+  pub hs-read : hs f δ (a .bits) leakys zs (m 15) ≡ hRows S
   unfolding hs hRows
   hs-read = cat-ext (leaky (f .l)) _ _ (λ t lt. ap bytesOf (h-read t lt))
 
-  own-h : (t : ℕ) → t < leaky (f .l) → blockAt (hRows f a strings order m) (t * 16) ≡ F.h f a strings order m t
+  own-h : (t : ℕ) → t < leaky (f .l) → blockAt (hRows S) (t * 16) ≡ F.h S t
   unfolding hRows
-  own-h t lt = block-row (leaky (f .l)) (F.h f a strings order m) t lt (small-h t)
+  own-h t lt = block-row (leaky (f .l)) (F.h S) t lt (small-h t)
 
-  pub msg-17 : commMsg f (hRows f a strings order m) ≡ F.sent17 f a strings order m
+  pub msg-17 : commMsg f (hRows S) ≡ F.sent17 S
   unfolding commMsg F.sent17
   msg-17 = encode-ext (leaky (f .l)) _ _ (λ t lt. ap (λ (b : Block). hash (bytesOf b)) (own-h t lt))
 
-  pub msg-19 : hashMsg f (hRows f a strings order m) ≡ F.sent19 f a strings order m
+  pub msg-19 : hashMsg f (hRows S) ≡ F.sent19 S
   unfolding hashMsg F.sent19
   msg-19 = encode-ext (leaky (f .l)) _ _ (λ t lt. ap bytesOf (own-h t lt))

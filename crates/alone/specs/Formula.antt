@@ -1,6 +1,6 @@
--- What one box sends and what it ends with, whoever it talks to (document 01, "What each round means"): of what it was opened with, a, of
--- the r Blocks and the permutation that it was lent, strings and order, and of the messages that it received: `m k j` is party j's for
--- round k. Nothing here knows a work area.
+-- What one box sends and what it ends with, whoever it talks to (document 01, "What each round means"): of what it was opened with, its
+-- inputs, of the r strings and the permutation that it was lent, and of the messages that it received: `mail k j` is party j's for round k.
+-- Nothing here knows a work area.
 use mathlib.Core.Bool.{Bool, cond, _&&_}
 use mathlib.Core.List.{List, []}
 use Prim.Native.Nat.{ℕ, suc, _+_, _*_}
@@ -18,7 +18,6 @@ use Rattle.blake3.specs.Tree.{hash}
 use Rattle.share.specs.Share.{Share, shares, recordOf}
 use Rattle.encode.specs.Encode.{encode, bitBlock, dvalueItem, twoBitsTwoBlocks, noneItem, someItem}
 use Rattle.plan.specs.Plan.{leaky, bucketSize}
-use Rattle.engine.specs.declared.Frame.{Frame}
 use Rattle.rounds.specs.Opening.{Args}
 use Rattle.rounds.specs.Echo.{hashVec}
 use Rattle.rounds.specs.Toss as Toss
@@ -30,7 +29,17 @@ use Rattle.rounds.specs.Flaand as Flaand
 use Rattle.rounds.specs.Buckets.{Triple, combine, later, dTold}
 use Rattle.rounds.specs.Beaver as Beaver
 
-module _ (f : Frame) (a : Args) (strings order : List ℕ) (m : ℕ → ℕ → List ℕ) where
+-- what one box has to go by
+pub record Seen : Type 0 where
+  pub inputs : Args
+  pub strings : List ℕ
+  pub permutation : List ℕ
+  pub mail : ℕ → ℕ → List ℕ
+
+module _ (S : Seen) where
+  open Seen S using (inputs as a, strings, permutation as order, mail as m)
+  open Args (S .inputs) using (party as f)
+
   -- ---- what the box was opened with
   unfoldable pub delta : Block
   delta = blockAt (a .delta) 0

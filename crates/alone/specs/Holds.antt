@@ -9,7 +9,6 @@ use Rattle.lists.specs.Over.{tab, cat}
 use Rattle.algebra.specs.Group.{num}
 use Rattle.block.specs.Block.{bytesOf}
 use Rattle.plan.specs.Plan.{leaky}
-use Rattle.engine.specs.declared.Frame.{Frame}
 use Rattle.engine.specs.Sheet.{Store}
 use Rattle.engine.specs.Honest.{before, due}
 use Rattle.engine.specs.Alone.{Tale}
@@ -22,6 +21,7 @@ use Rattle.rounds.specs.Haand as Haand
 use Rattle.rounds.specs.Flaand as Flaand
 use Rattle.rounds.specs.Buckets as Buckets
 use Rattle.alone.specs.Formula as F
+use Rattle.alone.specs.Formula.{Seen}
 
 -- The moment since which a section holds its value: `before k` for what is kept of the messages of the plain round before k, `due k` for
 -- what is kept when the messages of round k are made. What opening keeps is there from the start.
@@ -38,29 +38,32 @@ since s =
 abbrev pub storeOf : (ℕ → ℕ → List ℕ) → Store
 storeOf val = record { total = SECTIONS; count = ROUNDS-OWN; size = sizeOf; ready = λ t s. leb (since s) t; val = λ t i s. val i s }
 
-module _ (f : Frame) (a : Args) (strings order : List ℕ) (m : ℕ → ℕ → List ℕ) where
+module _ (S : Seen) where
+  open Seen S using (inputs as a, strings, permutation as order, mail as m)
+  open Args (S .inputs) using (party as f)
+
   -- own h, one after another
   unfoldable pub hRows : List ℕ
-  hRows = cat (leaky (f .l)) (λ t. bytesOf (F.h f a strings order m t))
+  hRows = cat (leaky (f .l)) (λ t. bytesOf (F.h S t))
 
   -- the opened d of each bucket
   unfoldable pub dRows : List ℕ
-  dRows = cat (f .l) (λ j. tab (Buckets.later f) (λ e. num (F.dOpened f a strings order m j e)))
+  dRows = cat (f .l) (λ j. tab (Buckets.later f) (λ e. num (F.dOpened S j e)))
 
   -- a and c of each bucket
   unfoldable pub tripleRows : List ℕ
-  tripleRows = cat (f .l) (λ j. Buckets.tripleRow f (F.abc f a strings order m j))
+  tripleRows = cat (f .l) (λ j. Buckets.tripleRow f (F.abc S j))
 
   -- what section s holds
   unfoldable pub holds : ℕ → List ℕ
   holds s =
       pick (eqb s DELTA) (a .delta) (pick (eqb s SEED) (a .seed) (pick (eqb s PAIRS) (a .pairs) (pick (eqb s MASKS) (a .masks)
       (pick (eqb s BITS) (a .bits) (pick (eqb s ALPHA) (a .alpha) (pick (eqb s BETA) (a .beta)
-      (pick (eqb s COMMS) (Toss.toldRows f (m 1)) (pick (eqb s JOINT) (F.jointSeed f a strings order m)
-      (pick (eqb s PAIR-COMMS) (Toss.toldRows f (m 4)) (pick (eqb s PAIRWISE) (rows f 32 (F.pairwiseSeed f a strings order m))
+      (pick (eqb s COMMS) (Toss.toldRows f (m 1)) (pick (eqb s JOINT) (F.jointSeed S)
+      (pick (eqb s PAIR-COMMS) (Toss.toldRows f (m 4)) (pick (eqb s PAIRWISE) (rows f 32 (F.pairwiseSeed S))
       (pick (eqb s KEY-SUMS) (Fabitn.keySums f strings (a .bits))
       (pick (eqb s SHARE-COMMS) (Fashare.commRows f (m 8)) (pick (eqb s DMS) (Fashare.dmRows f (m 10))
-      (pick (eqb s LEAKY) (Haand.leakyRows f (F.delta f a strings order m) (a .bits))
+      (pick (eqb s LEAKY) (Haand.leakyRows f (F.delta S) (a .bits))
       (pick (eqb s ZS) (Haand.zRows f (a .masks) (a .bits) (m 14))
       (pick (eqb s ES) (Flaand.eRows f (m 15)) (pick (eqb s HS) hRows (pick (eqb s H-COMMS) (Flaand.commRows f (m 17))
       (pick (eqb s PERM) (Buckets.permBytes f order) (pick (eqb s DS) dRows (pick (eqb s TRIPLES) tripleRows
@@ -71,6 +74,6 @@ module _ (f : Frame) (a : Args) (strings order : List ℕ) (m : ℕ → ℕ → 
   tale = record {
     ready = λ t s. leb (since s) t;
     val = holds;
-    sent = F.sent f a strings order m;
-    result = F.result f a strings order m;
+    sent = F.sent S;
+    result = F.result S;
   }

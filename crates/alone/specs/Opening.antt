@@ -22,6 +22,7 @@ use Rattle.rounds.specs.Area.{DELTA, SEED, PAIRS, MASKS, BITS, ALPHA, BETA, ROU
 use Rattle.rounds.specs.Opening.{Args, listsDue, buffersDue, bytesFault, reason, section, area, spec, lengthsFault, orFault}
 use Rattle.rounds.specs.Toss as Toss
 use Rattle.alone.specs.Holds.{since, storeOf, holds}
+use Rattle.alone.specs.Formula.{Seen}
 use Rattle.alone.specs.Given.{Given}
 
 -- ---- what is accepted
@@ -190,8 +191,11 @@ pub record ByteArgs (a : Args) : Type 0 where
   pub alpha-bytes : Bytes (a .alpha)
   pub beta-bytes : Bytes (a .beta)
 
-module _ (a : Args) (z : reason a ≡ 0) (strings order : List ℕ) (m : ℕ → ℕ → List ℕ) where
-  pub given : ByteArgs a → ((k j : ℕ) → Bytes (m k j)) → Given (a .party) a m
+module _ (S : Seen) (z : reason (S .inputs) ≡ 0) where
+  open Seen S using (inputs as a, mail as m)
+  open Args (S .inputs) using (party as f)
+
+  pub given : ByteArgs a → ((k j : ℕ) → Bytes (m k j)) → Given S
   given b h = record {
     range = taken a z .range;
     own = taken a z .own;
@@ -204,8 +208,8 @@ module _ (a : Args) (z : reason a ≡ 0) (strings order : List ℕ) (m : ℕ →
   }
 
   -- the inputs are in their sections
-  pub opened : Known (a .party .n) (a .party .l) (storeOf (λ i s. holds (a .party) a strings order m s)) (due 1) (a .party .i) (area a)
+  pub opened : Known (f .n) (f .l) (storeOf (λ i s. holds S s)) (due 1) (f .i) (area a)
   unfolding section holds
   opened =
-      known-opened (a .party) (λ i s. holds (a .party) a strings order m s) a refl (taken a z .lens)
-      (first-seven (λ s. section a s ≡ holds (a .party) a strings order m s) (refl, (refl, (refl, (refl, (refl, (refl, (refl, tt))))))))
+      known-opened f (λ i s. holds S s) a refl (taken a z .lens)
+      (first-seven (λ s. section a s ≡ holds S s) (refl, (refl, (refl, (refl, (refl, (refl, (refl, tt))))))))

@@ -21,7 +21,6 @@ use Rattle.message.specs.declared.Kind.the-variants.{Items, Dms}
 use Rattle.message.specs.Format.{formOf}
 use Rattle.message.specs.FormatLaws.{and-second, fixed}
 use Rattle.plan.specs.Plan.{kindOf, countDue, leaky}
-use Rattle.engine.specs.declared.Frame.{Frame}
 use Rattle.engine.specs.Step.{Loan}
 use Rattle.engine.specs.Area.{mem, length-sec}
 use Rattle.engine.specs.Sheet.{staysTest}
@@ -41,6 +40,7 @@ use Rattle.rounds.specs.FlaandLaws.{length-ownComms}
 use Rattle.rounds.specs.Buckets as Buckets
 use Rattle.rounds.specs.Beaver as Beaver
 use Rattle.alone.specs.Formula as F
+use Rattle.alone.specs.Formula.{Seen}
 use Rattle.alone.specs.Holds.{since, storeOf, hRows, dRows, tripleRows, holds, tale}
 use Rattle.alone.specs.Given.{Given}
 use Rattle.alone.specs.Base.{length-rows, has-at, Fit, keep-none, keep-free, keep-one, keep-two}
@@ -55,16 +55,19 @@ use Rattle.alone.specs.BeaverLaws.{msg-22, results-are}
 row-long : (c s : ℕ) (m : List ℕ) → 8 + c * s ≤ length m → length (take (c * s) (drop 8 m)) ≡ c * s
 row-long c s m h = length-get 8 (c * s) m h
 
-module _ (f : Frame) (a : Args) (q : ℕ → Loan) (m : ℕ → ℕ → List ℕ) (I : Given f a m) where
-  abbrev strings : List ℕ
-  strings = q 6 .r
+-- what a box that was opened with a, lent q and sent m has to go by
+abbrev pub seenBy : Args → (ℕ → Loan) → (ℕ → ℕ → List ℕ) → Seen
+seenBy a q m = record { inputs = a; strings = q 6 .r; permutation = q 21 .perm; mail = m }
 
-  abbrev order : List ℕ
-  order = q 21 .perm
+module _ (a : Args) (q : ℕ → Loan) (m : ℕ → ℕ → List ℕ) (I : Given (seenBy a q m)) where
+  open Args a using (party as f)
+
+  abbrev S : Seen
+  S = seenBy a q m
 
   -- what the rounds owe (engine, Alone.antt)
   abbrev U : Tale
-  U = tale f a strings order m
+  U = tale S
 
   abbrev At : ℕ → List ℕ → Type 0
   At t w = Alone.At table (f .n) (f .l) (f .i) U m q t w
@@ -94,18 +97,18 @@ module _ (f : Frame) (a : Args) (q : ℕ → Loan) (m : ℕ → ℕ → List ℕ
   LastAt k = Alone.LastAt table (f .n) (f .l) (f .i) U m q k
 
   abbrev vals : ℕ → ℕ → List ℕ
-  vals i s = holds f a strings order m s
+  vals i s = holds S s
 
   abbrev fits : ℕ → Type 0
   fits s = Fit (f .n) (f .l) vals s
 
   -- ---- the sections, each from its moment on
-  has : (s : ℕ) {t : ℕ} {w : List ℕ} → At t w → ltb s ROUNDS-OWN ≡ true → leb (since s) t ≡ true → at f s w ≡ holds f a strings order m s
+  has : (s : ℕ) {t : ℕ} {w : List ℕ} → At t w → ltb s ROUNDS-OWN ≡ true → leb (since s) t ≡ true → at f s w ≡ holds S s
   has s K ls r = has-at (f .n) (f .l) vals s K ls r
 
   module _ {t : ℕ} {w : List ℕ} (K : At t w) where
     -- what opening keeps
-    delta-is : delta f w ≡ F.delta f a strings order m
+    delta-is : delta f w ≡ F.delta S
     unfolding delta F.delta holds since
     delta-is = ap (λ (x : List ℕ). blockAt x 0) (has DELTA K refl (le-leb 0 t (omega arith)))
 
@@ -138,7 +141,7 @@ module _ (f : Frame) (a : Args) (q : ℕ → Loan) (m : ℕ → ℕ → List ℕ
     unfolding holds since
     dms-at r = has DMS K refl r
 
-    leaky-at : leb (due 14) t ≡ true → at f LEAKY w ≡ Haand.leakyRows f (F.delta f a strings order m) (a .bits)
+    leaky-at : leb (due 14) t ≡ true → at f LEAKY w ≡ Haand.leakyRows f (F.delta S) (a .bits)
     unfolding holds since
     leaky-at r = has LEAKY K refl r
 
@@ -150,19 +153,19 @@ module _ (f : Frame) (a : Args) (q : ℕ → Loan) (m : ℕ → ℕ → List ℕ
     unfolding holds since
     es-at r = has ES K refl r
 
-    hs-at : leb (before 17) t ≡ true → at f HS w ≡ hRows f a strings order m
+    hs-at : leb (before 17) t ≡ true → at f HS w ≡ hRows S
     unfolding holds since
     hs-at r = has HS K refl r
 
-    perm-at : leb (due 21) t ≡ true → at f PERM w ≡ Buckets.permBytes f order
+    perm-at : leb (due 21) t ≡ true → at f PERM w ≡ Buckets.permBytes f (S .permutation)
     unfolding holds since
     perm-at r = has PERM K refl r
 
-    ds-at : leb (before 22) t ≡ true → at f DS w ≡ dRows f a strings order m
+    ds-at : leb (before 22) t ≡ true → at f DS w ≡ dRows S
     unfolding holds since
     ds-at r = has DS K refl r
 
-    triples-at : leb (due 22) t ≡ true → at f TRIPLES w ≡ tripleRows f a strings order m
+    triples-at : leb (due 22) t ≡ true → at f TRIPLES w ≡ tripleRows S
     unfolding holds since
     triples-at r = has TRIPLES K refl r
 
@@ -170,8 +173,7 @@ module _ (f : Frame) (a : Args) (q : ℕ → Loan) (m : ℕ → ℕ → List ℕ
   stays : (t u : ℕ) {w : List ℕ} → At t w → staysTest (storeOf vals) t u [] ≡ true → At u w
   stays t u K test = keep-none (f .n) (f .l) vals t u (f .i) (I .own) K test
 
-  fill : (t u s : ℕ) {x w : List ℕ} → At t w → staysTest (storeOf vals) t u (s ∷ []) ≡ true → fits s → x ≡ holds f a strings order m s
-      → At u (keep f s x w)
+  fill : (t u s : ℕ) {x w : List ℕ} → At t w → staysTest (storeOf vals) t u (s ∷ []) ≡ true → fits s → x ≡ holds S s → At u (keep f s x w)
   fill t u s {x} K test fit e = keep-one (f .n) (f .l) vals t u (f .i) (I .own) K s x test fit e
 
   -- ---- tosses: rounds 1, 3, 4, 5
@@ -247,8 +249,8 @@ module _ (f : Frame) (a : Args) (q : ℕ → Loan) (m : ℕ → ℕ → List ℕ
   pub send-6 : SendAt 6
   unfolding staysTest allOf mem since holds held written F.sent F.sent6
   send-6 = record {
-    keeps = λ past z w K. fill (before 6) (due 6) KEY-SUMS K refl fit-key-sums (ap (Fabitn.keySums f strings) (bits-at K));
-    writes = λ past z w K j lj ne. ap (λ (s : List ℕ). Fabitn.abitMsg f strings s j) (bits-at K);
+    keeps = λ past z w K. fill (before 6) (due 6) KEY-SUMS K refl fit-key-sums (ap (Fabitn.keySums f (S .strings)) (bits-at K));
+    writes = λ past z w K j lj ne. ap (λ (s : List ℕ). Fabitn.abitMsg f (S .strings) s j) (bits-at K);
   }
 
   pub recv-6 : RecvAt 6
@@ -310,7 +312,7 @@ module _ (f : Frame) (a : Args) (q : ℕ → Loan) (m : ℕ → ℕ → List ℕ
     writes = λ past z w K j lj ne.
         let p : Passed 10 = tenth past in
         (λ e. Fashare.dibiMsg f (delta-is K e) (bits-at K e) (dms-at K refl e))
-        ∙ msg-12 f a strings order m (formed-10 (p .formed)) (clean-10 (p .work) (p .judged));
+        ∙ msg-12 S (formed-10 (p .formed)) (clean-10 (p .work) (p .judged));
   }
 
   pub recv-12 : RecvAt 12
@@ -320,7 +322,7 @@ module _ (f : Frame) (a : Args) (q : ℕ → Loan) (m : ℕ → ℕ → List ℕ
   -- ---- `fhaand`: round 14
   fit-leaky : fits LEAKY
   unfolding holds sizeOf sizes
-  fit-leaky = (omega arith, λ i li. length-leakyRows f (F.delta f a strings order m) (a .bits))
+  fit-leaky = (omega arith, λ i li. length-leakyRows f (F.delta S) (a .bits))
 
   fit-zs : fits ZS
   unfolding holds sizeOf sizes
@@ -346,7 +348,7 @@ module _ (f : Frame) (a : Args) (q : ℕ → Loan) (m : ℕ → ℕ → List ℕ
 
   fit-hs : fits HS
   unfolding holds sizeOf sizes
-  fit-hs = (omega arith, λ i li. length-hs f a strings order m I)
+  fit-hs = (omega arith, λ i li. length-hs S I)
 
   fit-h-comms : Formed 17 → fits H-COMMS
   unfolding holds sizeOf sizes kindOf countDue Flaand.commRows
@@ -361,7 +363,7 @@ module _ (f : Frame) (a : Args) (q : ℕ → Loan) (m : ℕ → ℕ → List ℕ
   send-15 = record {
     keeps = λ past z w K. stays (before 15) (due 15) K refl;
     writes = λ past z w K j lj ne.
-        (λ e. Flaand.flaandMsg f (bits-at K e) (leaky-at K refl e) (zs-at K refl e) j) ∙ msg-15 f a strings order m I j lj ne;
+        (λ e. Flaand.flaandMsg f (bits-at K e) (leaky-at K refl e) (zs-at K refl e) j) ∙ msg-15 S I j lj ne;
   }
 
   pub recv-15 : RecvAt 15
@@ -369,7 +371,7 @@ module _ (f : Frame) (a : Args) (q : ℕ → Loan) (m : ℕ → ℕ → List ℕ
   recv-15 past p =
       let K = p .known in
       keep-two (f .n) (f .l) vals (due 15) (before 17) (f .i) (I .own) K HS ES _ _ refl fit-hs fit-es
-      ((λ e. Flaand.hs f (delta-is K e) (bits-at K e) (leaky-at K refl e) (zs-at K refl e) (m 15)) ∙ hs-read f a strings order m I) refl
+      ((λ e. Flaand.hs f (delta-is K e) (bits-at K e) (leaky-at K refl e) (zs-at K refl e) (m 15)) ∙ hs-read S I) refl
 
   -- the own commitments wait in the own row
   own-long : (w : List ℕ) → At (before 17) w → length (Flaand.ownComms f (at f HS w) (at f H-COMMS w)) ≡ sizeOf f H-COMMS
@@ -381,7 +383,7 @@ module _ (f : Frame) (a : Args) (q : ℕ → Loan) (m : ℕ → ℕ → List ℕ
   send-17 = record {
     keeps = λ past z w K.
         keep-free (f .n) (f .l) vals (before 17) (due 17) (f .i) (I .own) K H-COMMS _ refl (omega arith) refl (own-long w K);
-    writes = λ past z w K j lj ne. ap (Flaand.commMsg f) (hs-at K refl) ∙ msg-17 f a strings order m I;
+    writes = λ past z w K j lj ne. ap (Flaand.commMsg f) (hs-at K refl) ∙ msg-17 S I;
   }
 
   pub recv-17 : RecvAt 17
@@ -392,7 +394,7 @@ module _ (f : Frame) (a : Args) (q : ℕ → Loan) (m : ℕ → ℕ → List ℕ
   unfolding staysTest allOf mem since held written F.sent
   send-19 = record {
     keeps = λ past z w K. stays (before 19) (due 19) K refl;
-    writes = λ past z w K j lj ne. ap (Flaand.hashMsg f) (hs-at K refl) ∙ msg-19 f a strings order m I;
+    writes = λ past z w K j lj ne. ap (Flaand.hashMsg f) (hs-at K refl) ∙ msg-19 S I;
   }
 
   pub recv-19 : RecvAt 19
@@ -400,36 +402,36 @@ module _ (f : Frame) (a : Args) (q : ℕ → Loan) (m : ℕ → ℕ → List ℕ
   recv-19 past p = stays (due 19) (before 21) (p .known) refl
 
   -- ---- buckets: round 21
-  ordered : LentFor 21 → Ordered (f .l) order
+  ordered : LentFor 21 → Ordered (f .l) (S .permutation)
   unfolding lent
   ordered z =
       let none : Bool = eqb (length (q 21 .r)) 0 in
-      let long : Bool = eqb (length order) (leaky (f .l)) in
-      let w = pick-then (none && long) (pick (isPerm order) 0 18) 17 0 (λ e. omega arith) z in
+      let long : Bool = eqb (length (S .permutation)) (leaky (f .l)) in
+      let w = pick-then (none && long) (pick (isPerm (S .permutation)) 0 18) 17 0 (λ e. omega arith) z in
       record {
         most = I .range .most;
-        len = eqb-true (length order) (leaky (f .l)) (and-second none long (w .0));
-        perm = pick-then (isPerm order) 0 18 0 (λ e. omega arith) (w .1) .0;
+        len = eqb-true (length (S .permutation)) (leaky (f .l)) (and-second none long (w .0));
+        perm = pick-then (isPerm (S .permutation)) 0 18 0 (λ e. omega arith) (w .1) .0;
       }
 
   fit-perm : fits PERM
   unfolding holds sizeOf sizes
-  fit-perm = (omega arith, λ i li. length-perm f order)
+  fit-perm = (omega arith, λ i li. length-perm f (S .permutation))
 
   fit-ds : LentFor 21 → fits DS
   unfolding holds sizeOf sizes
-  fit-ds z = (omega arith, λ i li. length-ds f a strings order m I (ordered z))
+  fit-ds z = (omega arith, λ i li. length-ds S I (ordered z))
 
   fit-triples : fits TRIPLES
   unfolding holds sizeOf sizes tripleRows
-  fit-triples = (omega arith, λ i li. length-triples f (F.abc f a strings order m))
+  fit-triples = (omega arith, λ i li. length-triples f (F.abc S))
 
   pub send-21 : SendAt 21
   unfolding staysTest allOf mem since holds held written F.sent
   send-21 = record {
     keeps = λ past z w K. fill (before 21) (due 21) PERM K refl fit-perm refl;
     writes = λ past z w K j lj ne.
-        ap₂ (λ (s t : List ℕ). Buckets.dvalueMsg f s t j) (bits-at K) (perm-at K refl) ∙ msg-21 f a strings order m I (ordered z) j;
+        ap₂ (λ (s t : List ℕ). Buckets.dvalueMsg f s t j) (bits-at K) (perm-at K refl) ∙ msg-21 S I (ordered z) j;
   }
 
   pub recv-21 : RecvAt 21
@@ -438,7 +440,7 @@ module _ (f : Frame) (a : Args) (q : ℕ → Loan) (m : ℕ → ℕ → List ℕ
       let K = p .known in
       let z : LentFor 21 = p .lent (omega arith) in
       fill (due 21) (before 22) DS K refl (fit-ds z)
-      (ap₂ (λ (s t : List ℕ). Buckets.ds f s t (m 21)) (bits-at K) (perm-at K refl) ∙ ds-is f a strings order m I (ordered z))
+      (ap₂ (λ (s t : List ℕ). Buckets.ds f s t (m 21)) (bits-at K) (perm-at K refl) ∙ ds-is S I (ordered z))
 
   -- ---- `beaver_aand`: round 22
   lent-21 : Past 22 → LentFor 21
@@ -450,14 +452,14 @@ module _ (f : Frame) (a : Args) (q : ℕ → Loan) (m : ℕ → ℕ → List ℕ
   send-22 = record {
     keeps = λ past z w K. fill (before 22) (due 22) TRIPLES K refl fit-triples
         ((λ e. Buckets.tripleRows f (delta-is K e) (bits-at K e) (zs-at K refl e) (es-at K refl e) (perm-at K refl e) (ds-at K refl e))
-        ∙ triples-are f a strings order m I (ordered (lent-21 past)));
+        ∙ triples-are S I (ordered (lent-21 past)));
     writes = λ past z w K j lj ne.
         (λ e. Beaver.faandMsg f (bits-at K e) (perm-at K refl e) (triples-at K refl e) (alpha-at K e) (beta-at K e) j)
-        ∙ msg-22 f a strings order m I (ordered (lent-21 past)) j lj ne;
+        ∙ msg-22 S I (ordered (lent-21 past)) j lj ne;
   }
 
   pub last-22 : LastAt 22
   last-22 past p =
       let K = p .known in
       (λ e. Beaver.results f (bits-at K e) (perm-at K refl e) (triples-at K refl e) (alpha-at K e) (beta-at K e) (m 22))
-      ∙ results-are f a strings order m I (ordered (lent-21 past))
+      ∙ results-are S I (ordered (lent-21 past))

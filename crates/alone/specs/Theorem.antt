@@ -6,7 +6,7 @@ use mathlib.Core.Logic.{_≢_}
 use mathlib.Core.List.{List, [], _∷_}
 use Prim.Native.Nat.{ℕ, _<_, _≤_}
 use native.Mathlib.Omega.{arith}
-use lib.ListN.{length, getD, take, drop, replicate}
+use lib.ListN.{length, getD, take, replicate}
 use lib.Dec.{eqb}
 use borrow.Author.Tests.{leb-true, le-leb, eq-eqb, ne-eqb}
 use Rattle.lists.specs.Pick.{pick}
@@ -19,7 +19,6 @@ use Rattle.message.specs.declared.Kind.the-variants.{Options}
 use Rattle.message.specs.Format as Format
 use Rattle.message.specs.PrefixLaws.{list-form}
 use Rattle.plan.specs.Plan.{kindOf, countDue}
-use Rattle.engine.specs.declared.Frame.{Frame}
 use Rattle.engine.specs.declared.Session.{Session}
 use Rattle.engine.specs.Step.{frame, Loan, Outcome, other, mask, part, heard}
 use Rattle.engine.specs.World.{Box, sessionOf}
@@ -34,6 +33,7 @@ use Rattle.rounds.specs.Echo.{hashVec, echoMsg, echo}
 use Rattle.rounds.specs.Opening.{Args, reason, spec}
 use Rattle.rounds.specs.Table.{table}
 use Rattle.alone.specs.Formula as F
+use Rattle.alone.specs.Formula.{Seen}
 use Rattle.alone.specs.Holds.{since, holds, tale}
 use Rattle.alone.specs.Cells.{encode-ext}
 use Rattle.alone.specs.Given.{Given}
@@ -52,14 +52,16 @@ openedBox a =
 -- a: what the box was opened with; q k: what was lent with the call that makes round k's messages; m k j: what was read of party j for
 -- round k
 module _ (a : Args) (q : ℕ → Loan) (m : ℕ → ℕ → List ℕ) where
-  abbrev f : Frame
-  f = a .party
+  open Args a using (party as f)
+
+  abbrev S : Seen
+  S = R.seenBy a q m
 
   -- what is told of the box
   abbrev pub U : Tale
-  U = tale f a (q 6 .r) (q 21 .perm) m
+  U = tale S
 
-  module _ (I : Given f a m) where
+  module _ (I : Given S) where
     duties : Duties table (f .n) (f .l) (f .i) U m q
     unfolding isEcho mem allOf plainAfter Found
     duties = record {
@@ -73,45 +75,44 @@ module _ (a : Args) (q : ℕ → Loan) (m : ℕ → ℕ → List ℕ) where
       plain = 1 ∷ 3 ∷ 4 ∷ 5 ∷ 6 ∷ 8 ∷ 10 ∷ 12 ∷ 14 ∷ 15 ∷ 17 ∷ 19 ∷ 21 ∷ [];
       whole = refl;
       recv =
-          (also (R.recv-1 f a q m I)
-          (also (R.recv-3 f a q m I)
-          (also (R.recv-4 f a q m I)
-          (also (R.recv-5 f a q m I)
-          (also (R.recv-6 f a q m I)
-          (also (R.recv-8 f a q m I)
-          (also (R.recv-10 f a q m I)
-          (also (R.recv-12 f a q m I)
-          (also (R.recv-14 f a q m I)
-          (also (R.recv-15 f a q m I)
-          (also (R.recv-17 f a q m I)
-          (also (R.recv-19 f a q m I)
-          (also (R.recv-21 f a q m I) tt)))))))))))));
+          (also (R.recv-1 a q m I)
+          (also (R.recv-3 a q m I)
+          (also (R.recv-4 a q m I)
+          (also (R.recv-5 a q m I)
+          (also (R.recv-6 a q m I)
+          (also (R.recv-8 a q m I)
+          (also (R.recv-10 a q m I)
+          (also (R.recv-12 a q m I)
+          (also (R.recv-14 a q m I)
+          (also (R.recv-15 a q m I)
+          (also (R.recv-17 a q m I)
+          (also (R.recv-19 a q m I)
+          (also (R.recv-21 a q m I) tt)))))))))))));
       send =
-          (also (R.send-3 f a q m I)
-          (also (R.send-4 f a q m I)
-          (also (R.send-5 f a q m I)
-          (also (R.send-6 f a q m I)
-          (also (R.send-8 f a q m I)
-          (also (R.send-10 f a q m I)
-          (also (R.send-12 f a q m I)
-          (also (R.send-14 f a q m I)
-          (also (R.send-15 f a q m I)
-          (also (R.send-17 f a q m I)
-          (also (R.send-19 f a q m I)
-          (also (R.send-21 f a q m I)
-          (also (R.send-22 f a q m I) tt)))))))))))));
-      last = R.last-22 f a q m I;
+          (also (R.send-3 a q m I)
+          (also (R.send-4 a q m I)
+          (also (R.send-5 a q m I)
+          (also (R.send-6 a q m I)
+          (also (R.send-8 a q m I)
+          (also (R.send-10 a q m I)
+          (also (R.send-12 a q m I)
+          (also (R.send-14 a q m I)
+          (also (R.send-15 a q m I)
+          (also (R.send-17 a q m I)
+          (also (R.send-19 a q m I)
+          (also (R.send-21 a q m I)
+          (also (R.send-22 a q m I) tt)))))))))))));
+      last = R.last-22 a q m I;
     }
 
   module _ (z : reason a ≡ 0) (b : ByteArgs a) (h : (k j : ℕ) → Bytes (m k j)) where
-    I : Given f a m
-    I = given a z (q 6 .r) (q 21 .perm) m b h
+    I : Given S
+    I = given S z b h
 
     start : AsTold table (f .n) (f .l) (f .i) U m q (duties I) (openedBox a)
     unfolding F.sent F.sent1
     start =
-        rw (spec-takes a f refl z)
-        (first table (f .n) (f .l) (f .i) U m q (duties I) _ (omega arith) refl refl (opened a z (q 6 .r) (q 21 .perm) m) refl)
+        rw (spec-takes a f refl z) (first table (f .n) (f .l) (f .i) U m q (duties I) _ (omega arith) refl refl (opened S z) refl)
 
     -- for every list of calls of which the accepted ones read m and are lent q
     pub told-alone : (cs : List Turn) → AllRead table (f .n) (f .l) (f .i) m q (openedBox a) cs
@@ -119,21 +120,23 @@ module _ (a : Args) (q : ℕ → Loan) (m : ℕ → ℕ → List ℕ) where
     told-alone cs r = all-told table (f .n) (f .l) (f .i) U m q (duties I) cs (openedBox a) start r
 
 -- ---- an echo without the rows of hashes
-echo-read : (f : Frame) (a : Args) (strings order : List ℕ) (m : ℕ → ℕ → List ℕ) (k r : ℕ)
-    → echoMsg (f .n) (f .i) (digests table k f (m k)) r ≡ F.echoOf f a strings order m k r
-unfolding echoMsg digests F.echoOf someItem noneItem
-echo-read f a strings order m k r =
-    encode-ext (f .n) _ _ (λ j lj. go j lj (neq (f .i) j) (apart? (f .i) j))
-  where
-    h : ℕ → List ℕ
-    h j = hashVec k (m k j)
+module _ (S : Seen) (k r : ℕ) where
+  open Seen S using (mail as m)
+  open Args (S .inputs) using (party as f)
 
-    go : (j : ℕ) → j < f .n → (b : Bool) → Same (f .i) j b
-        → pick (b && neq r j) (1 ∷ chunk 16 j (rowsOf f h)) (0 ∷ []) ≡ pick (b && neq r j) (1 ∷ h j) (0 ∷ [])
-    go j lj false s = refl
-    go j lj true (apart ne) =
-        ap (λ (x : List ℕ). pick (neq r j) (1 ∷ x) (0 ∷ []))
-        (chunk-rows f h (λ j lj ne. length-hashVec k (m k j)) j lj ne)
+  echo-read : echoMsg (f .n) (f .i) (digests table k f (m k)) r ≡ F.echoOf S k r
+  unfolding echoMsg digests F.echoOf someItem noneItem
+  echo-read = encode-ext (f .n) _ _ (λ j lj. go j lj (neq (f .i) j) (apart? (f .i) j))
+    where
+      h : ℕ → List ℕ
+      h j = hashVec k (m k j)
+
+      go : (j : ℕ) → j < f .n → (b : Bool) → Same (f .i) j b
+          → pick (b && neq r j) (1 ∷ chunk 16 j (rowsOf f h)) (0 ∷ []) ≡ pick (b && neq r j) (1 ∷ h j) (0 ∷ [])
+      go j lj false s = refl
+      go j lj true (apart ne) =
+          ap (λ (x : List ℕ). pick (neq r j) (1 ∷ x) (0 ∷ []))
+          (chunk-rows f h (λ j lj ne. length-hashVec k (m k j)) j lj ne)
 
 -- ---- THE CLAIM
 -- all that the calls were lent to read is bytes
@@ -194,11 +197,8 @@ module _ (a : Args) (cs : List Turn) where
   abbrev pub loans : ℕ → Loan
   loans = lentWith table n l i (openedBox a) cs
 
-  abbrev pub strings : List ℕ
-  strings = loans 6 .r
-
-  abbrev pub order : List ℕ
-  order = loans 21 .perm
+  abbrev pub seen : Seen
+  seen = R.seenBy a loans mail
 
   -- The moment up to which the sections are filled for sure: while an echo is due, a fault in the messages that it is about may still drop
   -- what was kept of them
@@ -209,24 +209,24 @@ module _ (a : Args) (cs : List Turn) where
   -- before; the results. A session that lives has that round due, and what each section that was filled by then holds is the formula's; one
   -- that is over has a work area of zeros.
   pub record Claim : Type 0 where
-    pub messages : number ≢ 0 → isEcho table number ≡ false → box .wrote ≡ toOthers n i (F.sent (a .party) a strings order mail number)
-    pub echoes : isEcho table number ≡ true → box .wrote ≡ toOthers n i (F.echoOf (a .party) a strings order mail (prior number))
-    pub results : number ≡ 0 → box .wrote ≡ F.result (a .party) a strings order mail
+    pub messages : number ≢ 0 → isEcho table number ≡ false → box .wrote ≡ toOthers n i (F.sent seen number)
+    pub echoes : isEcho table number ≡ true → box .wrote ≡ toOthers n i (F.echoOf seen (prior number))
+    pub results : number ≡ 0 → box .wrote ≡ F.result seen
     pub session-is : box .session .due ≢ 0 → box .session ≡ sessionOf n l i number
     pub sections : box .session .due ≢ 0 → (s : ℕ) → s < ROUNDS-OWN → since s ≤ sure
-        → at (a .party) s (box .work) ≡ holds (a .party) a strings order mail s
+        → at (a .party) s (box .work) ≡ holds seen s
     pub zeros : box .session .due ≡ 0 → box .work ≡ replicate (length (box .work)) 0
 
   never-echo-zero : isEcho table 0 ≡ false
   unfolding isEcho mem
   never-echo-zero = refl
 
-  claim : Told table n l i (tale (a .party) a strings order mail) mail loans box → Claim
+  claim : Told table n l i (tale seen) mail loans box → Claim
   unfolding wroteFor sureAt at echo
   claim t = record {
     messages = λ h e. t .wrote-is ∙ rw (ne-eqb number 0 h, e) refl;
     echoes = λ e. t .wrote-is ∙ rw (ne-eqb number 0 (some e), e)
-        (toOthers-ext n i _ _ (λ r lr nr. echo-read (a .party) a strings order mail (prior number) r));
+        (toOthers-ext n i _ _ (λ r lr nr. echo-read seen (prior number) r));
     results = λ z. t .wrote-is ∙ rw (eq-eqb number 0 z) refl;
     session-is = λ h. live h (t .state) .session-is;
     sections = λ h s ls le. live h (t .state) .known .has s ls (le-leb _ _ le);
@@ -236,12 +236,12 @@ module _ (a : Args) (cs : List Turn) where
       some : isEcho table number ≡ true → number ≢ 0
       some e z = true-false (sym e ∙ ap (isEcho table) z ∙ never-echo-zero)
 
-      live : box .session .due ≢ 0 → State table n l i (tale (a .party) a strings order mail) mail loans box
-          → Lives table n l i (tale (a .party) a strings order mail) mail loans box
+      live : box .session .due ≢ 0 → State table n l i (tale seen) mail loans box
+          → Lives table n l i (tale seen) mail loans box
       live h (lives x) = x
       live h (over x) = absurd (h (ap (λ (s : Session). s .due) (x .session-is)))
 
-      dead : box .session .due ≡ 0 → State table n l i (tale (a .party) a strings order mail) mail loans box
+      dead : box .session .due ≡ 0 → State table n l i (tale seen) mail loans box
           → box .work ≡ replicate (length (box .work)) 0
       dead z (lives x) = absurd (x .some (sym (ap (λ (s : Session). s .due) (x .session-is)) ∙ z))
       dead z (over x) = x .blank

@@ -1,5 +1,5 @@
--- Round 21, `dvalue`, in an honest run: the permutation is read back, every MAC of d fits, all boxes open the same d, and what TRIPLES holds is
--- read back as shares of an AND.
+-- Round 21, `dvalue`, in an honest run: the permutation is read back, every MAC of d fits, all boxes open the same d, and what TRIPLES
+-- holds is read back as shares of an AND.
 use mathlib.Core.Path.{_≡_, refl, sym, ap, ap₂, _∙_, subst}
 use mathlib.Core.Bool.{Bool, true}
 use mathlib.Core.Logic.{_≢_}
@@ -31,16 +31,13 @@ use Rattle.encode.specs.Coded.{ds, macs, length-ds, length-dvalue, coded-dvalue
 use Rattle.encode.specs.RoundTrip.{trip-whole, even-item}
 use Rattle.plan.specs.Plan.{kindOf, countDue, listLen, msgLen, leaky, bucketSize, bitsCount}
 use Rattle.plan.specs.PlanLaws.{bucket-high}
-use Rattle.engine.specs.Step.{frame}
 use Rattle.engine.specs.StepLaws.{by-none}
 use Rattle.engine.specs.Area.{mem}
 use Rattle.engine.specs.Sheet.{staysTest, Mail}
 use Rattle.engine.specs.Plain.{isEcho}
-use Rattle.engine.specs.Honest.{Script, before, due, plainAfter, RecvAt, SendAt}
+use Rattle.engine.specs.Honest.{before, due, plainAfter}
 use Rattle.rounds.specs.Area.{PERM, DS, sizes, sizeOf}
-use Rattle.rounds.specs.Opening.{Args}
 use Rattle.rounds.specs.Table.{judge, kept, held, written}
-use Rattle.honest.specs.Subject.{subject}
 use Rattle.rounds.specs.Haand.{x, y}
 use Rattle.rounds.specs.Buckets.{entry, later, d, dvalueMsg, bucketAt, dTold, dMacTold, dFaults, dOpened, leakyAnd, abc, tripleRow, tripleRows}
 use Rattle.rounds.specs.Buckets as B
@@ -49,8 +46,8 @@ use Rattle.alone.specs.Cells.{row-byte, row-block}
 use Rattle.alone.specs.BucketsLaws.{Ordered, length-perm, first-in, later-in, all-in, place-below, entry-read, combine-ext, SmallTriple}
 use Rattle.alone.specs.BucketsLaws as A
 use Rattle.honest.specs.Script as S
-use Rattle.honest.specs.Inputs.{Boxes, Inputs, deltas, small-bits}
-use Rattle.honest.specs.Base.{list-form, Fit, delta-is, bits-at, perm-at, keep-one, Reads}
+use Rattle.honest.specs.Inputs.{Run, box, Boxes, Inputs, deltas, small-bits}
+use Rattle.honest.specs.Base.{Receives, Sends, list-form, Fit, delta-is, bits-at, perm-at, keep-one, Reads}
 use Rattle.honest.specs.Values.{xOf, yOf, zOf, share-x, share-y, share-z, small-z, LeakyTriples}
 use Rattle.honest.specs.Combining.{sumX, sumZ, sum-triple, tripleOf, combined, small-sumX, small-sumZ}
 
@@ -126,24 +123,25 @@ module _ (l c : ℕ) (b : ℕ → ℕ → Bool) (x : ℕ → ℕ → Block) (sma
       ∙ dvalue-mac c (b j) (x j) e le s
 
 -- ---- the values
--- entry e of bucket j
-abbrev pub place : ℕ → List ℕ → ℕ → ℕ → ℕ
-place l order j e = getD order (j * bucketSize l + e) 0
-
 -- how many later entries a bucket has
 abbrev pub more : ℕ → ℕ
 more l = bucketSize l - 1
 
-module _ (n l : ℕ) (args : ℕ → Args) (strings order : List ℕ) where
-  -- the entries of bucket j
+module _ (R : Run) where
+  open Run R using (n, l, permutation)
+
+  -- entry e of bucket j
+  abbrev pub place : ℕ → ℕ → ℕ
+  place j e = getD permutation (j * bucketSize l + e) 0
+
   abbrev pub xIn : ℕ → ℕ → Shared Block
-  xIn j e = xOf n l args (place l order j e)
+  xIn j e = xOf R (place j e)
 
   abbrev pub yIn : ℕ → ℕ → Shared Block
-  yIn j e = yOf n l args (place l order j e)
+  yIn j e = yOf R (place j e)
 
   abbrev pub zIn : ℕ → ℕ → Shared Block
-  zIn j e = zOf n l args strings order (place l order j e)
+  zIn j e = zOf R (place j e)
 
   -- "d = first y + later y"
   abbrev pub dOf : ℕ → ℕ → Shared Block
@@ -168,45 +166,43 @@ open-all i n v own told li e h =
 pub passes : (code : ℕ) (b : Bool) → b ≡ true → pick b 0 code ≡ 0
 passes code b e = rw e refl
 
-module _ (n l : ℕ) (args : ℕ → Args) (strings order : List ℕ) (I : Inputs n l args order) where
-  abbrev run : Script
-  run = S.script n l args strings order
+module _ (R : Run) (I : Inputs R) where
+  open Run R using (n, l, inputs, permutation)
 
-  abbrev X : Boxes n l args
+  abbrev X : Boxes R
   X = I .boxes
 
   abbrev perm : ℕ → List ℕ
-  perm i = S.perms n l args strings order i
+  perm i = S.perms R i
 
   -- ---- the entries
-  ordered : Ordered l order
+  ordered : Ordered l permutation
   ordered = record { most = X .range .most; len = I .order-len; perm = I .order-perm }
 
-  pub entry-is : (i j e : ℕ) → j < l → e < bucketSize l → entry (frame n l i) (perm i) j e ≡ place l order j e
+  pub entry-is : (i j e : ℕ) → j < l → e < bucketSize l → entry (box R i) (perm i) j e ≡ place R j e
   unfolding S.perms
-  entry-is i j e lj le = entry-read (frame n l i) order ordered j e lj le
+  entry-is i j e lj le = entry-read (box R i) permutation ordered j e lj le
 
   -- ---- d
-  d-share : (i j e : ℕ) → j < l → e < more l → d (frame n l i) (args i .bits) (perm i) j e ≡ shareOf i (dOf n l args strings order j e)
+  d-share : (i j e : ℕ) → j < l → e < more l → d (box R i) (inputs i .bits) (perm i) j e ≡ shareOf i (dOf R j e)
   unfolding d
   d-share i j e lj le =
-      ap₂ (λ a b. shares .op (y (frame n l i) (args i .bits) a) (y (frame n l i) (args i .bits) b))
+      ap₂ (λ a b. shares .op (y (box R i) (inputs i .bits) a) (y (box R i) (inputs i .bits) b))
       (entry-is i j 0 lj (first-in l)) (entry-is i j (suc e) lj (later-in l e le))
-      ∙ sym (ap₂ (shares .op) (share-y n l args i (place l order j 0)) (share-y n l args i (place l order j (suc e))))
-      ∙ sym (share-of-op i (yIn n l args strings order j 0) (yIn n l args strings order j (suc e)))
+      ∙ sym (ap₂ (shares .op) (share-y R i (place R j 0)) (share-y R i (place R j (suc e))))
+      ∙ sym (share-of-op i (yIn R j 0) (yIn R j (suc e)))
 
-  pub good-y : (j e : ℕ) → j < l → e < bucketSize l → Good blocks n (deltas args) (yIn n l args strings order j e)
+  pub good-y : (j e : ℕ) → j < l → e < bucketSize l → Good blocks n (deltas R) (yIn R j e)
   unfolding bitsCount
-  good-y j e lj le = X .bits-mac (leaky l + place l order j e) (omega (arith, place-below (frame n l 0) order ordered j e lj le))
+  good-y j e lj le = X .bits-mac (leaky l + place R j e) (omega (arith, place-below (box R 0) permutation ordered j e lj le))
 
-  good-d : (j e : ℕ) → j < l → e < more l → Good blocks n (deltas args) (dOf n l args strings order j e)
+  good-d : (j e : ℕ) → j < l → e < more l → Good blocks n (deltas R) (dOf R j e)
   good-d j e lj le =
-      good-op blocks n (deltas args) (yIn n l args strings order j 0) (yIn n l args strings order j (suc e))
-      (good-y j 0 lj (first-in l)) (good-y j (suc e) lj (later-in l e le))
+      good-op blocks n (deltas R) (yIn R j 0) (yIn R j (suc e)) (good-y j 0 lj (first-in l)) (good-y j (suc e) lj (later-in l e le))
 
-  small-d : (i j e : ℕ) → i < n → SmallShare n (d (frame n l i) (args i .bits) (perm i) j e)
+  small-d : (i j e : ℕ) → i < n → SmallShare n (d (box R i) (inputs i .bits) (perm i) j e)
   unfolding d y
-  small-d i j e li = small-share-op n _ _ (small-bits n l args X i li _) (small-bits n l args X i li _)
+  small-d i j e li = small-share-op n _ _ (small-bits R X i li _) (small-bits R X i li _)
 
   -- ---- the messages
   pub l-small : l < 2 ^ 64
@@ -215,98 +211,97 @@ module _ (n l : ℕ) (args : ℕ → Args) (strings order : List ℕ) (I : Input
   more-small : more l < 2 ^ 64
   more-small = omega (arith, bucket-high l)
 
-  dvalue-len : (j r : ℕ) → length (S.sent21 n l args strings order j r) ≡ msgLen n l 21
+  dvalue-len : (j r : ℕ) → length (S.sent21 R j r) ≡ msgLen n l 21
   unfolding S.sent21 dvalueMsg later msgLen listLen kindOf countDue
   dvalue-len j r =
       length-encode (8 + more l + (8 + 16 * more l)) l _
       (λ t i. length-dvalue (more l) _ _ ∙ (let q : 16 + more l * 17 ≡ 8 + more l + (8 + 16 * more l) = omega arith in q))
 
-  dvalue-form : (j r : ℕ) → Reads (kindOf l 21) (countDue n l 21) (S.sent21 n l args strings order j r)
+  dvalue-form : (j r : ℕ) → Reads (kindOf l 21) (countDue n l 21) (S.sent21 R j r)
   unfolding S.sent21 dvalueMsg later kindOf countDue
   dvalue-form j r = list-form (Dvalues (more l)) l _ l-small (λ t i. coded-dvalue (more l) _ _ more-small)
 
   module _ (i k j e : ℕ) (li : i < n) (lk : k < n) (lj : j < l) (le : e < more l) (m : ℕ → List ℕ)
-      (h : m k ≡ S.sent21 n l args strings order k i) where
-    told : dTold (frame n l i) m k j e ≡ dOf n l args strings order j e .bit k
+      (h : m k ≡ S.sent21 R k i) where
+    told : dTold (box R i) m k j e ≡ dOf R j e .bit k
     unfolding dTold bucketAt later S.sent21 dvalueMsg shareOf
     told =
         ap (λ (s : List ℕ). odd (getD s (8 + j * (8 + more l + (8 + 16 * more l)) + 8 + e) 0)) h
-        ∙ bit-read l (more l) (λ j e. d (frame n l k) (args k .bits) (perm k) j e .bit)
-        (λ j e. d (frame n l k) (args k .bits) (perm k) j e .mac i) l-small more-small j e lj le
+        ∙ bit-read l (more l) (λ j e. d (box R k) (inputs k .bits) (perm k) j e .bit)
+        (λ j e. d (box R k) (inputs k .bits) (perm k) j e .mac i) l-small more-small j e lj le
         ∙ ap (λ (s : Share). s .bit) (d-share k j e lj le)
 
-    mac-told : dMacTold (frame n l i) m k j e ≡ dOf n l args strings order j e .mac k i
+    mac-told : dMacTold (box R i) m k j e ≡ dOf R j e .mac k i
     unfolding dMacTold bucketAt later S.sent21 dvalueMsg shareOf
     mac-told =
         ap (λ (s : List ℕ). blockAt s (8 + j * (8 + more l + (8 + 16 * more l)) + 8 + more l + 8 + e * 16)) h
-        ∙ mac-read l (more l) (λ j e. d (frame n l k) (args k .bits) (perm k) j e .bit)
-        (λ j e. d (frame n l k) (args k .bits) (perm k) j e .mac i) l-small more-small j e lj le (small-d k j e lk .mac i li)
+        ∙ mac-read l (more l) (λ j e. d (box R k) (inputs k .bits) (perm k) j e .bit)
+        (λ j e. d (box R k) (inputs k .bits) (perm k) j e .mac i) l-small more-small j e lj le (small-d k j e lk .mac i li)
         ∙ ap (λ (s : Share). s .mac i) (d-share k j e lj le)
 
     fits : i ≢ k
-        → dMacTold (frame n l i) m k j e
-        ≡ blocks .op (d (frame n l i) (args i .bits) (perm i) j e .key k) (sel blocks (dTold (frame n l i) m k j e) (deltas args i))
+        → dMacTold (box R i) m k j e
+        ≡ blocks .op (d (box R i) (inputs i .bits) (perm i) j e .key k) (sel blocks (dTold (box R i) m k j e) (deltas R i))
     unfolding shareOf
     fits ne =
         mac-told ∙ good-d j e lj le k i lk li (λ z. ne (sym z))
-        ∙ ap₂ (λ (a : Block) (b : Bool). blocks .op a (sel blocks b (deltas args i))) (ap (λ (s : Share). s .key k) (sym (d-share i j e lj le))) (sym told)
+        ∙ ap₂ (λ (a : Block) (b : Bool). blocks .op a (sel blocks b (deltas R i)))
+        (ap (λ (s : Share). s .key k) (sym (d-share i j e lj le))) (sym told)
 
-  d-passes : (i : ℕ) → i < n → (m : ℕ → List ℕ) → Mail n (S.sent21 n l args strings order) i m
-      → dFaults (frame n l i) (deltas args i) (args i .bits) (perm i) m .code ≡ 0
+  d-passes : (i : ℕ) → i < n → (m : ℕ → List ℕ) → Mail n (S.sent21 R) i m
+      → dFaults (box R i) (deltas R i) (inputs i .bits) (perm i) m .code ≡ 0
   unfolding dFaults later
   d-passes i li m M =
-      by-none (frame n l i) _ (λ k lk ne. passes 11 _
+      by-none (box R i) _ (λ k lk ne. passes 11 _
       (all-of l _ (λ j lj. all-of (more l) _ (λ e le. eq-block _ _ (fits i k j e li lk lj le m (M k lk ne) ne)))))
 
   -- ---- what is opened: all boxes have the XOR of all bits
-  opened-is : (i j e : ℕ) → i < n → j < l → e < more l → (m : ℕ → List ℕ) → Mail n (S.sent21 n l args strings order) i m
-      → dOpened (frame n l i) (args i .bits) (perm i) m j e ≡ total n (dOf n l args strings order j e)
+  opened-is : (i j e : ℕ) → i < n → j < l → e < more l → (m : ℕ → List ℕ) → Mail n (S.sent21 R) i m
+      → dOpened (box R i) (inputs i .bits) (perm i) m j e ≡ total n (dOf R j e)
   unfolding dOpened shareOf
   opened-is i j e li lj le m M =
-      open-all i n (dOf n l args strings order j e .bit) _ (λ k. dTold (frame n l i) m k j e) li (ap (λ (s : Share). s .bit) (d-share i j e lj le))
+      open-all i n (dOf R j e .bit) _ (λ k. dTold (box R i) m k j e) li (ap (λ (s : Share). s .bit) (d-share i j e lj le))
       (λ k lk ne. told i k j e li lk lj le m (M k lk ne))
 
-  ds-is : (i : ℕ) → i < n → (m : ℕ → List ℕ) → Mail n (S.sent21 n l args strings order) i m
-      → B.ds (frame n l i) (args i .bits) (perm i) m ≡ cat l (λ j. tab (more l) (λ e. num (total n (dOf n l args strings order j e))))
+  ds-is : (i : ℕ) → i < n → (m : ℕ → List ℕ) → Mail n (S.sent21 R) i m
+      → B.ds (box R i) (inputs i .bits) (perm i) m ≡ cat l (λ j. tab (more l) (λ e. num (total n (dOf R j e))))
   unfolding B.ds later
   ds-is i li m M =
       cat-ext l _ _ (λ j lj. tab-ext (more l) _ _ (λ e le. ap num (opened-is i j e li lj le m M)))
 
   -- what DS holds
-  pub ds-value : (i : ℕ) → i < n
-      → S.ds n l args strings order i ≡ cat l (λ j. tab (more l) (λ e. num (total n (dOf n l args strings order j e))))
+  pub ds-value : (i : ℕ) → i < n → S.ds R i ≡ cat l (λ j. tab (more l) (λ e. num (total n (dOf R j e))))
   unfolding S.ds
   ds-value i li = ds-is i li _ (λ k lk ne. refl)
 
-  pub ds-read : (i j e : ℕ) → i < n → j < l → e < more l
-      → odd (getD (S.ds n l args strings order i) (j * more l + e) 0) ≡ total n (dOf n l args strings order j e)
+  pub ds-read : (i j e : ℕ) → i < n → j < l → e < more l → odd (getD (S.ds R i) (j * more l + e) 0) ≡ total n (dOf R j e)
   ds-read i j e li lj le =
-      let row : ℕ → List ℕ = λ j. tab (more l) (λ e. num (total n (dOf n l args strings order j e))) in
+      let row : ℕ → List ℕ = λ j. tab (more l) (λ e. num (total n (dOf R j e))) in
       ap (λ (s : List ℕ). odd (getD s (j * more l + e) 0)) (ds-value i li)
       ∙ ap odd (row-byte (more l) l row (λ t lt. length-tab (more l) _) j e lj le ∙ getD-tab (more l) e _ 0 le)
-      ∙ odd-num (total n (dOf n l args strings order j e))
+      ∙ odd-num (total n (dOf R j e))
 
   -- ---- the round
-  fit-perm : Fit n l args strings order PERM
+  fit-perm : Fit R PERM
   unfolding S.holds S.perms sizeOf sizes
-  fit-perm = (omega arith, λ i li. length-perm (frame n l i) order)
+  fit-perm = (omega arith, λ i li. length-perm (box R i) permutation)
 
-  fit-ds : Fit n l args strings order DS
+  fit-ds : Fit R DS
   unfolding S.holds sizeOf sizes
   fit-ds = (
     omega arith,
     λ i li. ap length (ds-value i li) ∙ length-cat l (more l) _ (λ j lj. length-tab (more l) _),
   )
 
-  pub send-21 : SendAt subject run n l 21
+  pub send-21 : Sends R 21
   unfolding staysTest allOf mem S.since S.holds S.perms S.sent S.sent21 held written
   send-21 = record {
-    keeps = λ v i li w K. keep-one n l args strings order (before 21) (due 21) i li K PERM _ refl fit-perm refl;
+    keeps = λ v i li w K. keep-one R (before 21) (due 21) i li K PERM _ refl fit-perm refl;
     writes = λ v i r li lr ne w K.
-        ap₂ (λ (a b : List ℕ). dvalueMsg (frame n l i) a b r) (bits-at n l args strings order K) (perm-at n l args strings order K refl);
+        ap₂ (λ (a b : List ℕ). dvalueMsg (box R i) a b r) (bits-at R K) (perm-at R K refl);
   }
 
-  pub recv-21 : RecvAt subject run n l 21
+  pub recv-21 : Receives R 21
   unfolding plainAfter isEcho mem staysTest allOf S.since S.holds S.sent judge kept
   recv-21 = record {
     heard = record {
@@ -314,39 +309,38 @@ module _ (n l : ℕ) (args : ℕ → Args) (strings order : List ℕ) (I : Input
       formed = λ i j li lj ne. dvalue-form j i .form-is;
       whole = λ i j li lj ne. dvalue-form j i .list-is;
       judged = λ i li w K m M.
-          (λ q. dFaults (frame n l i) (delta-is n l args strings order K q) (bits-at n l args strings order K q)
-          (perm-at n l args strings order K refl q) m .code)
+          (λ q. dFaults (box R i) (delta-is R K q) (bits-at R K q) (perm-at R K refl q) m .code)
           ∙ d-passes i li m M;
     };
-    keeps = λ i li w K m M. keep-one n l args strings order (due 21) (before 22) i li K DS _ refl fit-ds
-        (ap₂ (λ (a b : List ℕ). B.ds (frame n l i) a b m) (bits-at n l args strings order K) (perm-at n l args strings order K refl)
+    keeps = λ i li w K m M. keep-one R (due 21) (before 22) i li K DS _ refl fit-ds
+        (ap₂ (λ (a b : List ℕ). B.ds (box R i) a b m) (bits-at R K) (perm-at R K refl)
         ∙ ds-is i li m M ∙ sym (ds-value i li));
   }
 
   -- ---- what TRIPLES holds
   abbrev xs : ℕ → ℕ → Shared Block
-  xs = xIn n l args strings order
+  xs = xIn R
 
   abbrev ys : ℕ → ℕ → Shared Block
-  ys = yIn n l args strings order
+  ys = yIn R
 
   abbrev zs : ℕ → ℕ → Shared Block
-  zs = zIn n l args strings order
+  zs = zIn R
 
   abbrev opened : ℕ → ℕ → Bool
-  opened j e = total n (dOf n l args strings order j e)
+  opened j e = total n (dOf R j e)
 
   abbrev own : ℕ → ℕ → B.Triple
-  own i = abc (frame n l i) (deltas args i) (args i .bits) (S.zRows n l args strings order i) (S.es n l args strings order i) (perm i)
-      (S.ds n l args strings order i)
+  own i = abc (box R i) (deltas R i) (inputs i .bits) (S.zRows R i) (S.es R i) (perm i)
+      (S.ds R i)
 
   -- each box combines its shares of a and c
   abc-is : (i j : ℕ) → i < n → j < l
       → own i j
       ≡ record {
-        tx = shareOf i (aOf n l args strings order j);
-        ty = shareOf i (bOf n l args strings order j);
-        tz = shareOf i (cOf n l args strings order j);
+        tx = shareOf i (aOf R j);
+        ty = shareOf i (bOf R j);
+        tz = shareOf i (cOf R j);
       }
   unfolding abc later leakyAnd
   abc-is i j li lj =
@@ -355,65 +349,62 @@ module _ (n l : ℕ) (args : ℕ → Args) (strings order : List ℕ) (I : Input
     where
       at-place : ℕ → B.Triple
       at-place t = record {
-        tx = x (frame n l i) (args i .bits) t;
-        ty = y (frame n l i) (args i .bits) t;
-        tz = B.zShare (frame n l i) (deltas args i) (args i .bits) (S.zRows n l args strings order i) (S.es n l args strings order i) t;
+        tx = x (box R i) (inputs i .bits) t;
+        ty = y (box R i) (inputs i .bits) t;
+        tz = B.zShare (box R i) (deltas R i) (inputs i .bits) (S.zRows R i) (S.es R i) t;
       }
 
       entry-triple : (e : ℕ) → e < suc (more l)
-          → leakyAnd (frame n l i) (deltas args i) (args i .bits) (S.zRows n l args strings order i) (S.es n l args strings order i) (perm i) j e
+          → leakyAnd (box R i) (deltas R i) (inputs i .bits) (S.zRows R i) (S.es R i) (perm i) j e
           ≡ tripleOf (xs j) (ys j) (zs j) (opened j) i e
       entry-triple e le =
           ap at-place (entry-is i j e lj (all-in l e le))
           ∙ (λ q. record {
-            tx = sym (share-x n l args i (place l order j e)) q;
-            ty = sym (share-y n l args i (place l order j e)) q;
-            tz = sym (share-z n l args strings order i (place l order j e)) q;
+            tx = sym (share-x R i (place R j e)) q;
+            ty = sym (share-y R i (place R j e)) q;
+            tz = sym (share-z R i (place R j e)) q;
           })
 
-  pub length-triples : (i : ℕ) → length (S.tripleRows n l args strings order i) ≡ l * (2 * recordLen n)
+  pub length-triples : (i : ℕ) → length (S.tripleRows R i) ≡ l * (2 * recordLen n)
   unfolding S.tripleRows B.tripleRows
-  length-triples i = A.length-triples (frame n l i) (own i)
+  length-triples i = A.length-triples (box R i) (own i)
 
-  pub bytes-triples : (i : ℕ) → Bytes (S.tripleRows n l args strings order i)
+  pub bytes-triples : (i : ℕ) → Bytes (S.tripleRows R i)
   unfolding S.tripleRows tripleRows tripleRow
   bytes-triples i = bytes-cat l _ (λ j lj.
-      bytes-append (recordOf n i (own i j .tx)) (recordOf n i (own i j .tz)) (bytes-recordOf n i (own i j .tx)) (bytes-recordOf n i (own i j .tz)))
+      bytes-append (recordOf n i (own i j .tx)) (recordOf n i (own i j .tz))
+      (bytes-recordOf n i (own i j .tx)) (bytes-recordOf n i (own i j .tz)))
 
   small-x : (i j e : ℕ) → i < n → SmallShare n (shareOf i (xs j e))
   unfolding x
-  small-x i j e li = rw (share-x n l args i (place l order j e)) (small-bits n l args X i li _)
+  small-x i j e li = rw (share-x R i (place R j e)) (small-bits R X i li _)
 
-  pub small-a : (i j : ℕ) → i < n → SmallShare n (shareOf i (aOf n l args strings order j))
+  pub small-a : (i j : ℕ) → i < n → SmallShare n (shareOf i (aOf R j))
   small-a i j li = small-sumX (xs j) (ys j) (zs j) (opened j) n i (more l) (λ e le. small-x i j e li)
 
-  pub small-c : (i j : ℕ) → i < n → SmallShare n (shareOf i (cOf n l args strings order j))
+  pub small-c : (i j : ℕ) → i < n → SmallShare n (shareOf i (cOf R j))
   small-c i j li =
-      small-sumZ (xs j) (ys j) (zs j) (opened j) n i (more l) (λ e le. small-x i j e li)
-      (λ e le. small-z n l args strings order X i li (place l order j e))
+      small-sumZ (xs j) (ys j) (zs j) (opened j) n i (more l) (λ e le. small-x i j e li) (λ e le. small-z R X i li (place R j e))
 
   -- read back
   small-own : (i j : ℕ) → i < n → j < l → SmallTriple n (own i j)
   small-own i j li lj =
       subst (SmallTriple n) (sym (abc-is i j li lj)) (record { tx = small-a i j li; tz = small-c i j li })
 
-  pub a-read : (i j : ℕ) → i < n → j < l
-      → Agree n i (Beaver.a (frame n l i) (S.tripleRows n l args strings order i) j) (shareOf i (aOf n l args strings order j))
+  pub a-read : (i j : ℕ) → i < n → j < l → Agree n i (Beaver.a (box R i) (S.tripleRows R i) j) (shareOf i (aOf R j))
   unfolding S.tripleRows tripleRows
   a-read i j li lj =
-      subst (λ (g : B.Triple). Agree n i (Beaver.a (frame n l i) (S.tripleRows n l args strings order i) j) (g .tx)) (abc-is i j li lj)
-      (A.a-read (frame n l i) (own i) j lj (small-own i j li lj))
+      subst (λ (g : B.Triple). Agree n i (Beaver.a (box R i) (S.tripleRows R i) j) (g .tx)) (abc-is i j li lj)
+      (A.a-read (box R i) (own i) j lj (small-own i j li lj))
 
-  pub c-read : (i j : ℕ) → i < n → j < l
-      → Agree n i (Beaver.c (frame n l i) (S.tripleRows n l args strings order i) j) (shareOf i (cOf n l args strings order j))
+  pub c-read : (i j : ℕ) → i < n → j < l → Agree n i (Beaver.c (box R i) (S.tripleRows R i) j) (shareOf i (cOf R j))
   unfolding S.tripleRows tripleRows
   c-read i j li lj =
-      subst (λ (g : B.Triple). Agree n i (Beaver.c (frame n l i) (S.tripleRows n l args strings order i) j) (g .tz)) (abc-is i j li lj)
-      (A.c-read (frame n l i) (own i) j lj (small-own i j li lj))
+      subst (λ (g : B.Triple). Agree n i (Beaver.c (box R i) (S.tripleRows R i) j) (g .tz)) (abc-is i j li lj)
+      (A.c-read (box R i) (own i) j lj (small-own i j li lj))
 
   -- c is the AND of a and b
-  pub abc-triple : LeakyTriples n l args strings order → (j : ℕ) → j < l
-      → Triple blocks n (deltas args) (aOf n l args strings order j) (bOf n l args strings order j) (cOf n l args strings order j)
+  pub abc-triple : LeakyTriples R → (j : ℕ) → j < l → Triple blocks n (deltas R) (aOf R j) (bOf R j) (cOf R j)
   abc-triple L j lj =
-      sum-triple (xs j) (ys j) (zs j) (opened j) n (deltas args) (more l) (λ e le. L (place l order j e) (place-below (frame n l 0) order ordered j e lj (all-in l e le)))
-      (λ e le. refl)
+      sum-triple (xs j) (ys j) (zs j) (opened j) n (deltas R) (more l)
+      (λ e le. L (place R j e) (place-below (box R 0) permutation ordered j e lj (all-in l e le))) (λ e le. refl)

@@ -1,5 +1,5 @@
--- Combining leaky ANDs step by step, seen over all boxes: the combined x and z are shared bits, each box has its share of them, and with the
--- opened d a bucket of ANDs is an AND.
+-- Combining leaky ANDs step by step, seen over all boxes: the combined x and z are shared bits, each box has its share of them, and with
+-- the opened d a bucket of ANDs is an AND.
 use mathlib.Core.Path.{_≡_, refl, sym, ap, ap₂, _∙_}
 use mathlib.Core.Bool.{Bool}
 use Prim.Native.Nat.{ℕ, zero, suc, _<_}

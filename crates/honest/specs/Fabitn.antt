@@ -21,101 +21,99 @@ use Rattle.share.specs.RecordLaws.{small-mac, small-key}
 use Rattle.message.specs.declared.Kind.the-variants.{Items}
 use Rattle.encode.specs.Coded.{length-bitBlock}
 use Rattle.plan.specs.Plan.{kindOf, countDue, msgLen, bitsCount}
-use Rattle.engine.specs.Step.{frame}
 use Rattle.engine.specs.StepLaws.{by-none}
 use Rattle.engine.specs.Area.{mem}
 use Rattle.engine.specs.Sheet.{staysTest}
 use Rattle.engine.specs.Plain.{isEcho}
-use Rattle.engine.specs.Honest.{Script, before, due, plainAfter, RecvAt, SendAt, ListAt}
+use Rattle.engine.specs.Honest.{before, due, plainAfter}
 use Rattle.rounds.specs.Area.{KEY-SUMS, sizes, sizeOf}
-use Rattle.rounds.specs.Opening.{Args}
 use Rattle.rounds.specs.Table.{judge, kept, held, written}
-use Rattle.honest.specs.Subject.{subject}
 use Rattle.rounds.specs.Fabitn.{picks, bitSum, macSum, keySum, abitMsg, keySums, abitFault, abits}
 use Rattle.rounds.specs.EchoLaws.{length-hashVec}
 use Rattle.honest.specs.Script as S
-use Rattle.honest.specs.Inputs.{Boxes, deltas, bitsOf}
-use Rattle.honest.specs.Base.{first-none, list-len, Fit, delta-is, bits-at, key-sums-at, keep-none, keep-one, Reads, reads}
+use Rattle.honest.specs.Inputs.{Run, box, Boxes, deltas, bitsOf}
+use Rattle.honest.specs.Base.{Receives, Sends, Hashes, first-none, list-len, Fit, delta-is, bits-at, key-sums-at, keep-none, keep-one, Reads, reads}
 use Rattle.alone.specs.Cells.{length-cells, cell}
 use Rattle.honest.specs.Firsts.{pairs-trip, bit-read, block-read, hash-bits}
 
-module _ (n l : ℕ) (args : ℕ → Args) (strings order : List ℕ) (X : Boxes n l args) where
-  abbrev run : Script
-  run = S.script n l args strings order
+module _ (R : Run) (X : Boxes R) where
+  open Run R using (n, l, inputs, strings)
 
   -- the sums of box b, for string j; those of MACs and of keys are for box k
   abbrev bitOf : ℕ → ℕ → Bool
-  bitOf b j = bitSum (frame n l b) strings (args b .bits) j
+  bitOf b j = bitSum (box R b) strings (inputs b .bits) j
 
   abbrev macOf : ℕ → ℕ → ℕ → Block
-  macOf b k j = macSum (frame n l b) strings (args b .bits) k j
+  macOf b k j = macSum (box R b) strings (inputs b .bits) k j
 
   abbrev keyOf : ℕ → ℕ → ℕ → Block
-  keyOf b k j = keySum (frame n l b) strings (args b .bits) k j
+  keyOf b k j = keySum (box R b) strings (inputs b .bits) k j
 
   small-mac-sum : (b k j : ℕ) → b < n → Small (macOf b k j)
   unfolding macSum
   small-mac-sum b k j lb =
       small-sum (bitsCount l) _
-      (λ t lt. small-sel (picks (frame n l b) strings j t) _ (small-mac (args b .bits) (X .own b lb .bits-bytes) (t * recordLen n) k))
+      (λ t lt. small-sel (picks (box R b) strings j t) _ (small-mac (inputs b .bits) (X .own b lb .bits-bytes) (t * recordLen n) k))
 
   small-key-sum : (b k j : ℕ) → b < n → Small (keyOf b k j)
   unfolding keySum
   small-key-sum b k j lb =
       small-sum (bitsCount l) _
-      (λ t lt. small-sel (picks (frame n l b) strings j t) _ (small-key (args b .bits) (X .own b lb .bits-bytes) (t * recordLen n) k))
+      (λ t lt. small-sel (picks (box R b) strings j t) _ (small-key (inputs b .bits) (X .own b lb .bits-bytes) (t * recordLen n) k))
 
   -- the MAC rule of the sums
-  sums-agree : (b k j : ℕ) → b < n → k < n → b ≢ k → macOf b k j ≡ blocks .op (keyOf k b j) (sel blocks (bitOf b j) (deltas args k))
+  sums-agree : (b k j : ℕ) → b < n → k < n → b ≢ k → macOf b k j ≡ blocks .op (keyOf k b j) (sel blocks (bitOf b j) (deltas R k))
   unfolding macSum keySum bitSum picks sharedAt
-  sums-agree b k j lb lk ne = chosen blocks n (deltas args) (bitsCount l) (picks (frame n l b) strings j) (bitsOf n args) (X .bits-mac) b k lb lk ne
+  sums-agree b k j lb lk ne = chosen blocks n (deltas R) (bitsCount l) (picks (box R b) strings j) (bitsOf R) (X .bits-mac) b k lb lk ne
 
   -- ---- the messages
-  abit-len : (j r : ℕ) → length (abitMsg (frame n l j) strings (args j .bits) r) ≡ msgLen n l 6
+  abit-len : (j r : ℕ) → length (abitMsg (box R j) strings (inputs j .bits) r) ≡ msgLen n l 6
   unfolding abitMsg msgLen kindOf countDue
   abit-len j r = list-len n 17 1 120 _ (λ t i. length-bitBlock (bitOf j t) (macOf j r t))
 
-  abit-form : (j r : ℕ) → Reads (kindOf l 6) (countDue n l 6) (abitMsg (frame n l j) strings (args j .bits) r)
+  abit-form : (j r : ℕ) → Reads (kindOf l 6) (countDue n l 6) (abitMsg (box R j) strings (inputs j .bits) r)
   unfolding abitMsg kindOf countDue
   abit-form j r = reads (Items 17 1) 120 _ (pairs-trip 120 (bitOf j) (macOf j r) (omega arith))
 
   -- ---- the sums of keys
-  fit-key-sums : Fit n l args strings order KEY-SUMS
+  fit-key-sums : Fit R KEY-SUMS
   unfolding S.holds S.keySums keySums sizeOf sizes
-  fit-key-sums = (omega arith, λ i li. length-cells (frame n l i) 120 16 (λ k j. bytesOf (keyOf i k j)) (λ k j lk ne lj. length-bytesOf (keyOf i k j)))
+  fit-key-sums = (
+    omega arith,
+    λ i li. length-cells (box R i) 120 16 (λ k j. bytesOf (keyOf i k j)) (λ k j lk ne lj. length-bytesOf (keyOf i k j)),
+  )
 
   key-read : (i k j : ℕ) → i < n → k < n → i ≢ k → j < 120
-      → blockAt (keySums (frame n l i) strings (args i .bits)) ((k * 120 + j) * 16) ≡ keyOf i k j
+      → blockAt (keySums (box R i) strings (inputs i .bits)) ((k * 120 + j) * 16) ≡ keyOf i k j
   unfolding keySums
   key-read i k j li lk ne lj =
       block-here _ ((k * 120 + j) * 16) (keyOf i k j)
-      (cell (frame n l i) 120 16 (λ k j. bytesOf (keyOf i k j)) (λ k j lk ne lj. length-bytesOf (keyOf i k j)) k j lk ne lj)
+      (cell (box R i) 120 16 (λ k j. bytesOf (keyOf i k j)) (λ k j lk ne lj. length-bytesOf (keyOf i k j)) k j lk ne lj)
       (small-key-sum i k j li)
 
   -- ---- the check
   passes : (x y : Block) → x ≡ y → _≡_ {A = ℕ} (pick (eqBlock x y) 0 8) 0
   passes x y e = rw (eq-block x y e) refl
 
-  abit-passes : (i j : ℕ) (m : ℕ → List ℕ) → i < n → j < 120 → (k : ℕ) → k < n → i ≢ k → m k ≡ abitMsg (frame n l k) strings (args k .bits) i
-      → abitFault (deltas args i) (keySums (frame n l i) strings (args i .bits)) m j k ≡ 0
+  abit-passes : (i j : ℕ) (m : ℕ → List ℕ) → i < n → j < 120 → (k : ℕ) → k < n → i ≢ k → m k ≡ abitMsg (box R k) strings (inputs k .bits) i
+      → abitFault (deltas R i) (keySums (box R i) strings (inputs i .bits)) m j k ≡ 0
   unfolding abitFault abitMsg
   abit-passes i j m li lj k lk ne e =
       passes _ _
       (ap (λ (x : List ℕ). blockAt x (8 + j * 17 + 1)) e ∙ block-read 120 (bitOf k) (macOf k i) (omega arith) j lj (small-mac-sum k i j lk)
       ∙ sums-agree k i j lk li (λ p. ne (sym p))
-      ∙ ap₂ (λ (x : Block) (b : Bool). blocks .op x (sel blocks b (deltas args i))) (sym (key-read i k j li lk ne lj))
+      ∙ ap₂ (λ (x : Block) (b : Bool). blocks .op x (sel blocks b (deltas R i))) (sym (key-read i k j li lk ne lj))
       (sym (ap (λ (x : List ℕ). odd (getD x (8 + j * 17) 0)) e ∙ bit-read 120 (bitOf k) (macOf k i) (omega arith) j lj)))
 
   -- ---- the round
-  pub send-6 : SendAt subject run n l 6
+  pub send-6 : Sends R 6
   unfolding staysTest allOf mem S.since S.holds S.keySums S.sent S.sent6 held written
   send-6 = record {
-    keeps = λ v i li w K. keep-one n l args strings order (before 6) (due 6) i li K KEY-SUMS _ refl fit-key-sums
-        (ap (keySums (frame n l i) strings) (bits-at n l args strings order K));
-    writes = λ v i r li lr ne w K. ap (λ (x : List ℕ). abitMsg (frame n l i) strings x r) (bits-at n l args strings order K);
+    keeps = λ v i li w K. keep-one R (before 6) (due 6) i li K KEY-SUMS _ refl fit-key-sums (ap (keySums (box R i) strings) (bits-at R K));
+    writes = λ v i r li lr ne w K. ap (λ (x : List ℕ). abitMsg (box R i) strings x r) (bits-at R K);
   }
 
-  pub recv-6 : RecvAt subject run n l 6
+  pub recv-6 : Receives R 6
   unfolding plainAfter isEcho mem staysTest allOf S.since S.sent S.sent6 S.keySums judge kept abits
   recv-6 = record {
     heard = record {
@@ -123,14 +121,14 @@ module _ (n l : ℕ) (args : ℕ → Args) (strings order : List ℕ) (X : Boxes
       formed = λ i j li lj ne. abit-form j i .form-is;
       whole = λ i j li lj ne. abit-form j i .list-is;
       judged = λ i li w K m M.
-          ap₂ (λ (d : Block) (x : List ℕ). abits (frame n l i) d x m .code) (delta-is n l args strings order K) (key-sums-at n l args strings order K refl)
-          ∙ first-none 120 _ (λ j lj. by-none (frame n l i) _ (λ k lk ne. abit-passes i j m li lj k lk ne (M k lk ne)));
+          ap₂ (λ (d : Block) (x : List ℕ). abits (box R i) d x m .code) (delta-is R K) (key-sums-at R K refl)
+          ∙ first-none 120 _ (λ j lj. by-none (box R i) _ (λ k lk ne. abit-passes i j m li lj k lk ne (M k lk ne)));
     };
-    keeps = λ i li w K m M. keep-none n l args strings order (due 6) (before 8) i li K refl;
+    keeps = λ i li w K m M. keep-none R (due 6) (before 8) i li K refl;
   }
 
   -- every receiver hashes the list of the bits
-  pub list-6 : ListAt subject run n l 6
+  pub list-6 : Hashes R 6
   unfolding S.hashed S.sent S.sent6 abitMsg kindOf
   list-6 = record {
     size = λ j lj. length-hashVec 6 _;

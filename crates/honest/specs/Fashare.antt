@@ -1,5 +1,5 @@
--- Rounds 8, 10 and 12, `fashare`, in an honest run: every dm is as long as it should and begins with a bit, and what a box opens is the XOR of
--- all MACs for it, and one of the two Blocks that it committed to.
+-- Rounds 8, 10 and 12, `fashare`, in an honest run: every dm is as long as it should and begins with a bit, and what a box opens is the
+-- XOR of all MACs for it, and one of the two Blocks that it committed to.
 use mathlib.Core.Path.{_≡_, refl, sym, ap, ap₂, _∙_, subst}
 use mathlib.Core.Bool.{Bool, true, false, _||_}
 use mathlib.Core.Logic.{_≢_}
@@ -36,24 +36,21 @@ use Rattle.encode.specs.RoundTrip.{Trip, trip-whole, even-item}
 use Rattle.plan.specs.Plan.{kindOf, countDue, listLen, msgLen, leaky, bitsCount, dmLen}
 use Rattle.plan.specs.Plan as Plan
 use Rattle.engine.specs.declared.Frame.{Frame}
-use Rattle.engine.specs.Step.{frame}
 use Rattle.engine.specs.StepLaws.{by-none}
 use Rattle.engine.specs.Area.{mem, get-get}
 use Rattle.engine.specs.Sheet.{staysTest}
 use Rattle.engine.specs.Plain.{isEcho}
-use Rattle.engine.specs.Honest.{Script, before, due, plainAfter, RecvAt, SendAt, ListAt}
+use Rattle.engine.specs.Honest.{before, due, plainAfter}
 use Rattle.rounds.specs.Area.{SHARE-COMMS, DMS, sizes, sizeOf, rows}
-use Rattle.rounds.specs.Opening.{Args}
 use Rattle.rounds.specs.Table.{judge, kept, held, written}
-use Rattle.honest.specs.Subject.{subject}
 use Rattle.rounds.specs.Fashare.{own, d0, d1, dm, dmMac, commMsg, commRows, verMsg, dmAt, dmFault, dmFaults, dmRows, dmRow, others1, dibiMsg, macsFor, dibiFault, dibiFaults}
 use Rattle.alone.specs.Base.{rows-ext}
 use Rattle.alone.specs.FashareLaws.{dm-some}
 use Rattle.rounds.specs.FashareLaws.{length-hash}
 use Rattle.rounds.specs.EchoLaws.{length-hashVec}
 use Rattle.honest.specs.Script as S
-use Rattle.honest.specs.Inputs.{Boxes, deltas, bitsOf}
-use Rattle.honest.specs.Base.{first-none, list-form, list-len, Fit, delta-is, bits-at, share-comms-at, dms-at, keep-none, keep-one, Reads, reads}
+use Rattle.honest.specs.Inputs.{Run, box, Boxes, deltas, bitsOf}
+use Rattle.honest.specs.Base.{Receives, Sends, Hashes, first-none, list-form, list-len, Fit, delta-is, bits-at, share-comms-at, dms-at, keep-none, keep-one, Reads, reads}
 use Rattle.alone.specs.Cells.{head-part, items-row, length-cells, cell}
 
 -- ---- the commitments
@@ -200,57 +197,56 @@ one-opens a δ d false c c′ e h h′ =
 one-opens a δ d true c c′ e h h′ =
     either (same? (hash (bytesOf d)) c) _ (same-eq _ c′ (ap (λ (x : Block). hash (bytesOf x)) e ∙ sym h′))
 
-module _ (n l : ℕ) (args : ℕ → Args) (strings order : List ℕ) (X : Boxes n l args) where
-  abbrev run : Script
-  run = S.script n l args strings order
+module _ (R : Run) (X : Boxes R) where
+  open Run R using (n, l, inputs)
 
   -- ---- round 8
   -- what box b commits to for string q
   abbrev commits : ℕ → ℕ → List ℕ
-  commits b q = hashes (frame n l b) (deltas args b) (args b .bits) q
+  commits b q = hashes (box R b) (deltas R b) (inputs b .bits) q
 
   comms-are : (i : ℕ) (m : ℕ → List ℕ)
-      → ((k : ℕ) → k < n → i ≢ k → m k ≡ commMsg (frame n l k) (deltas args k) (args k .bits))
-      → commRows (frame n l i) m ≡ rows (frame n l i) (40 * 96) (λ k. cat 40 (commits k))
+      → ((k : ℕ) → k < n → i ≢ k → m k ≡ commMsg (box R k) (deltas R k) (inputs k .bits))
+      → commRows (box R i) m ≡ rows (box R i) (40 * 96) (λ k. cat 40 (commits k))
   unfolding commRows
   comms-are i m M =
-      rows-ext (frame n l i) (40 * 96) _ _
-      (λ k lk ne. ap (λ (x : List ℕ). take (40 * 96) (drop 8 x)) (M k lk ne) ∙ comm-row (frame n l k) (deltas args k) (args k .bits))
+      rows-ext (box R i) (40 * 96) _ _
+      (λ k lk ne. ap (λ (x : List ℕ). take (40 * 96) (drop 8 x)) (M k lk ne) ∙ comm-row (box R k) (deltas R k) (inputs k .bits))
 
-  share-comms-are : (i : ℕ) → S.shareComms n l args strings order i ≡ rows (frame n l i) (40 * 96) (λ k. cat 40 (commits k))
+  share-comms-are : (i : ℕ) → S.shareComms R i ≡ rows (box R i) (40 * 96) (λ k. cat 40 (commits k))
   unfolding S.shareComms S.sent8
   share-comms-are i = comms-are i _ (λ k lk ne. refl)
 
-  fit-share-comms : Fit n l args strings order SHARE-COMMS
+  fit-share-comms : Fit R SHARE-COMMS
   unfolding S.holds sizeOf sizes
   fit-share-comms = (
     omega arith,
     λ i li. ap length (share-comms-are i)
-        ∙ length-cells (frame n l i) 40 96 commits (λ k q lk ne lq. length-hashes (frame n l k) (deltas args k) (args k .bits) q),
+        ∙ length-cells (box R i) 40 96 commits (λ k q lk ne lq. length-hashes (box R k) (deltas R k) (inputs k .bits) q),
   )
 
-  pub send-8 : SendAt subject run n l 8
+  pub send-8 : Sends R 8
   unfolding staysTest allOf mem S.since S.sent S.sent8 held written
   send-8 = record {
-    keeps = λ v i li w K. keep-none n l args strings order (before 8) (due 8) i li K refl;
+    keeps = λ v i li w K. keep-none R (before 8) (due 8) i li K refl;
     writes = λ v i r li lr ne w K.
-        ap₂ (commMsg (frame n l i)) (delta-is n l args strings order K) (bits-at n l args strings order K);
+        ap₂ (commMsg (box R i)) (delta-is R K) (bits-at R K);
   }
 
-  pub recv-8 : RecvAt subject run n l 8
+  pub recv-8 : Receives R 8
   unfolding plainAfter isEcho mem staysTest allOf S.since S.holds S.sent S.sent8 judge kept
   recv-8 = record {
     heard = record {
-      lens = λ j r lj lr ne. comm-len (frame n l j) (deltas args j) (args j .bits) n l;
-      formed = λ i j li lj ne. comm-form (frame n l j) (deltas args j) (args j .bits) n l .form-is;
-      whole = λ i j li lj ne. comm-form (frame n l j) (deltas args j) (args j .bits) n l .list-is;
+      lens = λ j r lj lr ne. comm-len (box R j) (deltas R j) (inputs j .bits) n l;
+      formed = λ i j li lj ne. comm-form (box R j) (deltas R j) (inputs j .bits) n l .form-is;
+      whole = λ i j li lj ne. comm-form (box R j) (deltas R j) (inputs j .bits) n l .list-is;
       judged = λ i li w K m M. refl;
     };
-    keeps = λ i li w K m M. keep-one n l args strings order (due 8) (before 10) i li K SHARE-COMMS _ refl fit-share-comms
+    keeps = λ i li w K m M. keep-one R (due 8) (before 10) i li K SHARE-COMMS _ refl fit-share-comms
         (comms-are i m M ∙ sym (share-comms-are i));
   }
 
-  pub list-8 : ListAt subject run n l 8
+  pub list-8 : Hashes R 8
   unfolding S.hashed S.sent S.sent8
   list-8 = record {
     size = λ j lj. length-hashVec 8 _;
@@ -259,59 +255,58 @@ module _ (n l : ℕ) (args : ℕ → Args) (strings order : List ℕ) (X : Boxes
 
   -- ---- round 10
   abbrev dmOf : ℕ → ℕ → List ℕ
-  dmOf b q = dm (frame n l b) (args b .bits) q
+  dmOf b q = dm (box R b) (inputs b .bits) q
 
-  dms-are : (i : ℕ) (m : ℕ → List ℕ) → ((k : ℕ) → k < n → i ≢ k → m k ≡ verMsg (frame n l k) (args k .bits))
-      → dmRows (frame n l i) m ≡ rows (frame n l i) (40 * dmLen n) (λ k. cat 40 (dmOf k))
+  dms-are : (i : ℕ) (m : ℕ → List ℕ) → ((k : ℕ) → k < n → i ≢ k → m k ≡ verMsg (box R k) (inputs k .bits))
+      → dmRows (box R i) m ≡ rows (box R i) (40 * dmLen n) (λ k. cat 40 (dmOf k))
   unfolding dmRows
   dms-are i m M =
-      rows-ext (frame n l i) (40 * dmLen n) _ _
+      rows-ext (box R i) (40 * dmLen n) _ _
       (λ k lk ne. cat-ext 40 _ _ (λ q lq. ap (λ (x : List ℕ). take (dmLen n) (drop (dmAt x q) x)) (M k lk ne)
-      ∙ ver-bytes (frame n l k) (args k .bits) (X .range .eight) q lq))
+      ∙ ver-bytes (box R k) (inputs k .bits) (X .range .eight) q lq))
 
-  kept-dms : (i : ℕ) → S.dms n l args strings order i ≡ rows (frame n l i) (40 * dmLen n) (λ k. cat 40 (dmOf k))
+  kept-dms : (i : ℕ) → S.dms R i ≡ rows (box R i) (40 * dmLen n) (λ k. cat 40 (dmOf k))
   unfolding S.dms S.sent10
   kept-dms i = dms-are i _ (λ k lk ne. refl)
 
-  fit-dms : Fit n l args strings order DMS
+  fit-dms : Fit R DMS
   unfolding S.holds sizeOf sizes
   fit-dms = (
     omega arith,
     λ i li. ap length (kept-dms i)
-        ∙ length-cells (frame n l i) 40 (dmLen n) dmOf (λ k q lk ne lq. length-own-dm (frame n l k) (args k .bits) q),
+        ∙ length-cells (box R i) 40 (dmLen n) dmOf (λ k q lk ne lq. length-own-dm (box R k) (inputs k .bits) q),
   )
 
-  dm-passes : (i q : ℕ) (m : ℕ → List ℕ) → q < 40 → (k : ℕ) → m k ≡ verMsg (frame n l k) (args k .bits) → dmFault (frame n l i) m q k ≡ 0
+  dm-passes : (i q : ℕ) (m : ℕ → List ℕ) → q < 40 → (k : ℕ) → m k ≡ verMsg (box R k) (inputs k .bits) → dmFault (box R i) m q k ≡ 0
   unfolding dmFault
   dm-passes i q m lq k e =
       ap (λ (x : List ℕ). pick (eqb (wordAt x (itemAt Dms x q)) (dmLen n)) (pick (leb (getD x (dmAt x q) 0) 1) 0 1) 4) e
       ∙ rw (
-        eq-eqb _ _ (ver-word (frame n l k) (args k .bits) (X .range .eight) q lq),
-        ver-bit (frame n l k) (args k .bits) (X .range .eight) q lq,
-        le-leb _ _ (num-le (own (frame n l k) (args k .bits) q .bit)),
+        eq-eqb _ _ (ver-word (box R k) (inputs k .bits) (X .range .eight) q lq),
+        ver-bit (box R k) (inputs k .bits) (X .range .eight) q lq,
+        le-leb _ _ (num-le (own (box R k) (inputs k .bits) q .bit)),
       ) refl
 
-  pub send-10 : SendAt subject run n l 10
+  pub send-10 : Sends R 10
   unfolding staysTest allOf mem S.since S.sent S.sent10 held written
   send-10 = record {
-    keeps = λ v i li w K. keep-none n l args strings order (before 10) (due 10) i li K refl;
-    writes = λ v i r li lr ne w K. ap (verMsg (frame n l i)) (bits-at n l args strings order K);
+    keeps = λ v i li w K. keep-none R (before 10) (due 10) i li K refl;
+    writes = λ v i r li lr ne w K. ap (verMsg (box R i)) (bits-at R K);
   }
 
-  pub recv-10 : RecvAt subject run n l 10
+  pub recv-10 : Receives R 10
   unfolding plainAfter isEcho mem staysTest allOf S.since S.holds S.sent S.sent10 judge kept dmFaults
   recv-10 = record {
     heard = record {
-      lens = λ j r lj lr ne. ver-len (frame n l j) (args j .bits) (X .range .eight) l;
-      formed = λ i j li lj ne. ver-form (frame n l j) (args j .bits) (X .range .eight) l .form-is;
-      whole = λ i j li lj ne. ver-form (frame n l j) (args j .bits) (X .range .eight) l .list-is;
-      judged = λ i li w K m M. first-none 40 _ (λ q lq. by-none (frame n l i) _ (λ k lk ne. dm-passes i q m lq k (M k lk ne)));
+      lens = λ j r lj lr ne. ver-len (box R j) (inputs j .bits) (X .range .eight) l;
+      formed = λ i j li lj ne. ver-form (box R j) (inputs j .bits) (X .range .eight) l .form-is;
+      whole = λ i j li lj ne. ver-form (box R j) (inputs j .bits) (X .range .eight) l .list-is;
+      judged = λ i li w K m M. first-none 40 _ (λ q lq. by-none (box R i) _ (λ k lk ne. dm-passes i q m lq k (M k lk ne)));
     };
-    keeps = λ i li w K m M. keep-one n l args strings order (due 10) (before 12) i li K DMS _ refl fit-dms
-        (dms-are i m M ∙ sym (kept-dms i));
+    keeps = λ i li w K m M. keep-one R (due 10) (before 12) i li K DMS _ refl fit-dms (dms-are i m M ∙ sym (kept-dms i));
   }
 
-  pub list-10 : ListAt subject run n l 10
+  pub list-10 : Hashes R 10
   unfolding S.hashed S.sent S.sent10
   list-10 = record {
     size = λ j lj. length-hashVec 10 _;
@@ -321,50 +316,50 @@ module _ (n l : ℕ) (args : ℕ → Args) (strings order : List ℕ) (X : Boxes
   -- ---- round 12
   -- the bit of string q, shared among all boxes
   abbrev stringOf : ℕ → Shared Block
-  stringOf q = bitsOf n args (3 * leaky l + q)
+  stringOf q = bitsOf R (3 * leaky l + q)
 
-  good : (q : ℕ) → q < 40 → Good blocks n (deltas args) (stringOf q)
+  good : (q : ℕ) → q < 40 → Good blocks n (deltas R) (stringOf q)
   unfolding bitsCount
   good q lq = X .bits-mac (3 * leaky l + q) (omega arith)
 
   small-string : (q b k : ℕ) → b < n → Small (stringOf q .mac b k)
   unfolding sharedAt
-  small-string q b k lb = small-mac (args b .bits) (X .own b lb .bits-bytes) ((3 * leaky l + q) * recordLen n) k
+  small-string q b k lb = small-mac (inputs b .bits) (X .own b lb .bits-bytes) ((3 * leaky l + q) * recordLen n) k
 
   abbrev dmsOf : ℕ → List ℕ
-  dmsOf i = S.dms n l args strings order i
+  dmsOf i = S.dms R i
 
-  dm-cell : (i k q : ℕ) → k < n → i ≢ k → q < 40 → take (dmLen n) (drop (dmRow (frame n l i) k q) (dmsOf i)) ≡ dmOf k q
+  dm-cell : (i k q : ℕ) → k < n → i ≢ k → q < 40 → take (dmLen n) (drop (dmRow (box R i) k q) (dmsOf i)) ≡ dmOf k q
   unfolding dmRow
   dm-cell i k q lk ne lq =
       ap (λ (x : List ℕ). take (dmLen n) (drop ((k * 40 + q) * dmLen n) x)) (kept-dms i)
-      ∙ cell (frame n l i) 40 (dmLen n) dmOf (λ k q lk ne lq. length-own-dm (frame n l k) (args k .bits) q) k q lk ne lq
+      ∙ cell (box R i) 40 (dmLen n) dmOf (λ k q lk ne lq. length-own-dm (box R k) (inputs k .bits) q) k q lk ne lq
 
-  dm-bit : (i k q : ℕ) → k < n → i ≢ k → q < 40 → odd (getD (dmsOf i) (dmRow (frame n l i) k q) 0) ≡ stringOf q .bit k
+  dm-bit : (i k q : ℕ) → k < n → i ≢ k → q < 40 → odd (getD (dmsOf i) (dmRow (box R i) k q) 0) ≡ stringOf q .bit k
   unfolding dm own shareAt sharedAt
   dm-bit i k q lk ne lq =
-      ap odd (head-part (dmLen n) (dmRow (frame n l i) k q) (dmsOf i) (dmOf k q) (dm-some n) (dm-cell i k q lk ne lq))
+      ap odd (head-part (dmLen n) (dmRow (box R i) k q) (dmsOf i) (dmOf k q) (dm-some n) (dm-cell i k q lk ne lq))
       ∙ odd-num (stringOf q .bit k)
 
   dm-mac : (i j k q : ℕ) → j < n → k < n → i ≢ j → j ≢ k → q < 40
-      → blockAt (dmsOf i) (dmRow (frame n l i) j q + dmMac j k) ≡ stringOf q .mac j k
+      → blockAt (dmsOf i) (dmRow (box R i) j q + dmMac j k) ≡ stringOf q .mac j k
   unfolding own shareAt sharedAt
   dm-mac i j k q lj lk ne nk lq =
-      sym (block-get (dmsOf i) (dmRow (frame n l i) j q) (dmLen n) (dmMac j k) (mac-fits n j k lj lk nk))
+      sym (block-get (dmsOf i) (dmRow (box R i) j q) (dmLen n) (dmMac j k) (mac-fits n j k lj lk nk))
       ∙ ap (λ (s : List ℕ). blockAt s (dmMac j k)) (dm-cell i j q lj ne lq)
-      ∙ own-mac (frame n l j) (args j .bits) q k lj lk nk (small-string q j k lj)
+      ∙ own-mac (box R j) (inputs j .bits) q k lj lk nk (small-string q j k lj)
 
   -- what k opens
   abbrev opens : ℕ → ℕ → Block
-  opens k q = blocks .op (d0 (frame n l k) (args k .bits) q) (sel blocks (others1 (frame n l k) (dmsOf k) q) (deltas args k))
+  opens k q = blocks .op (d0 (box R k) (inputs k .bits) q) (sel blocks (others1 (box R k) (dmsOf k) q) (deltas R k))
 
   -- it is the XOR of all MACs for k
   opens-is : (k q : ℕ) → k < n → q < 40 → opens k q ≡ others blocks k n (λ j. stringOf q .mac j k)
   unfolding others1 d0 own shareAt sharedAt
   opens-is k q lk lq =
-      ap (λ b. blocks .op (d0 (frame n l k) (args k .bits) q) (sel blocks b (deltas args k)))
+      ap (λ b. blocks .op (d0 (box R k) (inputs k .bits) q) (sel blocks b (deltas R k)))
       (others-ext bits k n _ (stringOf q .bit) (λ j lj ne. dm-bit k j q lj ne lq))
-      ∙ sym (opened blocks n (deltas args) (stringOf q) (good q lq) k lk)
+      ∙ sym (opened blocks n (deltas R) (stringOf q) (good q lq) k lk)
 
   small-opens : (k q : ℕ) → k < n → q < 40 → Small (opens k q)
   small-opens k q lk lq =
@@ -372,7 +367,7 @@ module _ (n l : ℕ) (args : ℕ → Args) (strings order : List ℕ) (X : Boxes
 
   -- and so does i compute it
   macs-are : (i k q : ℕ) → i < n → k < n → i ≢ k → q < 40
-      → macsFor (frame n l i) (args i .bits) (dmsOf i) q k ≡ others blocks k n (λ j. stringOf q .mac j k)
+      → macsFor (box R i) (inputs i .bits) (dmsOf i) q k ≡ others blocks k n (λ j. stringOf q .mac j k)
   unfolding macsFor own shareAt sharedAt
   macs-are i k q li lk ne lq =
       ap (blocks .op (stringOf q .mac i k))
@@ -380,13 +375,13 @@ module _ (n l : ℕ) (args : ℕ → Args) (strings order : List ℕ) (X : Boxes
       ∙ all-but blocks i k n (λ j. stringOf q .mac j k) li (λ e. ne (sym e))
     where
       go : (j : ℕ) → j < n → i ≢ j → (b : Bool) → Same k j b
-          → sel blocks b (blockAt (dmsOf i) (dmRow (frame n l i) j q + dmMac j k)) ≡ sel blocks b (stringOf q .mac j k)
+          → sel blocks b (blockAt (dmsOf i) (dmRow (box R i) j q + dmMac j k)) ≡ sel blocks b (stringOf q .mac j k)
       go j lj nj false s = refl
       go j lj nj true (apart nk) = dm-mac i j k q lj lk nj (λ e. nk (sym e)) lq
 
   -- ---- the messages
   abbrev dibi : ℕ → List ℕ
-  dibi k = dibiMsg (frame n l k) (deltas args k) (args k .bits) (dmsOf k)
+  dibi k = dibiMsg (box R k) (deltas R k) (inputs k .bits) (dmsOf k)
 
   dibi-len : (k : ℕ) → length (dibi k) ≡ msgLen n l 12
   unfolding dibiMsg msgLen kindOf countDue
@@ -407,18 +402,18 @@ module _ (n l : ℕ) (args : ℕ → Args) (strings order : List ℕ) (X : Boxes
   -- ---- the check
   module _ (i k q : ℕ) (lk : k < n) (ne : i ≢ k) (lq : q < 40) where
     abbrev told : List ℕ
-    told = drop ((k * 40 + q) * 96) (S.shareComms n l args strings order i)
+    told = drop ((k * 40 + q) * 96) (S.shareComms R i)
 
     abbrev h0 : List ℕ
-    h0 = hash (bytesOf (d0 (frame n l k) (args k .bits) q))
+    h0 = hash (bytesOf (d0 (box R k) (inputs k .bits) q))
 
     abbrev h1 : List ℕ
-    h1 = hash (bytesOf (d1 (frame n l k) (deltas args k) (args k .bits) q))
+    h1 = hash (bytesOf (d1 (box R k) (deltas R k) (inputs k .bits) q))
 
     comm-cell : take 96 told ≡ h0 ++ (h1 ++ hash (dmOf k q))
     comm-cell =
         ap (λ (x : List ℕ). take 96 (drop ((k * 40 + q) * 96) x)) (share-comms-are i)
-        ∙ cell (frame n l i) 40 96 commits (λ k q lk ne lq. length-hashes (frame n l k) (deltas args k) (args k .bits) q) k q lk ne lq
+        ∙ cell (box R i) 40 96 commits (λ k q lk ne lq. length-hashes (box R k) (deltas R k) (inputs k .bits) q) k q lk ne lq
 
     first-comm : take 32 told ≡ h0
     first-comm = sym (take-take 32 96 told (omega arith)) ∙ ap (take 32) comm-cell ∙ take-at h0 (h1 ++ hash (dmOf k q)) 32 (length-hash _)
@@ -432,24 +427,23 @@ module _ (n l : ℕ) (args : ℕ → Args) (strings order : List ℕ) (X : Boxes
   passes t u p q = rw (p, q) refl
 
   dibi-passes : (i q : ℕ) (m : ℕ → List ℕ) → i < n → q < 40 → (k : ℕ) → k < n → i ≢ k → m k ≡ dibi k
-      → dibiFault (frame n l i) (args i .bits) (S.shareComms n l args strings order i) (dmsOf i) m q k ≡ 0
+      → dibiFault (box R i) (inputs i .bits) (S.shareComms R i) (dmsOf i) m q k ≡ 0
   unfolding dibiFault d1
   dibi-passes i q m li lq k lk ne e =
       let d : blockAt (m k) (8 + q * 16) ≡ opens k q = ap (λ (x : List ℕ). blockAt x (8 + q * 16)) e ∙ dibi-read k q lk lq in
-      passes _ _
-      (one-opens (d0 (frame n l k) (args k .bits) q) (deltas args k) _ (others1 (frame n l k) (dmsOf k) q) _ _ d
+      passes _ _ (one-opens (d0 (box R k) (inputs k .bits) q) (deltas R k) _ (others1 (box R k) (dmsOf k) q) _ _ d
       (first-comm i k q lk ne lq) (second-comm i k q lk ne lq))
       (eq-block _ _ (macs-are i k q li lk ne lq ∙ sym (opens-is k q lk lq) ∙ sym d))
 
-  pub send-12 : SendAt subject run n l 12
+  pub send-12 : Sends R 12
   unfolding staysTest allOf mem S.since S.sent S.sent12 held written
   send-12 = record {
-    keeps = λ v i li w K. keep-none n l args strings order (before 12) (due 12) i li K refl;
+    keeps = λ v i li w K. keep-none R (before 12) (due 12) i li K refl;
     writes = λ v i r li lr ne w K.
-        λ t. dibiMsg (frame n l i) (delta-is n l args strings order K t) (bits-at n l args strings order K t) (dms-at n l args strings order K refl t);
+        λ t. dibiMsg (box R i) (delta-is R K t) (bits-at R K t) (dms-at R K refl t);
   }
 
-  pub recv-12 : RecvAt subject run n l 12
+  pub recv-12 : Receives R 12
   unfolding plainAfter isEcho mem staysTest allOf S.since S.sent S.sent12 judge kept dibiFaults
   recv-12 = record {
     heard = record {
@@ -457,14 +451,13 @@ module _ (n l : ℕ) (args : ℕ → Args) (strings order : List ℕ) (X : Boxes
       formed = λ i j li lj ne. dibi-form j .form-is;
       whole = λ i j li lj ne. dibi-form j .list-is;
       judged = λ i li w K m M.
-          (λ t. dibiFaults (frame n l i) (bits-at n l args strings order K t) (share-comms-at n l args strings order K refl t)
-          (dms-at n l args strings order K refl t) m .code)
-          ∙ first-none 40 _ (λ q lq. by-none (frame n l i) _ (λ k lk ne. dibi-passes i q m li lq k lk ne (M k lk ne)));
+          (λ t. dibiFaults (box R i) (bits-at R K t) (share-comms-at R K refl t) (dms-at R K refl t) m .code)
+          ∙ first-none 40 _ (λ q lq. by-none (box R i) _ (λ k lk ne. dibi-passes i q m li lq k lk ne (M k lk ne)));
     };
-    keeps = λ i li w K m M. keep-none n l args strings order (due 12) (before 14) i li K refl;
+    keeps = λ i li w K m M. keep-none R (due 12) (before 14) i li K refl;
   }
 
-  pub list-12 : ListAt subject run n l 12
+  pub list-12 : Hashes R 12
   unfolding S.hashed S.sent S.sent12
   list-12 = record {
     size = λ j lj. length-hashVec 12 _;

@@ -1,5 +1,5 @@
--- A message of a bit and a Block each (rounds 6 and 15): what is read of it, and what its echo hashes. That is the list of the bits alone, so
--- it is the same for every receiver, though the Blocks differ.
+-- A message of a bit and a Block each (rounds 6 and 15): what is read of it, and what its echo hashes. That is the list of the bits alone,
+-- so it is the same for every receiver, though the Blocks differ.
 use mathlib.Core.Path.{_≡_, refl, sym, ap, ap₂, _∙_}
 use mathlib.Core.Bool.{Bool, true, _||_}
 use mathlib.Core.List.{List, [], _∷_, _++_, append-nil}
@@ -17,13 +17,10 @@ use Rattle.block.specs.Block.{blockAt, le8, bytesOf}
 use Rattle.block.specs.Trip.{Small, length-le8, block-get, block-at}
 use Rattle.blake3.specs.Tree.{hash}
 use Rattle.blake3.specs.Firsts.{firsts}
-use Rattle.message.specs.declared.Kind.{Kind}
 use Rattle.message.specs.declared.Kind.the-variants.{Items}
-use Rattle.message.specs.Format.{listOf}
 use Rattle.encode.specs.Encode.{encode, bitBlock}
 use Rattle.encode.specs.Coded.{length-encode, length-bitBlock, coded-bitBlock}
 use Rattle.encode.specs.RoundTrip.{Trip, trip-whole, even-item}
-use Rattle.plan.specs.Plan.{kindOf}
 use Rattle.rounds.specs.Echo.{hashVec}
 use Rattle.honest.specs.Toss.{cat-tab}
 use Rattle.alone.specs.Cells.{head-part}

@@ -25,20 +25,17 @@ use Rattle.encode.specs.RoundTrip.{trip-whole, even-item}
 use Rattle.plan.specs.Plan.{kindOf, countDue, msgLen, leaky, bitsCount}
 use Rattle.plan.specs.PlanLaws.{leaky-most}
 use Rattle.engine.specs.declared.Frame.{Frame}
-use Rattle.engine.specs.Step.{frame}
 use Rattle.engine.specs.Area.{mem}
 use Rattle.engine.specs.Sheet.{staysTest}
 use Rattle.engine.specs.Plain.{isEcho}
-use Rattle.engine.specs.Honest.{Script, before, due, plainAfter, RecvAt, SendAt}
+use Rattle.engine.specs.Honest.{before, due, plainAfter}
 use Rattle.rounds.specs.Area.{LEAKY, ZS, sizes, sizeOf}
-use Rattle.rounds.specs.Opening.{Args}
 use Rattle.rounds.specs.Table.{judge, kept, held, written}
 use Rattle.rounds.specs.Haand.{x, y, H, G, mask, h0, h1, haandMsg, leakyRows, v, z, zRow, zRows, zAt}
 use Rattle.alone.specs.HaandLaws.{length-leakyRows, length-zRows, z-read}
-use Rattle.honest.specs.Subject.{subject}
 use Rattle.honest.specs.Script as S
-use Rattle.honest.specs.Inputs.{Boxes, deltas}
-use Rattle.honest.specs.Base.{list-form, list-len, Fit, delta-is, masks-at, bits-at, keep-one, Reads}
+use Rattle.honest.specs.Inputs.{Run, box, Boxes, deltas}
+use Rattle.honest.specs.Base.{Receives, Sends, list-form, list-len, Fit, delta-is, masks-at, bits-at, keep-one, Reads}
 use Rattle.honest.specs.Values.{xOf, yOf, zOf}
 
 -- ---- a message of two bits each
@@ -74,42 +71,40 @@ module _ (f : Frame) (masks recs : List ℕ) where
       ap (λ (s : List ℕ). addb (mask f masks j t) (addb (H (x f recs t .mac j))
       (cond (x f recs t .bit) (odd (getD s (8 + t * 2 + 1) 0)) (odd (getD s (8 + t * 2) 0))))) (h j lj ne))))
 
-module _ (n l : ℕ) (args : ℕ → Args) (strings order : List ℕ) (X : Boxes n l args) where
-  abbrev run : Script
-  run = S.script n l args strings order
+module _ (R : Run) (X : Boxes R) where
+  open Run R using (n, l, inputs)
 
   pub leaky-small : leaky l < 2 ^ 64
   leaky-small = omega (arith, leaky-most l (X .range .most))
 
   -- ---- the messages
-  haand-len : (j r : ℕ) → length (S.sent14 n l args strings order j r) ≡ msgLen n l 14
+  haand-len : (j r : ℕ) → length (S.sent14 R j r) ≡ msgLen n l 14
   unfolding S.sent14 haandMsg msgLen kindOf countDue
   haand-len j r = list-len n 2 2 (leaky l) _ (λ t i. length-twoBits _ _)
 
-  haand-form : (j r : ℕ) → Reads (kindOf l 14) (countDue n l 14) (S.sent14 n l args strings order j r)
+  haand-form : (j r : ℕ) → Reads (kindOf l 14) (countDue n l 14) (S.sent14 R j r)
   unfolding S.sent14 haandMsg kindOf countDue
   haand-form j r = list-form (Items 2 2) (leaky l) _ leaky-small (λ t i. coded-twoBits _ _)
 
   -- ---- the rounds
-  fit-leaky : Fit n l args strings order LEAKY
+  fit-leaky : Fit R LEAKY
   unfolding S.holds S.leakyRows sizeOf sizes
-  fit-leaky = (omega arith, λ i li. length-leakyRows (frame n l i) (deltas args i) (args i .bits))
+  fit-leaky = (omega arith, λ i li. length-leakyRows (box R i) (deltas R i) (inputs i .bits))
 
-  fit-zs : Fit n l args strings order ZS
+  fit-zs : Fit R ZS
   unfolding S.holds S.zRows sizeOf sizes
-  fit-zs = (omega arith, λ i li. length-zRows (frame n l i) (args i .masks) (args i .bits) (λ j. S.sent14 n l args strings order j i))
+  fit-zs = (omega arith, λ i li. length-zRows (box R i) (inputs i .masks) (inputs i .bits) (λ j. S.sent14 R j i))
 
-  pub send-14 : SendAt subject run n l 14
+  pub send-14 : Sends R 14
   unfolding staysTest allOf mem S.since S.holds S.leakyRows S.sent S.sent14 held written
   send-14 = record {
-    keeps = λ v i li w K. keep-one n l args strings order (before 14) (due 14) i li K LEAKY _ refl fit-leaky
-        (ap₂ (leakyRows (frame n l i)) (delta-is n l args strings order K) (bits-at n l args strings order K));
+    keeps = λ v i li w K. keep-one R (before 14) (due 14) i li K LEAKY _ refl fit-leaky
+        (ap₂ (leakyRows (box R i)) (delta-is R K) (bits-at R K));
     writes = λ v i r li lr ne w K.
-        (λ e. haandMsg (frame n l i) (delta-is n l args strings order K e) (masks-at n l args strings order K e)
-        (bits-at n l args strings order K e) r);
+        (λ e. haandMsg (box R i) (delta-is R K e) (masks-at R K e) (bits-at R K e) r);
   }
 
-  pub recv-14 : RecvAt subject run n l 14
+  pub recv-14 : Receives R 14
   unfolding plainAfter isEcho mem staysTest allOf S.since S.holds S.sent S.zRows judge kept
   recv-14 = record {
     heard = record {
@@ -118,38 +113,33 @@ module _ (n l : ℕ) (args : ℕ → Args) (strings order : List ℕ) (X : Boxes
       whole = λ i j li lj ne. haand-form j i .list-is;
       judged = λ i li w K m M. refl;
     };
-    keeps = λ i li w K m M. keep-one n l args strings order (due 14) (before 15) i li K ZS _ refl fit-zs
-        (ap₂ (λ (a b : List ℕ). zRows (frame n l i) a b m) (masks-at n l args strings order K) (bits-at n l args strings order K)
-        ∙ z-ext (frame n l i) (args i .masks) (args i .bits) m _ M);
+    keeps = λ i li w K m M. keep-one R (due 14) (before 15) i li K ZS _ refl fit-zs
+        (ap₂ (λ (a b : List ℕ). zRows (box R i) a b m) (masks-at R K) (bits-at R K)
+        ∙ z-ext (box R i) (inputs i .masks) (inputs i .bits) m _ M);
   }
 
   -- ---- the value of z
   -- what box i read back of its own rows
-  pub z-at : (i t : ℕ) → t < leaky l
-      → zAt (S.zRows n l args strings order i) t
-      ≡ z (frame n l i) (args i .masks) (args i .bits) (λ j. S.sent14 n l args strings order j i) t
+  pub z-at : (i t : ℕ) → t < leaky l → zAt (S.zRows R i) t ≡ z (box R i) (inputs i .masks) (inputs i .bits) (λ j. S.sent14 R j i) t
   unfolding S.zRows
-  z-at i t lt = z-read (frame n l i) (args i .masks) (args i .bits) (λ j. S.sent14 n l args strings order j i) t lt
+  z-at i t lt = z-read (box R i) (inputs i .masks) (inputs i .bits) (λ j. S.sent14 R j i) t lt
 
   -- the mask of box i for box j
   abbrev s : ℕ → ℕ → ℕ → Bool
-  s t i j = mask (frame n l i) (args i .masks) j t
+  s t i j = mask (box R i) (inputs i .masks) j t
 
   -- it is the z of the half AND
   z-half : (i t : ℕ) → t < leaky l
-      → z (frame n l i) (args i .masks) (args i .bits) (λ j. S.sent14 n l args strings order j i) t
-      ≡ halfZ blocks H n (deltas args) (xOf n l args t .bit) (yOf n l args t .bit) (xOf n l args t .mac) (xOf n l args t .key) (s t) i
+      → z (box R i) (inputs i .masks) (inputs i .bits) (λ j. S.sent14 R j i) t
+      ≡ halfZ blocks H n (deltas R) (xOf R t .bit) (yOf R t .bit) (xOf R t .mac) (xOf R t .key) (s t) i
   unfolding z v halfZ halfV x y shareAt sharedAt S.sent14 haandMsg h0 h1
   z-half i t lt =
-      ap (λ (b : Bool). addb b (sel bits (xOf n l args t .bit i) (yOf n l args t .bit i)))
-      (others-ext bits i n _ _ (λ j lj ne.
-      ap₂ (λ (b a : Bool). addb (s t i j) (addb (H (xOf n l args t .mac i j)) (cond (xOf n l args t .bit i) b a)))
+      ap (λ (b : Bool). addb b (sel bits (xOf R t .bit i) (yOf R t .bit i))) (others-ext bits i n _ _ (λ j lj ne.
+      ap₂ (λ (b a : Bool). addb (s t i j) (addb (H (xOf R t .mac i j)) (cond (xOf R t .bit i) b a)))
       (second-read (leaky l) _ _ leaky-small t lt) (first-read (leaky l) _ _ leaky-small t lt)))
 
-  pub and-z : (t : ℕ) → t < leaky l
-      → total n (zOf n l args strings order t) ≡ sel bits (total n (xOf n l args t)) (total n (yOf n l args t))
+  pub and-z : (t : ℕ) → t < leaky l → total n (zOf R t) ≡ sel bits (total n (xOf R t)) (total n (yOf R t))
   unfolding zOf bitsCount
   and-z t lt =
       sum-ext bits n _ _ (λ i li. z-at i t lt ∙ z-half i t lt)
-      ∙ and-of-xors blocks H n (deltas args) (xOf n l args t .bit) (yOf n l args t .bit) (xOf n l args t .mac) (xOf n l args t .key) (s t)
-      (X .bits-mac t (omega arith))
+      ∙ and-of-xors blocks H n (deltas R) (xOf R t .bit) (yOf R t .bit) (xOf R t .mac) (xOf R t .key) (s t) (X .bits-mac t (omega arith))

@@ -18,68 +18,86 @@ use Rattle.share.specs.ShareLaws.{SmallShare, small-share-at}
 use Rattle.share.specs.Parties.{sharedAt}
 use Rattle.permutation.specs.Permutation.{isPerm}
 use Rattle.plan.specs.Plan.{InRange, leaky, bitsCount}
+use Rattle.engine.specs.declared.Frame.{Frame}
 use Rattle.engine.specs.Step.{frame}
 use Rattle.rounds.specs.Opening.{Args}
 
--- What box b of n is opened with, work area and outgoing buffer aside: exact lengths, bytes, bits 0 or 1, own entries zero. Of the seeds and of
--- the delta nothing is asked, and nothing of the masks for the box itself.
-pub record Own (n l b : ℕ) (a : Args) : Type 0 where
-  pub party : a .party ≡ frame n l b
+-- What demand 3 speaks of: n boxes with one l, box b opened with `inputs b`, all lent these r strings and this permutation
+pub record Run : Type 0 where
+  pub n : ℕ
+  pub l : ℕ
+  pub inputs : ℕ → Args
+  pub strings : List ℕ
+  pub permutation : List ℕ
+
+-- What the box f is opened with, work area and outgoing buffer aside: exact lengths, bytes, bits 0 or 1, own entries zero. Of the seeds
+-- and of the delta nothing is asked, and nothing of the masks for the box itself.
+pub record Own (f : Frame) (a : Args) : Type 0 where
+  pub party : a .party ≡ f
   pub delta-len : length (a .delta) ≡ 16
   pub seed-len : length (a .seed) ≡ 32
-  pub pairs-len : length (a .pairs) ≡ 32 * n
-  pub bits-len : length (a .bits) ≡ bitsCount l * recordLen n
-  pub alpha-len : length (a .alpha) ≡ l * recordLen n
-  pub beta-len : length (a .beta) ≡ l * recordLen n
-  pub masks-len : length (a .masks) ≡ n * leaky l
+  pub pairs-len : length (a .pairs) ≡ 32 * f .n
+  pub bits-len : length (a .bits) ≡ bitsCount (f .l) * recordLen (f .n)
+  pub alpha-len : length (a .alpha) ≡ f .l * recordLen (f .n)
+  pub beta-len : length (a .beta) ≡ f .l * recordLen (f .n)
+  pub masks-len : length (a .masks) ≡ f .n * leaky (f .l)
   pub delta-bytes : Bytes (a .delta)
   pub bits-bytes : Bytes (a .bits)
   pub alpha-bytes : Bytes (a .alpha)
   pub beta-bytes : Bytes (a .beta)
-  pub bits-valid : (t : ℕ) → t < bitsCount l → Valid b (a .bits) (t * recordLen n)
-  pub alpha-valid : (t : ℕ) → t < l → Valid b (a .alpha) (t * recordLen n)
-  pub beta-valid : (t : ℕ) → t < l → Valid b (a .beta) (t * recordLen n)
-  pub mask-bits : (k t : ℕ) → k < n → b ≢ k → t < leaky l → getD (a .masks) (k * leaky l + t) 0 ≤ 1
+  pub bits-valid : (t : ℕ) → t < bitsCount (f .l) → Valid (f .i) (a .bits) (t * recordLen (f .n))
+  pub alpha-valid : (t : ℕ) → t < f .l → Valid (f .i) (a .alpha) (t * recordLen (f .n))
+  pub beta-valid : (t : ℕ) → t < f .l → Valid (f .i) (a .beta) (t * recordLen (f .n))
+  pub mask-bits : (k t : ℕ) → k < f .n → f .i ≢ k → t < leaky (f .l) → getD (a .masks) (k * leaky (f .l) + t) 0 ≤ 1
 
--- the deltas that the boxes are opened with
-abbrev pub deltas : (ℕ → Args) → ℕ → Block
-deltas args b = blockAt (args b .delta) 0
+module _ (R : Run) where
+  open Run R using (n, l, inputs, permutation)
 
--- record t of all boxes' lists, as one shared bit
-abbrev pub bitsOf : ℕ → (ℕ → Args) → ℕ → Shared Block
-bitsOf n args t = sharedAt (λ b. args b .bits) (t * recordLen n)
+  -- box b of the run
+  abbrev pub box : ℕ → Frame
+  box b = frame n l b
 
-abbrev pub alphasOf : ℕ → (ℕ → Args) → ℕ → Shared Block
-alphasOf n args t = sharedAt (λ b. args b .alpha) (t * recordLen n)
+  -- the deltas that the boxes are opened with
+  abbrev pub deltas : ℕ → Block
+  deltas b = blockAt (inputs b .delta) 0
 
-abbrev pub betasOf : ℕ → (ℕ → Args) → ℕ → Shared Block
-betasOf n args t = sharedAt (λ b. args b .beta) (t * recordLen n)
+  -- record t of all boxes' lists, as one shared bit
+  abbrev pub bitsOf : ℕ → Shared Block
+  bitsOf t = sharedAt (λ b. inputs b .bits) (t * recordLen n)
 
--- n boxes with one l, box b opened with args b. "The MAC rule between boxes j and k, both ways and at each position: j's MAC for k equals k's
--- key for j, plus the delta k was opened with where j's bit is 1."
-pub record Boxes (n l : ℕ) (args : ℕ → Args) : Type 0 where
-  pub range : InRange n l
-  pub own : (b : ℕ) → b < n → Own n l b (args b)
-  pub bits-mac : (t : ℕ) → t < bitsCount l → Good blocks n (deltas args) (bitsOf n args t)
-  pub alpha-mac : (t : ℕ) → t < l → Good blocks n (deltas args) (alphasOf n args t)
-  pub beta-mac : (t : ℕ) → t < l → Good blocks n (deltas args) (betasOf n args t)
+  abbrev pub alphasOf : ℕ → Shared Block
+  alphasOf t = sharedAt (λ b. inputs b .alpha) (t * recordLen n)
 
--- and the permutation that all are lent is one; of the r strings nothing is asked
-pub record Inputs (n l : ℕ) (args : ℕ → Args) (order : List ℕ) : Type 0 where
-  pub boxes : Boxes n l args
-  pub order-len : length order ≡ leaky l
-  pub order-perm : isPerm order ≡ true
+  abbrev pub betasOf : ℕ → Shared Block
+  betasOf t = sharedAt (λ b. inputs b .beta) (t * recordLen n)
+
+  -- "The MAC rule between boxes j and k, both ways and at each position: j's MAC for k equals k's key for j, plus the delta k was opened
+  -- with where j's bit is 1."
+  pub record Boxes : Type 0 where
+    pub range : InRange n l
+    pub own : (b : ℕ) → b < n → Own (box b) (inputs b)
+    pub bits-mac : (t : ℕ) → t < bitsCount l → Good blocks n deltas (bitsOf t)
+    pub alpha-mac : (t : ℕ) → t < l → Good blocks n deltas (alphasOf t)
+    pub beta-mac : (t : ℕ) → t < l → Good blocks n deltas (betasOf t)
+
+  -- and the permutation that all are lent is one; of the r strings nothing is asked
+  pub record Inputs : Type 0 where
+    pub boxes : Boxes
+    pub order-len : length permutation ≡ leaky l
+    pub order-perm : isPerm permutation ≡ true
 
 -- ---- what is read of them fits a Block
-module _ (n l : ℕ) (args : ℕ → Args) (X : Boxes n l args) (b : ℕ) (lb : b < n) where
-  pub small-delta : Small (deltas args b)
-  small-delta = small-at (args b .delta) (X .own b lb .delta-bytes) 0
+module _ (R : Run) (X : Boxes R) (b : ℕ) (lb : b < R .n) where
+  open Run R using (n, inputs)
 
-  pub small-bits : (at : ℕ) → SmallShare n (shareAt (args b .bits) at)
-  small-bits at = small-share-at n (args b .bits) at (X .own b lb .bits-bytes)
+  pub small-delta : Small (deltas R b)
+  small-delta = small-at (inputs b .delta) (X .own b lb .delta-bytes) 0
 
-  pub small-alpha : (at : ℕ) → SmallShare n (shareAt (args b .alpha) at)
-  small-alpha at = small-share-at n (args b .alpha) at (X .own b lb .alpha-bytes)
+  pub small-bits : (at : ℕ) → SmallShare n (shareAt (inputs b .bits) at)
+  small-bits at = small-share-at n (inputs b .bits) at (X .own b lb .bits-bytes)
 
-  pub small-beta : (at : ℕ) → SmallShare n (shareAt (args b .beta) at)
-  small-beta at = small-share-at n (args b .beta) at (X .own b lb .beta-bytes)
+  pub small-alpha : (at : ℕ) → SmallShare n (shareAt (inputs b .alpha) at)
+  small-alpha at = small-share-at n (inputs b .alpha) at (X .own b lb .alpha-bytes)
+
+  pub small-beta : (at : ℕ) → SmallShare n (shareAt (inputs b .beta) at)
+  small-beta at = small-share-at n (inputs b .beta) at (X .own b lb .beta-bytes)

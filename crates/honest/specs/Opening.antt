@@ -1,5 +1,5 @@
--- Opening in an honest run: the inputs of demand 3 have no reason to be refused, what has one changes nothing, and what opening leaves is what the
--- script says.
+-- Opening in an honest run: the inputs of demand 3 have no reason to be refused, what has one changes nothing, and what opening leaves is
+-- what the script says.
 use mathlib.Core.Path.{_≡_, refl, sym, ap, ap₂, _∙_, subst}
 use mathlib.Core.Bool.{Bool, true, false, _&&_}
 use mathlib.Core.Logic.{_≢_}
@@ -18,7 +18,7 @@ use Rattle.permutation.specs.Permutation.{isPerm}
 use Rattle.permutation.specs.PermutationLaws.{perm-of}
 use Rattle.plan.specs.Plan.{InRange, leaky, bitsCount, rLen, msgLen}
 use Rattle.engine.specs.declared.Frame.{Frame}
-use Rattle.engine.specs.Step.{frame, Loan, Accepted, Refused, outcome}
+use Rattle.engine.specs.Step.{Loan, Accepted, Refused, outcome}
 use Rattle.engine.specs.World.{sessionOf}
 use Rattle.engine.specs.Area.{toOthers}
 use Rattle.engine.specs.Sheet.{Known}
@@ -26,18 +26,18 @@ use Rattle.engine.specs.Plain.{noLoan}
 use Rattle.engine.specs.Honest.{Lawful, due}
 use Rattle.engine.specs.PlainSession.{none-lent, HonestOpening}
 use Rattle.rounds.specs.Area.{workLen}
-use Rattle.rounds.specs.Opening.{Args, listsDue, buffersDue, masksFault, orFault, bytesFault, lengthsFault, reason, section, area, spec, opening}
+use Rattle.rounds.specs.Opening.{Args, listsDue, buffersDue, masksFault, orFault, bytesFault, lengthsFault, reason, section, area, spec}
 use Rattle.rounds.specs.Table.{lent}
 use Rattle.rounds.specs.Toss as Toss
 use Rattle.alone.specs.Opening.{Lens, first-seven, spec-takes}
 use Rattle.alone.specs.Opening as A
 use Rattle.honest.specs.Subject.{opener, subject}
 use Rattle.honest.specs.Script as S
-use Rattle.honest.specs.Inputs.{Own, Boxes, Inputs}
-use Rattle.honest.specs.Base.{Run}
+use Rattle.honest.specs.Inputs.{Run, box, Own, Boxes, Inputs}
+use Rattle.honest.specs.Base.{stored}
 
 -- ---- no reason to refuse
-module _ (a : Args) (r : InRange (a .party .n) (a .party .l)) (li : a .party .i < a .party .n) (o : Own (a .party .n) (a .party .l) (a .party .i) a) where
+module _ (a : Args) (r : InRange (a .party .n) (a .party .l)) (li : a .party .i < a .party .n) (o : Own (a .party) a) where
   lists-due : listsDue (a .party) (length (a .bits)) (length (a .alpha)) (length (a .beta)) ≡ true
   unfolding listsDue
   lists-due = rw (eq-eqb _ _ (o .bits-len), eq-eqb _ _ (o .alpha-len), eq-eqb _ _ (o .beta-len)) refl
@@ -89,7 +89,7 @@ module _ (a : Args) (r : InRange (a .party .n) (a .party .l)) (li : a .party .i 
       ) bytes-none
 
 -- ---- the work area that it lays out
-lens-of : (a : Args) → Own (a .party .n) (a .party .l) (a .party .i) a → Lens a
+lens-of : (a : Args) → Own (a .party) a → Lens a
 lens-of a o = record {
   delta-len = o .delta-len;
   seed-len = o .seed-len;
@@ -101,16 +101,18 @@ lens-of a o = record {
 }
 
 -- in the words of its frame
-pub own-frame : (n l b : ℕ) (a : Args) → Own n l b a → Own (a .party .n) (a .party .l) (a .party .i) a
-own-frame n l b a o = subst (λ (f : Frame). Own (f .n) (f .l) (f .i) a) (sym (o .party)) o
+own-frame : (f : Frame) (a : Args) → Own f a → Own (a .party) a
+own-frame f a o = subst (λ (f : Frame). Own f a) (sym (o .party)) o
 
-module _ (n l : ℕ) (args : ℕ → Args) (strings order : List ℕ) (X : Boxes n l args) where
-  pub known-opened : (i : ℕ) → i < n → Known n l (Run n l args strings order) (due 1) i (area (args i))
+module _ (R : Run) (X : Boxes R) where
+  open Run R using (n, l, inputs)
+
+  pub known-opened : (i : ℕ) → i < n → Known n l (stored R) (due 1) i (area (inputs i))
   unfolding section S.holds
   known-opened i li =
-      A.known-opened (frame n l i) (S.holds n l args strings order) (args i) (X .own i li .party)
-      (lens-of (args i) (own-frame n l i (args i) (X .own i li)))
-      (first-seven (λ s. section (args i) s ≡ S.holds n l args strings order i s) (refl, (refl, (refl, (refl, (refl, (refl, (refl, tt))))))))
+      A.known-opened (box R i) (S.holds R) (inputs i) (X .own i li .party)
+      (lens-of (inputs i) (own-frame (box R i) (inputs i) (X .own i li)))
+      (first-seven (λ s. section (inputs i) s ≡ S.holds R i s) (refl, (refl, (refl, (refl, (refl, (refl, (refl, tt))))))))
 
 -- ---- what demand 3 asks of a call of opening, and of the r Blocks and the permutation
 -- "work areas and buffers hold anything": the inputs of a with another work area and outgoing buffer
@@ -128,24 +130,31 @@ lend a work out = record {
   out = out;
 }
 
--- a is box b's opening: its inputs, and lent buffers of due length
-pub record Given (n l : ℕ) (args : ℕ → Args) (b : ℕ) (a : Args) : Type 0 where
-  pub inputs-are : a ≡ lend (args b) (a .work) (a .out)
-  pub work-len : length (a .work) ≡ workLen (frame n l b)
-  pub out-len : length (a .out) ≡ (n - 1) * msgLen n l 1
+module _ (R : Run) where
+  open Run R using (n, l, inputs, strings, permutation)
 
--- "its r Blocks and permutation, where due, equal the other boxes'": they are due with the calls that write rounds 6 and 21
-pub record Agree (strings order : List ℕ) (j : ℕ) (q : Loan) : Type 0 where
-  pub r-is : j ≡ 6 → q .r ≡ strings
-  pub perm-is : j ≡ 21 → q .perm ≡ order
+  -- a is box b's opening: its inputs, and lent buffers of due length
+  pub record Given (b : ℕ) (a : Args) : Type 0 where
+    pub inputs-are : a ≡ lend (inputs b) (a .work) (a .out)
+    pub work-len : length (a .work) ≡ workLen (box R b)
+    pub out-len : length (a .out) ≡ (n - 1) * msgLen n l 1
+
+  -- "its r Blocks and permutation, where due, equal the other boxes'": they are due with the calls that write rounds 6 and 21
+  pub record Agree (j : ℕ) (q : Loan) : Type 0 where
+    pub r-is : j ≡ 6 → q .r ≡ strings
+    pub perm-is : j ≡ 21 → q .perm ≡ permutation
 
 -- Where the list that all boxes are lent is no permutation, none accepts it (18): the script then runs with some other one.
 unfoldable pub orderFor : ℕ → List ℕ → List ℕ
 orderFor l p = pick (eqb (length p) (leaky l) && isPerm p) p (tab (leaky l) (λ t. t))
 
-pub inputs-for : (n l : ℕ) (args : ℕ → Args) (order : List ℕ) → Boxes n l args → Inputs n l args (orderFor l order)
+-- the run of the script
+abbrev pub played : Run → Run
+played R = record { n = R .n; l = R .l; inputs = R .inputs; strings = R .strings; permutation = orderFor (R .l) (R .permutation) }
+
+pub order-for : (l : ℕ) (p : List ℕ) → (length (orderFor l p) ≡ leaky l) × (isPerm (orderFor l p) ≡ true)
 unfolding orderFor
-inputs-for n l args order X = go (eqb (length order) (leaky l)) refl (isPerm order) refl
+order-for l p = go (eqb (length p) (leaky l)) refl (isPerm p) refl
   where
     same-order : List ℕ
     same-order = tab (leaky l) (λ t. t)
@@ -159,13 +168,18 @@ inputs-for n l args order X = go (eqb (length order) (leaky l)) refl (isPerm ord
     perm : isPerm same-order ≡ true
     perm = perm-of same-order (λ t h. rw (at t h) h) (λ u t h k e. omega (arith, at u (omega arith), at t k))
 
-    other : Inputs n l args same-order
-    other = record { boxes = X; order-len = long; order-perm = perm }
+    go : (a : Bool) → eqb (length p) (leaky l) ≡ a → (b : Bool) → isPerm p ≡ b
+        → (length (pick (a && b) p same-order) ≡ leaky l) × (isPerm (pick (a && b) p same-order) ≡ true)
+    go true ea true eb = (eqb-true _ _ ea, eb)
+    go true ea false eb = (long, perm)
+    go false ea b eb = (long, perm)
 
-    go : (a : Bool) → eqb (length order) (leaky l) ≡ a → (b : Bool) → isPerm order ≡ b → Inputs n l args (pick (a && b) order same-order)
-    go true ea true eb = record { boxes = X; order-len = eqb-true _ _ ea; order-perm = eb }
-    go true ea false eb = other
-    go false ea b eb = other
+pub inputs-for : (R : Run) → Boxes R → Inputs (played R)
+inputs-for R X = record {
+  boxes = record { range = X .range; own = X .own; bits-mac = X .bits-mac; alpha-mac = X .alpha-mac; beta-mac = X .beta-mac };
+  order-len = order-for (R .l) (R .permutation) .0;
+  order-perm = order-for (R .l) (R .permutation) .1;
+}
 
 -- ---- the loans: what passes 17 and 18 and agrees is what the script lends
 empty : (x : List ℕ) → eqb (length x) 0 ≡ true → x ≡ []
@@ -175,7 +189,9 @@ empty (a ∷ x) h = absurd (let e : suc (length x) ≡ 0 = eqb-true _ _ h in ome
 abbrev loan : List ℕ → List ℕ → Loan
 loan r perm = record { r = r; perm = perm }
 
-module _ (l : ℕ) (strings order : List ℕ) (q : Loan) where
+module _ (R : Run) (q : Loan) where
+  open Run R using (l, strings, permutation)
+
   -- the r Blocks
   agrees-r : _≡_ {A = ℕ} (pick (eqb (length (q .r)) (rLen l) && eqb (length (q .perm)) 0) 0 17) 0 → q .r ≡ strings → q ≡ loan strings []
   agrees-r h e = go (eqb (length (q .r)) (rLen l)) (eqb (length (q .perm)) 0) refl h
@@ -187,30 +203,30 @@ module _ (l : ℕ) (strings order : List ℕ) (q : Loan) where
 
   -- the permutation
   agrees-perm : _≡_ {A = ℕ} (pick (eqb (length (q .r)) 0 && eqb (length (q .perm)) (leaky l)) (pick (isPerm (q .perm)) 0 18) 17) 0
-      → q .perm ≡ order → q ≡ loan [] (orderFor l order)
+      → q .perm ≡ permutation → q ≡ loan [] (orderFor l permutation)
   unfolding orderFor
   agrees-perm h e = go (eqb (length (q .r)) 0) refl (eqb (length (q .perm)) (leaky l)) refl (isPerm (q .perm)) refl h
     where
       go : (a : Bool) → eqb (length (q .r)) 0 ≡ a → (b : Bool) → eqb (length (q .perm)) (leaky l) ≡ b → (c : Bool) → isPerm (q .perm) ≡ c
           → _≡_ {A = ℕ} (pick (a && b) (pick c 0 18) 17) 0
-          → q ≡ loan [] (pick (eqb (length order) (leaky l) && isPerm order) order (tab (leaky l) (λ t. t)))
+          → q ≡ loan [] (pick (eqb (length permutation) (leaky l) && isPerm permutation) permutation (tab (leaky l) (λ t. t)))
       go true ea true eb true ec h =
           ap₂ loan (empty (q .r) ea)
-          (e ∙ ap (λ b. pick b order (tab (leaky l) (λ t. t)))
+          (e ∙ ap (λ b. pick b permutation (tab (leaky l) (λ t. t)))
           (sym (ap (λ (p : List ℕ). eqb (length p) (leaky l) && isPerm p) (sym e) ∙ ap₂ _&&_ eb ec)))
       go true ea true eb false ec h = absurd (omega arith)
       go true ea false eb c ec h = absurd (omega arith)
       go false ea b eb c ec h = absurd (omega arith)
 
-  pub agrees : (n j : ℕ) → lent j n l q ≡ 0 → Agree strings order j q
-      → q ≡ loan (pick (eqb j 6) strings []) (pick (eqb j 21) (orderFor l order) [])
+  pub agrees : (n j : ℕ) → lent j n l q ≡ 0 → Agree R j q
+      → q ≡ loan (pick (eqb j 6) strings []) (pick (eqb j 21) (orderFor l permutation) [])
   unfolding lent
   agrees n j h g = go (eqb j 6) refl (eqb j 21) refl h
     where
       go : (a : Bool) → eqb j 6 ≡ a → (b : Bool) → eqb j 21 ≡ b
           → pick a (pick (eqb (length (q .r)) (rLen l) && eqb (length (q .perm)) 0) 0 17)
           (pick b (pick (eqb (length (q .r)) 0 && eqb (length (q .perm)) (leaky l)) (pick (isPerm (q .perm)) 0 18) 17) (noLoan q)) ≡ 0
-          → q ≡ loan (pick a strings []) (pick b (orderFor l order) [])
+          → q ≡ loan (pick a strings []) (pick b (orderFor l permutation) [])
       go true ea true eb h = absurd (omega (arith, eqb-true j 6 ea, eqb-true j 21 eb))
       go true ea false eb h = agrees-r h (g .r-is (eqb-true j 6 ea))
       go false ea true eb h = agrees-perm h (g .perm-is (eqb-true j 21 eb))
@@ -222,38 +238,40 @@ spec-refuses : (a : Args) → reason a ≢ 0
 unfolding spec
 spec-refuses a ne = rw (ne-eqb (reason a) 0 ne) refl
 
-module _ (n l : ℕ) (args : ℕ → Args) (strings order : List ℕ) (X : Boxes n l args) where
+module _ (R : Run) (X : Boxes R) where
+  open Run R using (n, l, inputs, strings, permutation)
+
   -- what box b's opening writes: the commitment of its seed
   abbrev pub firstOut : ℕ → List ℕ
-  firstOut b = toOthers n b (λ r. Toss.commMsg (args b .seed) b)
+  firstOut b = toOthers n b (λ r. Toss.commMsg (inputs b .seed) b)
 
-  own-lend : (b : ℕ) → b < n → (work out : List ℕ) → Own n l b (lend (args b) work out)
+  own-lend : (b : ℕ) → b < n → (work out : List ℕ) → Own (box R b) (lend (inputs b) work out)
   own-lend b lb work out = let o = X .own b lb in search
 
-  no-reason-lend : (b : ℕ) → b < n → (work out : List ℕ) → length work ≡ workLen (frame n l b) → length out ≡ (n - 1) * msgLen n l 1
-      → reason (lend (args b) work out) ≡ 0
+  no-reason-lend : (b : ℕ) → b < n → (work out : List ℕ) → length work ≡ workLen (box R b) → length out ≡ (n - 1) * msgLen n l 1
+      → reason (lend (inputs b) work out) ≡ 0
   no-reason-lend b lb work out hw ho =
-      let p : frame n l b ≡ args b .party = sym (X .own b lb .party) in
-      no-reason (lend (args b) work out) (subst (λ (f : Frame). InRange (f .n) (f .l)) p (X .range)) (subst (λ (f : Frame). f .i < f .n) p lb)
-      (own-frame n l b (lend (args b) work out) (own-lend b lb work out)) (hw ∙ ap workLen p)
+      let p : box R b ≡ inputs b .party = sym (X .own b lb .party) in
+      no-reason (lend (inputs b) work out)
+      (subst (λ (f : Frame). InRange (f .n) (f .l)) p (X .range)) (subst (λ (f : Frame). f .i < f .n) p lb)
+      (own-frame (box R b) (lend (inputs b) work out) (own-lend b lb work out)) (hw ∙ ap workLen p)
       (ho ∙ ap (λ (f : Frame). (f .n - 1) * msgLen (f .n) (f .l) 1) p)
 
   -- it accepts its own inputs, and what the buffers held is not seen
-  takes-given : (b : ℕ) (a : Args) → b < n → Given n l args b a
-      → (reason a ≡ 0) × (spec a ≡ outcome (sessionOf n l b 1) Accepted (area (args b)) (firstOut b))
+  takes-given : (b : ℕ) (a : Args) → b < n → Given R b a
+      → (reason a ≡ 0) × (spec a ≡ outcome (sessionOf n l b 1) Accepted (area (inputs b)) (firstOut b))
   unfolding area section
   takes-given b a lb g =
-      let z : reason (lend (args b) (a .work) (a .out)) ≡ 0 = no-reason-lend b lb (a .work) (a .out) (g .work-len) (g .out-len) in
-      rw (g .inputs-are) (z, spec-takes (lend (args b) (a .work) (a .out)) (frame n l b) (X .own b lb .party) z)
+      let z : reason (lend (inputs b) (a .work) (a .out)) ≡ 0 = no-reason-lend b lb (a .work) (a .out) (g .work-len) (g .out-len) in
+      rw (g .inputs-are) (z, spec-takes (lend (inputs b) (a .work) (a .out)) (box R b) (X .own b lb .party) z)
 
-  pub honest-opening : (W : Lawful subject n l)
-      → HonestOpening subject (S.script n l args strings (orderFor l order)) n l opener (Agree strings order) (Given n l args) W
+  pub honest-opening : (W : Lawful subject n l) → HonestOpening subject (S.script (played R)) n l opener (Agree R) (Given R) W
   unfolding S.sent S.sent1
   honest-opening W = record {
-    first = record { work = λ b. area (args b); out = firstOut };
+    first = record { work = λ b. area (inputs b); out = firstOut };
     refuses = spec-refuses;
     takes = takes-given;
-    keeps = known-opened n l args strings (orderFor l order) X;
+    keeps = known-opened (played R) (inputs-for R X .boxes);
     writes = λ j lj. refl;
-    agrees = λ j q h g. agrees l strings order q n j h g;
+    agrees = λ j q h g. agrees R q n j h g;
   }

@@ -2,10 +2,9 @@
 use mathlib.Core.Path.{_≡_, refl, sym, ap, _∙_, subst}
 use mathlib.Core.Bool.{Bool, true, false, _&&_}
 use mathlib.Core.Logic.{_≢_}
-use mathlib.Core.List.{[]}
 use Prim.Native.Nat.{ℕ, suc, _+_, _-_, _*_, _<_, _≤_}
 use native.Mathlib.Omega.{arith}
-use lib.ListN.{length, getD, replicate, length-replicate}
+use lib.ListN.{length, getD, length-replicate}
 use lib.Dec.{ltb, leb, eqb}
 use borrow.Author.Tests.{leb-true, eqb-true, eqb-false}
 use Rattle.lists.specs.Pick.{pick, pick-then, pick-else}
@@ -18,13 +17,12 @@ use Rattle.share.specs.Record.{recordLen, recordsFault}
 use Rattle.share.specs.RecordLaws.{faults-valid}
 use Rattle.plan.specs.Plan.{InRange, leaky, bitsCount, msgLen}
 use Rattle.engine.specs.declared.Frame.{Frame}
-use Rattle.engine.specs.Step.{frame}
 use Rattle.rounds.specs.Area.{workLen}
 use Rattle.rounds.specs.Opening.{Args, listsDue, buffersDue, masksFault, orFault, bytesFault, lengthsFault, reason}
-use Rattle.honest.specs.Inputs.{Own, Boxes, deltas, bitsOf, alphasOf, betasOf}
+use Rattle.honest.specs.Inputs.{Run, box, Own, Boxes, deltas, bitsOf, alphasOf, betasOf}
 use Rattle.honest.specs.Course.{lawful}
-use Rattle.honest.specs.Opening.{lend, Given, honest-opening}
-use Rattle.honest.specs.Supply.{zeroArgs, zero-boxes}
+use Rattle.honest.specs.Opening.{Given, honest-opening}
+use Rattle.honest.specs.Supply.{zeroInputs, zeroRun, zero-boxes}
 
 -- the lists that a box is opened with hold bytes
 pub record InBytes (a : Args) : Type 0 where
@@ -33,19 +31,20 @@ pub record InBytes (a : Args) : Type 0 where
   pub alpha : Bytes (a .alpha)
   pub beta : Bytes (a .beta)
 
--- "Let two to eight boxes, numbered from 0, be given their count as n, each its number as i, one l from 1 to 300,000, .. inputs that 01 gives
--- opening no reason to refuse, and bit, alpha and beta MACs that each equal the other box's key, plus that box's delta where the bit is 1"
-pub record Premises (n l : ℕ) (args : ℕ → Args) : Type 0 where
-  pub two : 2 ≤ n
-  pub eight : n ≤ 8
-  pub one : 1 ≤ l
-  pub most : l ≤ 300000
-  pub party : (b : ℕ) → b < n → args b .party ≡ frame n l b
-  pub fine : (b : ℕ) → b < n → reason (args b) ≡ 0
-  pub bytes : (b : ℕ) → b < n → InBytes (args b)
-  pub bits-mac : (t : ℕ) → t < bitsCount l → Good blocks n (deltas args) (bitsOf n args t)
-  pub alpha-mac : (t : ℕ) → t < l → Good blocks n (deltas args) (alphasOf n args t)
-  pub beta-mac : (t : ℕ) → t < l → Good blocks n (deltas args) (betasOf n args t)
+-- "Let two to eight boxes, numbered from 0, be given their count as n, each its number as i, one l from 1 to 300,000, .. inputs that 01
+-- gives opening no reason to refuse, and bit, alpha and beta MACs that each equal the other box's key, plus that box's delta where the bit
+-- is 1"
+pub record Premises (R : Run) : Type 0 where
+  pub two : 2 ≤ R .n
+  pub eight : R .n ≤ 8
+  pub one : 1 ≤ R .l
+  pub most : R .l ≤ 300000
+  pub party : (b : ℕ) → b < R .n → R .inputs b .party ≡ box R b
+  pub fine : (b : ℕ) → b < R .n → reason (R .inputs b) ≡ 0
+  pub bytes : (b : ℕ) → b < R .n → InBytes (R .inputs b)
+  pub bits-mac : (t : ℕ) → t < bitsCount (R .l) → Good blocks (R .n) (deltas R) (bitsOf R t)
+  pub alpha-mac : (t : ℕ) → t < R .l → Good blocks (R .n) (deltas R) (alphasOf R t)
+  pub beta-mac : (t : ℕ) → t < R .l → Good blocks (R .n) (deltas R) (betasOf R t)
 
 -- ---- what an opening without a reason was given
 both : (p q : Bool) → (p && q) ≡ true → (p ≡ true) × (q ≡ true)
@@ -131,7 +130,7 @@ buffers-of a h =
 
 -- its inputs
 module _ (a : Args) (h : reason a ≡ 0) (y : InBytes a) where
-  own-here : Own (a .party .n) (a .party .l) (a .party .i) a
+  own-here : Own (a .party) a
   unfolding bytesFault
   own-here =
       let p = passed a h in
@@ -160,20 +159,22 @@ module _ (a : Args) (h : reason a ≡ 0) (y : InBytes a) where
       }
 
 -- ---- the premises are those that the rounds' proofs go by
-module _ (n l : ℕ) (args : ℕ → Args) (P : Premises n l args) where
-  pub boxes-of : Boxes n l args
+module _ (R : Run) (P : Premises R) where
+  open Run R using (n, inputs)
+
+  pub boxes-of : Boxes R
   boxes-of = record {
     range = record { two = P .two; eight = P .eight; one = P .one; most = P .most };
-    own = λ b lb. subst (λ (f : Frame). Own (f .n) (f .l) (f .i) (args b)) (P .party b lb) (own-here (args b) (P .fine b lb) (P .bytes b lb));
+    own = λ b lb. subst (λ (f : Frame). Own f (inputs b)) (P .party b lb) (own-here (inputs b) (P .fine b lb) (P .bytes b lb));
     bits-mac = P .bits-mac;
     alpha-mac = P .alpha-mac;
     beta-mac = P .beta-mac;
   }
 
   -- an opening with them, in buffers that opening takes, is box b's own
-  pub given-of : (b : ℕ) → b < n → Given n l args b (args b)
+  pub given-of : (b : ℕ) → b < n → Given R b (inputs b)
   given-of b lb =
-      let bs = buffers-of (args b) (passed (args b) (P .fine b lb) .buffers) in
+      let bs = buffers-of (inputs b) (passed (inputs b) (P .fine b lb) .buffers) in
       record {
         inputs-are = refl;
         work-len = bs .work ∙ ap workLen (P .party b lb);
@@ -181,10 +182,7 @@ module _ (n l : ℕ) (args : ℕ → Args) (P : Premises n l args) where
       }
 
 -- ---- for every n and l there are inputs that meet them: all-zero ones
-abbrev pub zeroInputs : ℕ → ℕ → ℕ → Args
-zeroInputs n l b = lend (zeroArgs n l b) (replicate (workLen (frame n l b)) 0) (replicate ((n - 1) * msgLen n l 1) 0)
-
-pub zero-premises : (n l : ℕ) → InRange n l → Premises n l (zeroInputs n l)
+pub zero-premises : (n l : ℕ) → InRange n l → Premises (zeroRun n l)
 zero-premises n l r =
     let X = zero-boxes n l r in
     record {
@@ -194,7 +192,7 @@ zero-premises n l r =
       most = r .most;
       party = λ b lb. refl;
       fine = λ b lb.
-          honest-opening n l (zeroArgs n l) [] [] X (lawful n l r) .takes b (zeroInputs n l b) lb
+          honest-opening (zeroRun n l) X (lawful n l r) .takes b (zeroInputs n l b) lb
           (record { inputs-are = refl; work-len = length-replicate {A = ℕ} _ 0; out-len = length-replicate {A = ℕ} _ 0 }) .0;
       bytes = λ b lb. record {
         delta = X .own b lb .delta-bytes;

@@ -30,15 +30,15 @@ use Rattle.rounds.specs.Opening.{Args}
 use Rattle.rounds.specs.Table.{lent}
 use Rattle.honest.specs.Subject.{opener, subject}
 use Rattle.honest.specs.Script as S
-use Rattle.honest.specs.Inputs.{Boxes}
-use Rattle.honest.specs.Opening.{lend, Given, Agree, orderFor, honest-opening}
+use Rattle.honest.specs.Inputs.{Run, box, Boxes}
+use Rattle.honest.specs.Opening.{lend, Given, Agree, orderFor, played, honest-opening}
 
 -- ---- all-zero inputs
 abbrev zeros : ℕ → List ℕ
 zeros c = replicate c 0
 
-abbrev pub zeroArgs : ℕ → ℕ → ℕ → Args
-zeroArgs n l b = record {
+abbrev pub zeroInputs : ℕ → ℕ → ℕ → Args
+zeroInputs n l b = record {
   party = frame n l b;
   delta = zeros 16;
   seed = zeros 32;
@@ -47,9 +47,13 @@ zeroArgs n l b = record {
   alpha = zeros (l * recordLen n);
   beta = zeros (l * recordLen n);
   masks = zeros (n * leaky l);
-  work = [];
-  out = [];
+  work = zeros (workLen (frame n l b));
+  out = zeros ((n - 1) * msgLen n l 1);
 }
+
+-- with r strings and a permutation of due length
+abbrev pub zeroRun : ℕ → ℕ → Run
+zeroRun n l = record { n = n; l = l; inputs = zeroInputs n l; strings = zeros (rLen l); permutation = orderFor l [] }
 
 zero-at : (c k : ℕ) → getD (zeros c) k 0 ≡ 0
 zero-at zero k = refl
@@ -68,7 +72,7 @@ zero-good : (n : ℕ) (δ : ℕ → Block) (c at : ℕ) → Good blocks n δ (sh
 unfolding sharedAt bitAt macAt keyAt odd
 zero-good n δ c at i j li lj ne = simp (zero-at, zero-block) (sym (blocks .unit (blocks .nil)))
 
-pub zero-boxes : (n l : ℕ) → InRange n l → Boxes n l (zeroArgs n l)
+pub zero-boxes : (n l : ℕ) → InRange n l → Boxes (zeroRun n l)
 zero-boxes n l r = record {
   range = r;
   own = λ b lb. record {
@@ -95,36 +99,37 @@ zero-boxes n l r = record {
 }
 
 -- ---- lent buffers, strings and a permutation
-module _ (n l : ℕ) (args : ℕ → Args) (strings order : List ℕ) (X : Boxes n l args) (hs : length strings ≡ rLen l)
-    (ho : length order ≡ leaky l) (perm : isPerm order ≡ true) where
-  order-is : orderFor l order ≡ order
+module _ (R : Run) (X : Boxes R) (hs : length (R .strings) ≡ rLen (R .l)) (ho : length (R .permutation) ≡ leaky (R .l))
+    (perm : isPerm (R .permutation) ≡ true) where
+  open Run R using (n, l, inputs, strings, permutation)
+
+  order-is : orderFor l permutation ≡ permutation
   unfolding orderFor
-  order-is = rw (eq-eqb (length order) (leaky l) ho, perm) refl
+  order-is = rw (eq-eqb (length permutation) (leaky l) ho, perm) refl
 
   -- what the script lends passes 17 and 18
-  lent-none : (j : ℕ) → lent j n l (record { r = pick (eqb j 6) strings []; perm = pick (eqb j 21) (orderFor l order) [] }) ≡ 0
+  lent-none : (j : ℕ) → lent j n l (record { r = pick (eqb j 6) strings []; perm = pick (eqb j 21) (orderFor l permutation) [] }) ≡ 0
   unfolding lent noLoan
   lent-none j = go (eqb j 6) refl (eqb j 21) refl
     where
       go : (a : Bool) → eqb j 6 ≡ a → (b : Bool) → eqb j 21 ≡ b
-          → (let q : Loan = record { r = pick a strings []; perm = pick b (orderFor l order) [] } in
+          → (let q : Loan = record { r = pick a strings []; perm = pick b (orderFor l permutation) [] } in
           pick a (pick (eqb (length (q .r)) (rLen l) && eqb (length (q .perm)) 0) 0 17)
           (pick b (pick (eqb (length (q .r)) 0 && eqb (length (q .perm)) (leaky l)) (pick (isPerm (q .perm)) 0 18) 17) (noLoan q)) ≡ 0)
       go true ea true eb = absurd (omega (arith, eqb-true j 6 ea, eqb-true j 21 eb))
       go true ea false eb = rw (eq-eqb (length strings) (rLen l) hs) refl
-      go false ea true eb = rw (order-is, eq-eqb (length order) (leaky l) ho, perm) refl
+      go false ea true eb = rw (order-is, eq-eqb (length permutation) (leaky l) ho, perm) refl
       go false ea false eb = refl
 
   -- an echo is neither round 6 nor round 21
   not-due : (j k : ℕ) → isEcho subject j ≡ true → isEcho subject k ≡ false → j ≡ k → ⊥
   not-due j k h z e = true-false (sym h ∙ ap (isEcho subject) e ∙ z)
 
-  pub supply : (W : Lawful subject n l) (H : Honest subject (S.script n l args strings (orderFor l order)) n l)
-      → Supply subject (S.script n l args strings (orderFor l order)) n l opener (Agree strings order) (Given n l args) W H
-      (honest-opening n l args strings order X W)
+  pub supply : (W : Lawful subject n l) (H : Honest subject (S.script (played R)) n l)
+      → Supply subject (S.script (played R)) n l opener (Agree R) (Given R) W H (honest-opening R X W)
   unfolding isEcho mem
   supply W H = record {
-    args = λ b. lend (args b) (zeros (workLen (frame n l b))) (zeros ((n - 1) * msgLen n l 1));
+    args = λ b. lend (inputs b) (zeros (workLen (box R b))) (zeros ((n - 1) * msgLen n l 1));
     given = λ b lb. record { inputs-are = refl; work-len = length-replicate {A = ℕ} _ 0; out-len = length-replicate {A = ℕ} _ 0 };
     valid = lent-none;
     agree = λ j. record { r-is = λ e. rw e refl; perm-is = λ e. rw e order-is };

@@ -24,23 +24,20 @@ use Rattle.encode.specs.Coded.{coded-hash, coded-byte}
 use Rattle.encode.specs.RoundTrip.{trip-whole, even-item}
 use Rattle.plan.specs.Plan.{kindOf, countDue, msgLen}
 use Rattle.engine.specs.declared.Frame.{Frame}
-use Rattle.engine.specs.Step.{frame}
 use Rattle.engine.specs.StepLaws.{by-none}
 use Rattle.engine.specs.Area.{mem}
 use Rattle.engine.specs.Sheet.{staysTest}
 use Rattle.engine.specs.Plain.{isEcho}
-use Rattle.engine.specs.Honest.{Script, before, due, plainAfter, RecvAt, SendAt, ListAt}
+use Rattle.engine.specs.Honest.{before, due, plainAfter}
 use Rattle.rounds.specs.Area.{COMMS, JOINT, PAIR-COMMS, PAIRWISE, sizes, sizeOf}
-use Rattle.rounds.specs.Opening.{Args}
 use Rattle.rounds.specs.Table.{judge, kept, held, written}
-use Rattle.honest.specs.Subject.{subject}
 use Rattle.rounds.specs.Toss.{commitment, commMsg, verMsg, told, toldRows, opening, jointSeed, pairwiseSeeds}
 use Rattle.alone.specs.Base.{rows-ext, length-rows, chunk-rows}
 use Rattle.rounds.specs.FashareLaws.{length-hash}
 use Rattle.rounds.specs.EchoLaws.{length-hashVec}
 use Rattle.honest.specs.Script as S
-use Rattle.honest.specs.Inputs.{Boxes}
-use Rattle.honest.specs.Base.{list-form, list-len, Fit, seed-at, pairs-at, comms-at, pair-comms-at, keep-none, keep-one, Reads}
+use Rattle.honest.specs.Inputs.{Run, box, Boxes}
+use Rattle.honest.specs.Base.{Receives, Sends, Hashes, list-form, list-len, Fit, seed-at, pairs-at, comms-at, pair-comms-at, keep-none, keep-one, Reads}
 
 -- ---- a message with a commitment, and one with a seed
 pub length-commitment : (seed : List ℕ) (j : ℕ) → length (commitment seed j) ≡ 32
@@ -137,28 +134,27 @@ module _ (f : Frame) where
         (ap (λ (y : List ℕ). commitment y k) (e k l ne) ∙ sym (told-is k l ne)
         ∙ sym (chunk-rows f 32 _ (λ k l ne. ap length (told-is k l ne) ∙ length-commitment (x k) k) k l ne)))
 
-module _ (n l : ℕ) (args : ℕ → Args) (strings order : List ℕ) (X : Boxes n l args) where
-  abbrev run : Script
-  run = S.script n l args strings order
+module _ (R : Run) (X : Boxes R) where
+  open Run R using (n, l, inputs)
 
   -- ---- round 1
-  fit-comms : Fit n l args strings order COMMS
+  fit-comms : Fit R COMMS
   unfolding S.holds S.comms S.sent1 sizeOf sizes
-  fit-comms = (omega arith, λ i li. length-told (frame n l i) (λ j. S.sent1 n l args strings order j i) (λ k. args k .seed) (λ k lk ne. refl))
+  fit-comms = (omega arith, λ i li. length-told (box R i) (λ j. S.sent1 R j i) (λ k. inputs k .seed) (λ k lk ne. refl))
 
-  pub recv-1 : RecvAt subject run n l 1
+  pub recv-1 : Receives R 1
   unfolding plainAfter isEcho mem staysTest allOf S.since S.holds S.sent S.sent1 S.comms judge kept
   recv-1 = record {
     heard = record {
-      lens = λ j r lj lr ne. comm-len (args j .seed) j n l;
-      formed = λ i j li lj ne. comm-form (args j .seed) j n l .form-is;
-      whole = λ i j li lj ne. comm-form (args j .seed) j n l .list-is;
+      lens = λ j r lj lr ne. comm-len (inputs j .seed) j n l;
+      formed = λ i j li lj ne. comm-form (inputs j .seed) j n l .form-is;
+      whole = λ i j li lj ne. comm-form (inputs j .seed) j n l .list-is;
       judged = λ i li w K m M. refl;
     };
-    keeps = λ i li w K m M. keep-one n l args strings order (due 1) (before 3) i li K COMMS _ refl fit-comms (told-ext (frame n l i) _ _ M);
+    keeps = λ i li w K m M. keep-one R (due 1) (before 3) i li K COMMS _ refl fit-comms (told-ext (box R i) _ _ M);
   }
 
-  pub list-1 : ListAt subject run n l 1
+  pub list-1 : Hashes R 1
   unfolding S.hashed S.sent S.sent1
   list-1 = record {
     size = λ j lj. length-hashVec 1 _;
@@ -166,55 +162,55 @@ module _ (n l : ℕ) (args : ℕ → Args) (strings order : List ℕ) (X : Boxes
   }
 
   -- ---- round 3
-  pub send-3 : SendAt subject run n l 3
+  pub send-3 : Sends R 3
   unfolding staysTest allOf mem S.since S.sent S.sent3 held written
   send-3 = record {
-    keeps = λ v i li w K. keep-none n l args strings order (before 3) (due 3) i li K refl;
-    writes = λ v i r li lr ne w K. ap verMsg (seed-at n l args strings order K);
+    keeps = λ v i li w K. keep-none R (before 3) (due 3) i li K refl;
+    writes = λ v i r li lr ne w K. ap verMsg (seed-at R K);
   }
 
-  fit-joint : Fit n l args strings order JOINT
+  fit-joint : Fit R JOINT
   unfolding S.holds S.joint sizeOf sizes
-  fit-joint = (omega arith, λ i li. length-joint (frame n l i) (args i .seed) _)
+  fit-joint = (omega arith, λ i li. length-joint (box R i) (inputs i .seed) _)
 
-  told-seed : (j : ℕ) → j < n → (m : List ℕ) → m ≡ verMsg (args j .seed) → told m ≡ args j .seed
-  told-seed j lj m e = ap told e ∙ told-ver (args j .seed) (X .own j lj .seed-len)
+  told-seed : (j : ℕ) → j < n → (m : List ℕ) → m ≡ verMsg (inputs j .seed) → told m ≡ inputs j .seed
+  told-seed j lj m e = ap told e ∙ told-ver (inputs j .seed) (X .own j lj .seed-len)
 
-  pub recv-3 : RecvAt subject run n l 3
+  pub recv-3 : Receives R 3
   unfolding plainAfter isEcho mem staysTest allOf S.since S.holds S.sent S.sent1 S.sent3 S.comms S.joint judge kept
   recv-3 = record {
     heard = record {
-      lens = λ j r lj lr ne. ver-len (args j .seed) n l;
-      formed = λ i j li lj ne. ver-form (args j .seed) n l .form-is;
-      whole = λ i j li lj ne. ver-form (args j .seed) n l .list-is;
+      lens = λ j r lj lr ne. ver-len (inputs j .seed) n l;
+      formed = λ i j li lj ne. ver-form (inputs j .seed) n l .form-is;
+      whole = λ i j li lj ne. ver-form (inputs j .seed) n l .list-is;
       judged = λ i li w K m M.
-          ap (λ (c : List ℕ). opening (frame n l i) c m .code) (comms-at n l args strings order K refl)
-          ∙ told-opens (frame n l i) _ (λ k. args k .seed) (λ k lk ne. refl) m (λ k lk ne. told-seed k lk (m k) (M k lk ne));
+          ap (λ (c : List ℕ). opening (box R i) c m .code) (comms-at R K refl)
+          ∙ told-opens (box R i) _ (λ k. inputs k .seed) (λ k lk ne. refl) m (λ k lk ne. told-seed k lk (m k) (M k lk ne));
     };
-    keeps = λ i li w K m M. keep-one n l args strings order (due 3) (before 4) i li K JOINT _ refl fit-joint
-        (ap (λ (x : List ℕ). jointSeed (frame n l i) x m) (seed-at n l args strings order K) ∙ joint-ext (frame n l i) (args i .seed) m _ M);
+    keeps = λ i li w K m M. keep-one R (due 3) (before 4) i li K JOINT _ refl fit-joint
+        (ap (λ (x : List ℕ). jointSeed (box R i) x m) (seed-at R K) ∙ joint-ext (box R i) (inputs i .seed) m _ M);
   }
 
   -- ---- round 4
-  pub send-4 : SendAt subject run n l 4
+  pub send-4 : Sends R 4
   unfolding staysTest allOf mem S.since S.sent S.sent4 held written
   send-4 = record {
-    keeps = λ v i li w K. keep-none n l args strings order (before 4) (due 4) i li K refl;
-    writes = λ v i r li lr ne w K. ap (λ (x : List ℕ). commMsg (chunk 32 r x) i) (pairs-at n l args strings order K);
+    keeps = λ v i li w K. keep-none R (before 4) (due 4) i li K refl;
+    writes = λ v i r li lr ne w K. ap (λ (x : List ℕ). commMsg (chunk 32 r x) i) (pairs-at R K);
   }
 
   -- the seed that j tosses with r
   abbrev pair : ℕ → ℕ → List ℕ
-  pair j r = chunk 32 r (args j .pairs)
+  pair j r = chunk 32 r (inputs j .pairs)
 
-  fit-pair-comms : Fit n l args strings order PAIR-COMMS
+  fit-pair-comms : Fit R PAIR-COMMS
   unfolding S.holds S.pairComms S.sent4 sizeOf sizes
   fit-pair-comms = (
     omega arith,
-    λ i li. length-told (frame n l i) (λ j. S.sent4 n l args strings order j i) (λ k. pair k i) (λ k lk ne. refl),
+    λ i li. length-told (box R i) (λ j. S.sent4 R j i) (λ k. pair k i) (λ k lk ne. refl),
   )
 
-  pub recv-4 : RecvAt subject run n l 4
+  pub recv-4 : Receives R 4
   unfolding plainAfter isEcho mem staysTest allOf S.since S.holds S.sent S.sent4 S.pairComms judge kept msgLen countDue kindOf
   recv-4 = record {
     heard = record {
@@ -224,26 +220,26 @@ module _ (n l : ℕ) (args : ℕ → Args) (strings order : List ℕ) (X : Boxes
       judged = λ i li w K m M. refl;
     };
     keeps = λ i li w K m M.
-        keep-one n l args strings order (due 4) (before 5) i li K PAIR-COMMS _ refl fit-pair-comms (told-ext (frame n l i) _ _ M);
+        keep-one R (due 4) (before 5) i li K PAIR-COMMS _ refl fit-pair-comms (told-ext (box R i) _ _ M);
   }
 
   -- ---- round 5
-  pub send-5 : SendAt subject run n l 5
+  pub send-5 : Sends R 5
   unfolding staysTest allOf mem S.since S.sent S.sent5 held written
   send-5 = record {
-    keeps = λ v i li w K. keep-none n l args strings order (before 5) (due 5) i li K refl;
-    writes = λ v i r li lr ne w K. ap (λ (x : List ℕ). verMsg (chunk 32 r x)) (pairs-at n l args strings order K);
+    keeps = λ v i li w K. keep-none R (before 5) (due 5) i li K refl;
+    writes = λ v i r li lr ne w K. ap (λ (x : List ℕ). verMsg (chunk 32 r x)) (pairs-at R K);
   }
 
-  fit-pairwise : Fit n l args strings order PAIRWISE
+  fit-pairwise : Fit R PAIRWISE
   unfolding S.holds S.pairwise sizeOf sizes
-  fit-pairwise = (omega arith, λ i li. length-pairwise (frame n l i) (args i .pairs) _ (X .own i li .pairs-len))
+  fit-pairwise = (omega arith, λ i li. length-pairwise (box R i) (inputs i .pairs) _ (X .own i li .pairs-len))
 
   told-pair : (i j : ℕ) → i < n → j < n → (m : List ℕ) → m ≡ verMsg (pair j i) → told m ≡ pair j i
   told-pair i j li lj m e =
-      ap told e ∙ told-ver (pair j i) (length-chunk 32 n i (args j .pairs) li (omega (arith, X .own j lj .pairs-len)))
+      ap told e ∙ told-ver (pair j i) (length-chunk 32 n i (inputs j .pairs) li (omega (arith, X .own j lj .pairs-len)))
 
-  pub recv-5 : RecvAt subject run n l 5
+  pub recv-5 : Receives R 5
   unfolding plainAfter isEcho mem staysTest allOf S.since S.holds S.sent S.sent4 S.sent5 S.pairComms S.pairwise judge kept msgLen countDue kindOf
   recv-5 = record {
     heard = record {
@@ -251,10 +247,10 @@ module _ (n l : ℕ) (args : ℕ → Args) (strings order : List ℕ) (X : Boxes
       formed = λ i j li lj ne. ver-form (pair j i) n l .form-is;
       whole = λ i j li lj ne. ver-form (pair j i) n l .list-is;
       judged = λ i li w K m M.
-          ap (λ (c : List ℕ). opening (frame n l i) c m .code) (pair-comms-at n l args strings order K refl)
-          ∙ told-opens (frame n l i) _ (λ k. pair k i) (λ k lk ne. refl) m (λ k lk ne. told-pair i k li lk (m k) (M k lk ne));
+          ap (λ (c : List ℕ). opening (box R i) c m .code) (pair-comms-at R K refl)
+          ∙ told-opens (box R i) _ (λ k. pair k i) (λ k lk ne. refl) m (λ k lk ne. told-pair i k li lk (m k) (M k lk ne));
     };
-    keeps = λ i li w K m M. keep-one n l args strings order (due 5) (before 6) i li K PAIRWISE _ refl fit-pairwise
-        (ap (λ (x : List ℕ). pairwiseSeeds (frame n l i) x m) (pairs-at n l args strings order K)
-        ∙ pairwise-ext (frame n l i) (args i .pairs) m _ M);
+    keeps = λ i li w K m M. keep-one R (due 5) (before 6) i li K PAIRWISE _ refl fit-pairwise
+        (ap (λ (x : List ℕ). pairwiseSeeds (box R i) x m) (pairs-at R K)
+        ∙ pairwise-ext (box R i) (inputs i .pairs) m _ M);
   }
