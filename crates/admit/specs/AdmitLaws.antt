@@ -2,14 +2,14 @@
 use mathlib.Core.Path.{_≡_, refl, sym, ap, ap₂, _∙_, subst, fun-ext}
 use mathlib.Core.Logic.{_≢_}
 use mathlib.Core.Bool.{Bool, true, false, not, _&&_, _||_}
-use mathlib.Core.List.{List, [], _++_}
+use mathlib.Core.List.{List, []}
 use Prim.Native.Nat.{ℕ, zero, suc, _+_, _-_, _*_, _<_, _≤_}
 use native.Mathlib.Numerals.{add-one}
 use native.Mathlib.Omega.{arith}
 use lib.ListN.{length, getD, take, drop, set, replicate, length-take}
 use lib.Seq.{take-at, take-take}
 use lib.Dec.{ltb, leb, eqb}
-use borrow.Author.Tests.{ltb-true, ltb-false, leb-true, le-leb, lt-leb, eqb-true, eqb-false, eq-eqb, ne-eqb}
+use borrow.Author.Tests.{ltb-true, leb-true, leb-false, le-leb, lt-leb, eqb-true, eqb-false, eq-eqb, ne-eqb}
 use Rattle.lists.specs.Pick.{pick, pick-else}
 use Rattle.lists.specs.All.{allOf, of-all, all-turn, all-false, all-ext, true-false}
 use Rattle.lists.specs.Over.{tab, length-tab, length-over, getD-tab, tab-zero, tab-step}
@@ -29,7 +29,7 @@ use Rattle.engine.specs.declared.Session.{Session}
 use Rattle.engine.specs.Step.{Lent, Loan, frame, mask, gone, part, heard, inside, partsIn, sizes, reasonOf, orElse, scan, byParty, formFault}
 use Rattle.engine.specs.StepLaws.{other-is, mask-ext}
 use Rattle.engine.specs.Area.{mem}
-use Rattle.engine.specs.Plain.{noLoan, isEcho, nextOf, isRound, toEcho, lenOf, outLenOf, lentOf, formOf, listOf, ruleOf, protocolOf}
+use Rattle.engine.specs.Plain.{isEcho, nextOf, isRound, lenOf, outLenOf, lentOf, formOf, listOf, ruleOf, protocolOf}
 use Rattle.rounds.specs.Area.{workLen}
 use Rattle.rounds.specs.Mail as Mail
 use Rattle.rounds.specs.RowsLaws.{other-neq}
@@ -37,7 +37,7 @@ use Rattle.rounds.specs.MailLaws.{neq-same}
 use Rattle.rounds.specs.FaultLaws.{Finds}
 use Rattle.rounds.specs.Echo.{echo}
 use Rattle.rounds.specs.EchoLaws.{Received}
-use Rattle.rounds.specs.Table.{table, lent, fine}
+use Rattle.rounds.specs.Table.{table, noLoan, lent, fine}
 use Rattle.area.specs.AreaLaws.{work-any}
 use Rattle.haand.specs.Given.{Ranges}
 use Rattle.admit.specs.Admit.{loan, given, lengthsFit, fits, kindFault, usedAt, usedOf}
@@ -167,10 +167,6 @@ lent-none : (k n l : ℕ) (q : Loan) → k ≢ 6 → k ≢ 21 → lent k n l q �
 unfolding lent
 lent-none k n l q a b = rw (ne-eqb k 6 a, ne-eqb k 21 b) refl
 
-next-more : (n k : ℕ) → k < 22 → eqb n 2 ≡ false → nextRound n k ≡ suc k
-unfolding nextRound
-next-more n k h e = rw (lt-leb 22 k h, e) (omega arith)
-
 next-past : (n k : ℕ) → 22 ≤ k → nextRound n k ≡ 0
 unfolding nextRound
 next-past n k h = rw (le-leb 22 k h) refl
@@ -179,45 +175,17 @@ of-next : (two : Bool) (k : ℕ) → k ≢ 22 → isEcho table (suc k) ≡ false
 unfolding nextOf
 of-next two k ne e = rw (ne-eqb k 22 ne, e, and-false two) refl
 
-to-echo-not : (two : Bool) (k : ℕ) → isEcho table (suc k) ≡ false → toEcho table two k ≡ false
-unfolding toEcho
-to-echo-not two k e = rw (e, and-false (not two)) refl
-
-to-echo-is : (two : Bool) (k : ℕ) → toEcho table two k ≡ true → (two ≡ false) × (isEcho table (suc k) ≡ true)
-unfolding toEcho
-to-echo-is two k h = (single two (and-first (not two) _ h), and-second (not two) _ h)
+pub lent-is : (k n l : ℕ) (q : Loan) → lentOf table k n l q ≡ lent (nextRound n k) n l q
+unfolding lentOf
+lent-is k n l q = go (leb k 22) refl
   where
-    single : (b : Bool) → not b ≡ true → b ≡ false
-    single true e = sym e
-    single false e = refl
-
-module _ (k n l : ℕ) (q : Loan) where
-  none : (j : ℕ) → j ≢ 6 → j ≢ 21 → noLoan q ≡ lent j n l q
-  none j a b = sym (lent-none j n l q a b)
-
-  pub lent-is : lentOf table k n l q ≡ lent (nextRound n k) n l q
-  unfolding lentOf
-  lent-is = by-eq _ k 22 last (λ e. rw (ne-eqb k 22 e) (by (ltb k 22) refl e))
-    where
-      last : k ≡ 22 → pick (eqb k 22) (noLoan q) (pick (toEcho table (eqb n 2) k) (noLoan q) (lent (nextOf table (eqb n 2) k) n l q)) ≡ lent (nextRound n k) n l q
-      last e = rw (eq-eqb k 22 e, next-past n k (omega arith)) (none 0 (omega arith) (omega arith))
-
-      echoes : k < 22 → (b : Bool) → toEcho table (eqb n 2) k ≡ b → pick b (noLoan q) (lent (nextRound n k) n l q) ≡ lent (nextRound n k) n l q
-      echoes lo true t =
-          let w = to-echo-is (eqb n 2) k t in
-          let r = echo-rest (suc k) (sym (echo-is (suc k)) ∙ w .1) in
-          none (suc k) (r .not6) (r .not21) ∙ ap (λ j. lent j n l q) (sym (next-more n k lo (w .0)))
-      echoes lo false t = refl
-
-      by : (b : Bool) → ltb k 22 ≡ b → k ≢ 22 → pick (toEcho table (eqb n 2) k) (noLoan q) (lent (nextOf table (eqb n 2) k) n l q) ≡ lent (nextRound n k) n l q
-      by true h ne =
-          let lo : k < 22 = ltb-true k 22 h in
-          rw (next-is n k (omega arith)) (echoes lo (toEcho table (eqb n 2) k) refl)
-      by false h ne =
-          let hi : 22 < k = omega (arith, ltb-false k 22 h) in
-          let e : isEcho table (suc k) ≡ false = echo-is (suc k) ∙ no-echo (suc k) (omega arith) in
-          rw (to-echo-not (eqb n 2) k e, of-next (eqb n 2) k ne e, next-past n k (omega arith))
-          (sym (none (suc k) (omega arith) (omega arith)) ∙ none 0 (omega arith) (omega arith))
+    go : (b : Bool) → leb k 22 ≡ b → lent (nextOf table (eqb n 2) k) n l q ≡ lent (nextRound n k) n l q
+    go true h = ap (λ j. lent j n l q) (next-is n k (leb-true k 22 h))
+    go false h =
+        let hi : 22 < k = omega (arith, leb-false k 22 h) in
+        let e : isEcho table (suc k) ≡ false = echo-is (suc k) ∙ no-echo (suc k) (omega arith) in
+        rw (of-next (eqb n 2) k (omega arith) e, next-past n k (omega arith))
+        (lent-none (suc k) n l q (omega arith) (omega arith) ∙ sym (lent-none 0 n l q (omega arith) (omega arith)))
 
 -- by the round that is written
 module _ (j n l : ℕ) (r perm : List ℕ) where

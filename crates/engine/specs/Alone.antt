@@ -17,7 +17,7 @@ use Rattle.engine.specs.World.{Box, turnedBox, sessionOf}
 use Rattle.engine.specs.OneBox.{Turn, turnBox, turns, Reads, AllRead, alive-some}
 use Rattle.engine.specs.Area.{off, putSec, length-putSec, sec-other, toOthers, toOthers-ext, mem, Every, every-mem}
 use Rattle.engine.specs.Sheet.{Store, Known}
-use Rattle.engine.specs.Plain.{Table, prior, isEcho, nextOf, isRound, numberOf, toEcho, lentOf, formOf, listOf, pending, digests, echoCheck, checkOf, waits, kept, held, made, keepOf, writeOf, protocolOf}
+use Rattle.engine.specs.Plain.{Table, prior, isEcho, nextOf, numberOf, toEcho, lentOf, formOf, listOf, pending, digests, echoCheck, checkOf, waits, kept, held, made, keepOf, writeOf, protocolOf}
 use Rattle.engine.specs.Honest.{Lawful, before, due, plainAfter}
 use Rattle.engine.specs.PlainLaws.{and-false, length-rows, held-waits, first-plain, no-two, echo-not-last, next-on, next-echo, next-plain}
 
@@ -298,14 +298,9 @@ module _ (T : Table) (n l i : ℕ) (U : Tale) (m : ℕ → ℕ → List ℕ) (q 
       unfolding writeOf made
       write-is = rw (ne-eqb k (T .last) ne, on) refl
 
-      lent-is : lentOf T k n l (q j) ≡ T .send j .lent n l (q j)
-      unfolding lentOf
-      lent-is = rw (ne-eqb k (T .last) ne, on) refl
-
       makes : 0 < j → j ≤ T .last → isEcho T j ≡ false → Past j → lentOf T k n l (q j) ≡ 0 → SendAt j → At (before j) got → Steps d k w
-      unfolding numberOf wroteFor
-      makes some low plain past lent S K =
-          let z : LentFor j = sym lent-is ∙ lent in
+      unfolding numberOf wroteFor lentOf
+      makes some low plain past z S K =
           let K′ : At (due j) work = S .keeps past z got K in
           record {
             stands = subst (Stands (suc d) j) (sym keep-is) (plainly (ap (nextOf T two) nk)

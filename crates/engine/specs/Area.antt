@@ -8,7 +8,7 @@ use native.Mathlib.Nat.{le-refl, mul-comm}
 use native.Mathlib.Numerals.{add-one}
 use native.Mathlib.Omega.{arith}
 use lib.ListN.{length, getD, take, drop, set, length-append, length-take, length-drop, take-append-drop}
-use lib.Seq.{take-at, drop-at, take-nil, take-take, drop-drop, take-add, take-append-le, drop-append-le, length-take-le, getD-take}
+use lib.Seq.{take-at, drop-at, take-take, drop-drop, take-add, take-append-le, drop-append-le, length-take-le, getD-take}
 use lib.Seq.{getD-drop, set-split}
 use lib.Dec.{ltb, eqb}
 use borrow.Author.Tests.{ltb-true, ltb-false, le-ltb, eqb-true}

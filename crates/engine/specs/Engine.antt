@@ -13,7 +13,7 @@ use lib.Dec.{ltb}
 use borrow.Author.Tests.{ltb-true, ltb-false}
 use Rattle.lists.specs.All.{true-false}
 use Rattle.algebra.specs.Sum.{neq, apart?, Same, same}
-use Rattle.engine.specs.Step.{Frame, frame, Session, Loan, Lent, Reply, Accepted, Refused, Outcome, outcome, Protocol, mask, part, heard}
+use Rattle.engine.specs.Step.{Frame, frame, Session, Loan, nothing, Lent, Reply, Accepted, Refused, Outcome, outcome, Rule, Protocol, mask, part, heard}
 use Rattle.engine.specs.Step.{stretch, reasonOf, faultOf, accepted, roundSpec}
 use Rattle.engine.specs.StepLaws.{round-cases, due-of, over-20, other-19, mask-ext, no-fault, round-accepts}
 use Rattle.engine.specs.World.{In, here, there, All, update, Box, Note, World, Call, opening, turn, start, logged, openedBox}
@@ -38,10 +38,6 @@ module _ (P : Protocol) (n l : ℕ) (loans : ℕ → Loan) where
     out = λ i. P .rule k .write (frame n l i) (loans k) (G .work i) (mailOf k G i);
   }
 
-  -- the r Blocks or permutation of round k have no reason
-  abbrev pub Valid : ℕ → Type 0
-  Valid k = P .rule k .lent n l (loans k) ≡ 0
-
   -- what has to be shown of round k. Holds k G: what is true of the work areas and messages when round k is due for all
   pub record HonestRound (Holds : ℕ → Joint → Type 0) (k : ℕ) : Type 0 where
     pub sized : (G : Joint) → Holds k G → (i : ℕ) → i < n → length (G .work i) ≡ P .workLen (frame n l i)
@@ -49,16 +45,24 @@ module _ (P : Protocol) (n l : ℕ) (loans : ℕ → Loan) where
         → P .rule k .form (frame n l i) (stretch (P .msgLen n l k) j i (G .out j)) ≡ 0
     pub whole : (G : Joint) → Holds k G → (i j : ℕ) → i < n → j < n → i ≢ j
         → P .rule k .list (frame n l i) (stretch (P .msgLen n l k) j i (G .out j)) ≡ stretch (P .msgLen n l k) j i (G .out j)
-    pub passes : (G : Joint) → Holds k G → Valid k → (i : ℕ) → i < n
+    pub passes : (G : Joint) → Holds k G → (i : ℕ) → i < n
         → P .rule k .check (frame n l i) (loans k) (G .work i) (mailOf k G i) .code ≡ 0
-    pub goes : (G : Joint) → Holds k G → Valid k → Holds (P .next n k) (together k G)
+    pub goes : (G : Joint) → Holds k G → Holds (P .next n k) (together k G)
+
+-- Two loans are alike to a rule that makes the same of both, as of equal ones. The engine asks no more, and looks into none: a rule may take
+-- what is lent in several forms.
+pub record Alike (R : Rule) (n l : ℕ) (q q′ : Loan) : Type 0 where
+  pub check : (i : ℕ) (w : List ℕ) (m : ℕ → List ℕ) → R .check (frame n l i) q w m ≡ R .check (frame n l i) q′ w m
+  pub keep : (i : ℕ) (w : List ℕ) (m : ℕ → List ℕ) → R .keep (frame n l i) q w m ≡ R .keep (frame n l i) q′ w m
+  pub write : (i : ℕ) (w : List ℕ) (m : ℕ → List ℕ) → R .write (frame n l i) q w m ≡ R .write (frame n l i) q′ w m
 
 -- what has to be shown for a scene
 pub record Duty {Args : Type 0} (S : Scene Args) : Type 1 where
   pub loans : ℕ → Loan
   pub first : Joint
   pub Holds : ℕ → Joint → Type 0
-  pub agreed : (k : ℕ) (q : Loan) → S .protocol .rule k .lent (S .n) (S .l) q ≡ 0 → S .Agrees k q → q ≡ loans k
+  pub agreed : (k : ℕ) (q : Loan) → S .protocol .rule k .lent (S .n) (S .l) q ≡ 0 → S .Agrees k q
+      → Alike (S .protocol .rule k) (S .n) (S .l) q (loans k)
   pub refuses : (a : Args) → S .opens .reason a ≢ 0
       → S .opens .spec a
       ≡ outcome (S .opens .spec a .session) (Refused (S .opens .reason a) (S .opens .party a)) (S .opens .work a) (S .opens .out a)
@@ -88,20 +92,17 @@ module _ {Args : Type 0} (S : Scene Args) (D : Duty S) where
   abbrev fr : ℕ → Frame
   fr b = frame (S .n) (S .l) b
 
-  abbrev pub ValidAt : ℕ → Type 0
-  ValidAt d = Valid (S .protocol) (S .n) (S .l) (D .loans) (S .course .number d)
-
   -- the run in step
   unfoldable pub ideal : ℕ → Joint
   ideal zero = D .first
   ideal (suc d) = together (S .protocol) (S .n) (S .l) (D .loans) (S .course .number d) (ideal d)
 
-  pub holds : (d : ℕ) → d ≤ S .course .steps → ((e : ℕ) → e < d → ValidAt e) → D .Holds (S .course .number d) (ideal d)
+  pub holds : (d : ℕ) → d ≤ S .course .steps → D .Holds (S .course .number d) (ideal d)
   unfolding ideal
-  holds zero h v = D .base
-  holds (suc d) h v =
+  holds zero h = D .base
+  holds (suc d) h =
       subst (λ k. D .Holds k (together P (S .n) (S .l) (D .loans) (C .number d) (ideal d))) (C .next-is d h)
-      (D .rounds d h .goes (ideal d) (holds d (omega arith) (λ e l. v e (omega arith))) (v d (le-refl (suc d))))
+      (D .rounds d h .goes (ideal d) (holds d (omega arith)))
 
   -- box b has accepted x .rounds rounds of the run in step
   pub record Follows (b : ℕ) (x : Box) : Type 0 where
@@ -109,7 +110,6 @@ module _ {Args : Type 0} (S : Scene Args) (D : Duty S) where
     pub session : x .session ≡ sessionAt S b (x .rounds)
     pub work : x .work ≡ ideal (x .rounds) .work b
     pub wrote : x .wrote ≡ ideal (x .rounds) .out b
-    pub valid : (e : ℕ) → e < x .rounds → ValidAt e
 
   abbrev pub BoxOk : ℕ → Option Box → Type 0
   BoxOk b none = Unit {0}
@@ -131,7 +131,6 @@ module _ {Args : Type 0} (S : Scene Args) (D : Duty S) where
   pub record Before (b d : ℕ) (log : List Note) : Type 0 where
     pub box : b < S .n
     pub step : d ≤ S .course .steps
-    pub valid : (e : ℕ) → e < d → ValidAt e
     pub notes : All NoteOk log
 
   module _ (b k d : ℕ) (q : Lent) (log : List Note) (B : Before b d log) where
@@ -169,29 +168,26 @@ module _ {Args : Type 0} (S : Scene Args) (D : Duty S) where
       unfolding heard
       heard-is z j lj ne =
           ap₂ (λ m x. P .rule m .list (fr b) x) (due-is z) (part-is z j lj ne)
-          ∙ D .rounds d (not-over z) .whole (ideal d) (holds d (B .step) (B .valid)) b j (B .box) lj ne
+          ∙ D .rounds d (not-over z) .whole (ideal d) (holds d (B .step)) b j (B .box) lj ne
 
       mail-is : Z → mask (fr b) (heard (P .rule k) (fr b) q) ≡ mailOf P (S .n) (S .l) (D .loans) (C .number d) (ideal d) b
       unfolding mailOf
       mail-is z = mask-ext (fr b) (heard (P .rule k) (fr b) q) _ (heard-is z)
 
-      loan-is : Z → q .loan ≡ D .loans (C .number d)
-      loan-is z = D .agreed k (q .loan) (due-of P s k q wk z .lent) (fair z .1) ∙ ap (D .loans) (due-is z)
-
-      valid-here : Z → ValidAt d
-      valid-here z = rw (← loan-is z, ← due-is z) (due-of P s k q wk z .lent)
+      alike : Z → Alike (P .rule k) (S .n) (S .l) (q .loan) (D .loans k)
+      alike z = D .agreed k (q .loan) (due-of P s k q wk z .lent) (fair z .1)
 
       no-fault-here : Z → faultOf (P .rule k) (s .party) q wk .code ≡ 0
       no-fault-here z =
           let R = D .rounds d (not-over z) in
-          let h : D .Holds (C .number d) (ideal d) = holds d (B .step) (B .valid) in
+          let h : D .Holds (C .number d) (ideal d) = holds d (B .step) in
           no-fault (P .rule k) (fr b) q wk
           (λ j lj ne. (fair z .0 j lj ne .0, rw (part-is z j lj ne, due-is z) (R .formed (ideal d) h b j (B .box) lj ne)))
-          (rw (mail-is z, loan-is z, due-is z) (R .passes (ideal d) h (valid-here z) b (B .box)))
+          (rw (mail-is z, alike z .check, due-is z) (R .passes (ideal d) h b (B .box)))
 
       accepted-is : Z → accepted P s k q wk ≡ outcome (sessionAt S b (suc d)) Accepted (ideal (suc d) .work b) (ideal (suc d) .out b)
       unfolding accepted ideal together
-      accepted-is z = rw (mail-is z, loan-is z, due-is z, C .next-is d (not-over z)) refl
+      accepted-is z = rw (mail-is z, alike z .keep, alike z .write, due-is z, C .next-is d (not-over z)) refl
 
   -- a fair call with no reason goes on
   pub goes-on : (b k d : ℕ) (q : Lent) (log : List Note) → Before b d log → Reads S log b d k q → S .Agrees k (q .loan)
@@ -208,33 +204,26 @@ module _ {Args : Type 0} (S : Scene Args) (D : Duty S) where
     follows : Follows b (turnedBox x r (r .reply))
     notes : All NoteOk (logged log b (suc (x .rounds)) r (r .reply))
 
-  below : (d : ℕ) → ((e : ℕ) → e < d → ValidAt e) → ValidAt d → (e : ℕ) → e < suc d → ValidAt e
-  below d v h e l = go (ltb e d) refl
-    where
-      go : (t : Bool) → ltb e d ≡ t → ValidAt e
-      go true q = v e (ltb-true e d q)
-      go false q = subst ValidAt (let p : d ≡ e = omega (arith, ltb-false e d q) in p) h
-
-  follows-at : (d b : ℕ) → d ≤ C .steps → ((e : ℕ) → e < d → ValidAt e) → Follows b (boxAt d b)
-  follows-at d b h v = record { bound = h; session = refl; work = refl; wrote = refl; valid = v }
+  follows-at : (d b : ℕ) → d ≤ C .steps → Follows b (boxAt d b)
+  follows-at d b h = record { bound = h; session = refl; work = refl; wrote = refl }
 
   took-ideal : (b k d : ℕ) (q : Lent) (log : List Note) → Before b d log
       → (reasonAfter S b (boxAt d b) k q ≡ 0 → Reads S log b d k q × S .Agrees k (q .loan))
       → Took b k q log (boxAt d b) (roundSpec P (sessionAt S b d) k q (ideal d .work b))
   took-ideal b k d q log B fair =
       round-cases P (sessionAt S b d) k q (ideal d .work b) (Took b k q log (boxAt d b))
-      (λ ne. record { answered = refused-it ne refl; follows = follows-at d b (B .step) (B .valid); notes = B .notes })
+      (λ ne. record { answered = refused-it ne refl; follows = follows-at d b (B .step); notes = B .notes })
       (λ z ne. absurd (ne (no-fault-here b k d q log B fair z)))
       (λ z f. subst (Took b k q log (boxAt d b)) (sym (accepted-is b k d q log B fair z)) (record {
         answered = accepted-it z refl;
-        follows = follows-at (suc d) b (not-over b k d q log B z) (below d (B .valid) (valid-here b k d q log B fair z));
+        follows = follows-at (suc d) b (not-over b k d q log B z);
         notes = (refl, B .notes);
       }))
 
   took : (b k : ℕ) (q : Lent) (log : List Note) (x : Box) → b < S .n → Follows b x → All NoteOk log → FairTurn S log b k q (some x)
       → Took b k q log x (roundSpec P (x .session) k q (x .work))
   took b k q log x lb f notes fair =
-      let B : Before b (x .rounds) log = record { box = lb; step = f .bound; valid = f .valid; notes = notes } in
+      let B : Before b (x .rounds) log = record { box = lb; step = f .bound; notes = notes } in
       let t = took-ideal b k (x .rounds) q log B (λ z. fair (rw (f .work) z)) in
       subst (λ (y : Box). Took b k q log y (roundSpec P (y .session) k q (y .work))) (sym (box-is x f)) t
     where
@@ -279,7 +268,7 @@ module _ {Args : Type 0} (S : Scene Args) (D : Duty S) where
       )
     where
       first : Follows b (boxAt 0 b)
-      first = follows-at 0 b (omega arith) (λ e l. absurd (omega arith))
+      first = follows-at 0 b (omega arith)
 
   call-ok : (w : World) (c : Call Args) → Inv w → Fair S w c → Right S w c × Inv (after P (S .opens) w c)
   call-ok w (opening b a) h fair = opening-ok w b a h (fair .0) (fair .2)
@@ -306,8 +295,8 @@ module _ {Args : Type 0} (S : Scene Args) (D : Duty S) where
   all-done : (b : ℕ) (x : Box) → b < S .n → Follows b x → Done P (x .session) → x .rounds ≡ C .steps
   all-done b x lb f done = go (ltb (x .rounds) (C .steps)) refl
     where
-      nothing : Lent
-      nothing = record { incoming = []; starts = []; lens = []; missing = []; loan = record { r = []; perm = [] }; out = [] }
+      empty : Lent
+      empty = record { incoming = []; starts = []; lens = []; missing = []; loan = nothing; out = [] }
 
       code : Reply → ℕ
       code Accepted = 0
@@ -317,15 +306,15 @@ module _ {Args : Type 0} (S : Scene Args) (D : Duty S) where
       wrong s = suc (s .due)
 
       answers : x .rounds < C .steps
-          → roundSpec P (x .session) (wrong (x .session)) nothing [] ≡ outcome (x .session) (Refused 19 (x .session .party .i)) [] []
-      answers h = other-19 P (x .session) (wrong (x .session)) nothing [] (rw (f .session) (C .live (x .rounds) b h lb)) (λ e. omega arith)
+          → roundSpec P (x .session) (wrong (x .session)) empty [] ≡ outcome (x .session) (Refused 19 (x .session .party .i)) [] []
+      answers h = other-19 P (x .session) (wrong (x .session)) empty [] (rw (f .session) (C .live (x .rounds) b h lb)) (λ e. omega arith)
 
       go : (t : Bool) → ltb (x .rounds) (C .steps) ≡ t → x .rounds ≡ C .steps
       go false e = omega (arith, f .bound, ltb-false (x .rounds) (C .steps) e)
       go true e =
-          let a : roundSpec P (x .session) (wrong (x .session)) nothing [] .reply ≡ Refused 19 (x .session .party .i) =
+          let a : roundSpec P (x .session) (wrong (x .session)) empty [] .reply ≡ Refused 19 (x .session .party .i) =
           ap (λ (r : Outcome). r .reply) (answers (ltb-true _ _ e)) in
-          let c : _≡_ {A = ℕ} 19 20 = ap code (sym a ∙ done (wrong (x .session)) nothing []) in
+          let c : _≡_ {A = ℕ} 19 20 = ap code (sym a ∙ done (wrong (x .session)) empty []) in
           absurd (omega arith)
 
   pub every-done : (cs : List (Call Args)) → FairList S start cs → (b : ℕ) (x : Box) → runs S cs .box b ≡ some x
@@ -339,11 +328,11 @@ module _ {Args : Type 0} (S : Scene Args) (D : Duty S) where
   every-result cs fair b x e done =
       let f = box-ok cs fair b x e in
       let r : x .rounds ≡ C .steps = all-done b x (f .0) (f .1) done in
-      (f .0, f .1 .wrote ∙ ap (λ d. ideal d .out b) r, holds (C .steps) (le-refl (C .steps)) (λ d l. f .1 .valid d (rw r l)))
+      (f .0, f .1 .wrote ∙ ap (λ d. ideal d .out b) r, holds (C .steps) (le-refl (C .steps)))
 
   -- the work area of a box that is not done is as long as it should: a 17 comes from what the call itself is lent
   pub every-long : (cs : List (Call Args)) → FairList S start cs → (b : ℕ) (x : Box) → runs S cs .box b ≡ some x
       → x .rounds < S .course .steps → length (x .work) ≡ S .protocol .workLen (frame (S .n) (S .l) b)
   every-long cs fair b x e h =
       let f = box-ok cs fair b x e in
-      ap length (f .1 .work) ∙ D .rounds (x .rounds) h .sized (ideal (x .rounds)) (holds (x .rounds) (f .1 .bound) (f .1 .valid)) b (f .0)
+      ap length (f .1 .work) ∙ D .rounds (x .rounds) h .sized (ideal (x .rounds)) (holds (x .rounds) (f .1 .bound)) b (f .0)

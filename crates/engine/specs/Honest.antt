@@ -3,16 +3,16 @@ use mathlib.Core.Path.{_≡_}
 use mathlib.Core.Bool.{Bool, true, not, _&&_}
 use mathlib.Core.Logic.{_≢_}
 use mathlib.Core.List.{List, [], _∷_}
-use Prim.Native.Nat.{ℕ, zero, suc, _+_, _*_, _<_}
+use Prim.Native.Nat.{ℕ, suc, _+_, _*_, _<_}
 use lib.ListN.{length}
 use lib.Dec.{ltb, eqb}
 use Rattle.lists.specs.Pick.{pick}
 use Rattle.lists.specs.Rows.{chunk}
 use Rattle.lists.specs.All.{allOf}
-use Rattle.engine.specs.Step.{Frame, frame, Loan, nothing}
+use Rattle.engine.specs.Step.{Frame, frame, Loan}
 use Rattle.engine.specs.Area.{mem, Every}
 use Rattle.engine.specs.Sheet.{Store, Known, Sheet, Mail}
-use Rattle.engine.specs.Plain.{Recv, Send, Echo, Table, rowsOf, prior, isEcho, nextOf, isRound, numberOf, stepsOf, toEcho}
+use Rattle.engine.specs.Plain.{Recv, Send, Echo, Table, rowsOf, prior, isEcho, nextOf, isRound, numberOf, stepsOf}
 
 -- ---- what the echo's messages owe
 -- an honest echo is as long as it should, is formed, is read to its end, and has no fault
@@ -48,9 +48,8 @@ module _ (n l : ℕ) (C : Store) where
 
   -- a round but the first, its messages made between moments t and u: what is kept, and what is sent
   pub record HonestSend (S : Send) (loan : Loan) (sent : ℕ → ℕ → List ℕ) (t u : ℕ) : Type 0 where
-    pub keeps : S .lent n l loan ≡ 0 → (i : ℕ) → i < n → (w : List ℕ) → Known n l C t i w
-        → Known n l C u i (S .keep (frame n l i) loan w)
-    pub writes : S .lent n l loan ≡ 0 → (i r : ℕ) → i < n → r < n → i ≢ r → (w : List ℕ) → Known n l C u i w
+    pub keeps : (i : ℕ) → i < n → (w : List ℕ) → Known n l C t i w → Known n l C u i (S .keep (frame n l i) loan w)
+    pub writes : (i r : ℕ) → i < n → r < n → i ≢ r → (w : List ℕ) → Known n l C u i w
         → S .write (frame n l i) loan w r ≡ sent i r
 
   -- the last round: what it writes
@@ -157,4 +156,4 @@ module _ (T : Table) (U : Script) (n l : ℕ) where
 
   -- what the call for round k is lent
   unfoldable pub loansOf : ℕ → Loan
-  loansOf k = pick (eqb k (T .last)) nothing (pick (toEcho T (eqb n 2) k) nothing (U .loan (nextOf T (eqb n 2) k)))
+  loansOf k = U .loan (nextOf T (eqb n 2) k)

@@ -17,7 +17,7 @@ use Rattle.engine.specs.Step.{frame, Lent, Protocol, gone, part, stretch
 use Rattle.engine.specs.StepLaws.{no-reason, sizes-hold}
 use Rattle.engine.specs.World.{In, here, there, All, update, Opening, Box, Note, note, World, Call, opening, turn, start, turned}
 use Rattle.engine.specs.World.{after, run, runs, sessionAt, Scene, Course, Reads, its-own, Fair, FairList, Done}
-use Rattle.engine.specs.Engine.{Joint, Valid, Duty, ideal, holds, NoteOk, Before, boxAt, goes-on, every-done}
+use Rattle.engine.specs.Engine.{Joint, Duty, ideal, holds, NoteOk, Before, boxAt, goes-on, every-done}
 
 update-same : {A : Type 0} (f : ℕ → A) (i : ℕ) (a : A) → update f i a i ≡ a
 update-same f i a = rw (neq-self i) refl
@@ -29,7 +29,8 @@ update-other f i j a ne = rw (neq-true i j ne) refl
 pub record Cast {Args : Type 0} (S : Scene Args) (D : Duty S) : Type 0 where
   pub args : ℕ → Args
   pub given : (b : ℕ) → b < S .n → S .Given b (args b)
-  pub valid : (d : ℕ) → d < S .course .steps → Valid (S .protocol) (S .n) (S .l) (D .loans) (S .course .number d)
+  pub valid : (d : ℕ) → d < S .course .steps
+      → S .protocol .rule (S .course .number d) .lent (S .n) (S .l) (D .loans (S .course .number d)) ≡ 0
   pub agree : (d : ℕ) → d < S .course .steps → S .Agrees (S .course .number d) (D .loans (S .course .number d))
 
 module _ {Args : Type 0} (S : Scene Args) (D : Duty S) (K : Cast S D) where
@@ -160,7 +161,7 @@ module _ {Args : Type 0} (S : Scene Args) (D : Duty S) (K : Cast S D) where
         (K .valid d ld)
       where
         long : length (on d .work b) ≡ P .workLen (frame n (S .l) b)
-        long = D .rounds d ld .sized (on d) (holds S D d (omega arith) (λ e le. K .valid e (omega arith))) b lb
+        long = D .rounds d ld .sized (on d) (holds S D d (omega arith)) b lb
 
     turn-fair : w .box b ≡ some (at d b) → Fair S w (turn b (C .number d) (lentFor d b))
     turn-fair e = (lb, rw e (λ z. (reads, K .agree d ld)))
@@ -171,7 +172,7 @@ module _ {Args : Type 0} (S : Scene Args) (D : Duty S) (K : Cast S D) where
         ∙ rw (goes-on S D b (C .number d) d (lentFor d b) (w .log) B reads (K .agree d ld) reason-none) refl
       where
         B : Before S D b d (w .log)
-        B = record { box = lb; step = omega arith; valid = λ e le. K .valid e (omega arith); notes = c }
+        B = record { box = lb; step = omega arith; notes = c }
 
   clean-onward : (w : World) (d b : ℕ) → d ≤ C .steps → Clean w → Clean (onward w d b)
   clean-onward w d b h c = (refl, c)

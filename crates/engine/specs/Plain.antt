@@ -24,8 +24,8 @@ pub record Recv : Type 0 where
   pub keep : Frame → List ℕ → (ℕ → List ℕ) → List ℕ
   pub digest : Frame → List ℕ → List ℕ
 
--- How its messages are made. len n l: the length of one; lent n l: 17 or 18 of the r Blocks and the permutation, or 0; keep: the work area
--- afterwards; write f q w r: the message to r, from the work area after keep
+-- How its messages are made. len n l: the length of one; lent n l: 17 or 18 of what is lent, or 0, also for an echo and, as round 0, for
+-- the results; keep: the work area afterwards; write f q w r: the message to r, from the work area after keep
 pub record Send : Type 0 where
   pub len : ℕ → ℕ → ℕ
   pub lent : ℕ → ℕ → Loan → ℕ
@@ -57,10 +57,6 @@ pub record Table : Type 0 where
   pub echo : Echo
   pub resultLen : Frame → ℕ
   pub result : Frame → List ℕ → (ℕ → List ℕ) → List ℕ
-
--- "both are empty otherwise"
-unfoldable pub noLoan : Loan → ℕ
-noLoan q = pick (eqb (length (q .r)) 0 && eqb (length (q .perm)) 0) 0 17
 
 -- a row of 16 bytes for each party, zero for the own
 unfoldable pub rowsOf : Frame → (ℕ → List ℕ) → List ℕ
@@ -123,7 +119,7 @@ module _ (T : Table) where
 
   -- what the call for round k is lent, as the messages that it makes ask for
   unfoldable pub lentOf : ℕ → ℕ → ℕ → Loan → ℕ
-  lentOf k n l q = pick (eqb k (T .last)) (noLoan q) (pick (toEcho (eqb n 2) k) (noLoan q) (T .send (nextOf (eqb n 2) k) .lent n l q))
+  lentOf k n l q = T .send (nextOf (eqb n 2) k) .lent n l q
 
   -- 13 or 6 of a message of round k
   unfoldable pub formOf : ℕ → Frame → List ℕ → ℕ

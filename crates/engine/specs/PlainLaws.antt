@@ -6,7 +6,7 @@ use mathlib.Core.List.{List, [], _∷_}
 use Prim.Native.Nat.{ℕ, zero, suc, _*_, _<_, _≤_}
 use native.Mathlib.Nat.{le-refl}
 use native.Mathlib.Omega.{arith}
-use lib.ListN.{length, getD, replicate, length-replicate}
+use lib.ListN.{length, replicate, length-replicate}
 use lib.Dec.{ltb, leb, eqb}
 use borrow.Author.Tests.{ltb-true, ltb-false, lt-ltb, le-ltb, eqb-true, eqb-false, eq-eqb, ne-eqb, leb-true}
 use Rattle.lists.specs.Pick.{pick}
@@ -16,12 +16,12 @@ use Rattle.lists.specs.All.{allOf, of-all, true-false}
 use Rattle.engine.specs.Step.{Frame, frame, Loan, Fault, none?, Protocol, other, byParty}
 use Rattle.engine.specs.StepLaws.{other-is, other-cases, or-none, or-first, by-none}
 use Rattle.engine.specs.World.{Course, sessionOf}
-use Rattle.engine.specs.Engine.{Joint, Valid, HonestRound}
+use Rattle.engine.specs.Engine.{Joint, HonestRound}
 use Rattle.engine.specs.Area.{off, sec, putSec, length-putSec, sec-same, sec-other, toOthers, toOthers-ext, mem, every-mem}
 use Rattle.engine.specs.Sheet.{Known, Sheet, Mail, Passes, Middle, Last, Holds, middle, last}
 use Rattle.engine.specs.Honest.{orderTest, courseTest, Lawful, before, due, Script, storeOf, plainAfter, Heard, RecvAt}
 use Rattle.engine.specs.Honest.{ListAt, SendAt, LastAt, Honest, momentOf, readyOf, valOf, sentOf, sheetOf, loansOf}
-use Rattle.engine.specs.Plain.{Table, rowsOf, prior, isEcho, nextOf, isRound, numberOf, stepsOf, toEcho, lenOf, lentOf, formOf}
+use Rattle.engine.specs.Plain.{Table, rowsOf, prior, isEcho, nextOf, isRound, numberOf, stepsOf, toEcho, lenOf, formOf}
 use Rattle.engine.specs.Plain.{listOf, pending, hashes, digests, echoCheck, checkOf, waits, waiting, kept, held, made, keepOf, writeOf, protocolOf}
 
 -- ---- rows of 16 bytes
@@ -370,7 +370,7 @@ module _ (T : Table) (U : Script) (n l : ℕ) (W : Lawful T n l) where
     lens = λ j r lj lr ne. rw e (H .lens j r lj lr ne);
     formed = λ i j li lj ne. rw e (H .formed i j li lj ne);
     whole = λ i j li lj ne. rw e (H .whole i j li lj ne);
-    passes = λ v i li w K m M. rw e (go (toEcho T two k) i li w K m M);
+    passes = λ i li w K m M. rw e (go (toEcho T two k) i li w K m M);
   }
     where
       go : (b : Bool) (i : ℕ) → i < n → (w : List ℕ) → Is k i w → (m : ℕ → List ℕ) → Mails k i m
@@ -405,18 +405,14 @@ module _ (T : Table) (U : Script) (n l : ℕ) (W : Lawful T n l) where
       lens = λ j r lj lr ne. rw e (W .echo .lens j r lj lr ne (rows k j) (full j));
       formed = λ i j li lj ne. rw e (W .echo .formed j i lj li (λ q. ne (sym q)) (rows k j) (full j));
       whole = λ i j li lj ne. rw e (W .echo .whole j i lj li (λ q. ne (sym q)) (rows k j) (full j));
-      passes = λ v i li w K m M. rw e (echo-clean i li w K m M);
+      passes = λ i li w K m M. rw e (echo-clean i li w K m M);
     }
 
   -- ---- a call that makes the messages of a plain round
   module _ (k to : ℕ) (ne : k ≢ T .last) (q : toEcho T two k ≡ false) (x : nextOf T two k ≡ suc to) where
     loan-made : L k ≡ U .loan (suc to)
     unfolding loansOf
-    loan-made = rw (ne-eqb k (T .last) ne, q, x) refl
-
-    lent-made : lentOf T k n l (L k) ≡ T .send (suc to) .lent n l (U .loan (suc to))
-    unfolding lentOf
-    lent-made = rw (ne-eqb k (T .last) ne, q) (ap₂ (λ j q. T .send j .lent n l q) x loan-made)
+    loan-made = ap (U .loan) x
 
     abbrev got : ℕ → List ℕ → (ℕ → List ℕ) → List ℕ
     got i w m = pick (isEcho T k) w (T .recv k .keep (frame n l i) w m)
@@ -449,14 +445,14 @@ module _ (T : Table) (U : Script) (n l : ℕ) (W : Lawful T n l) where
       pass = A;
       to = to;
       to-is = x;
-      keeps = λ v i li w K m M. rw (keep-made i w m) (to-sheet (suc to) i _ e (next v i li w K m M));
-      writes = λ v i li w K m M. write-made i w m ∙ toOthers-ext n i _ _
-          (λ r lr nr. H .writes (sym lent-made ∙ v) i r li lr nr _ (next v i li w K m M) ∙ sent-plain (suc to) i r e);
+      keeps = λ i li w K m M. rw (keep-made i w m) (to-sheet (suc to) i _ e (next i li w K m M));
+      writes = λ i li w K m M. write-made i w m ∙ toOthers-ext n i _ _
+          (λ r lr nr. H .writes i r li lr nr _ (next i li w K m M) ∙ sent-plain (suc to) i r e);
     }
       where
-        next : Valid P n l L k → (i : ℕ) → i < n → (w : List ℕ) → Is k i w → (m : ℕ → List ℕ) → Mails k i m
+        next : (i : ℕ) → i < n → (w : List ℕ) → Is k i w → (m : ℕ → List ℕ) → Mails k i m
             → Own (due (suc to)) i (area i w m)
-        next v i li w K m M = H .keeps (sym lent-made ∙ v) i li (got i w m) (G i li w K m M)
+        next i li w K m M = H .keeps i li (got i w m) (G i li w K m M)
 
   -- ---- THE FOUR KINDS OF CALLS
   -- for a plain round, when no echo follows
@@ -475,8 +471,8 @@ module _ (T : Table) (U : Script) (n l : ℕ) (W : Lawful T n l) where
     pass = pass-plain k e (R .heard);
     to = k;
     to-is = c .0;
-    keeps = λ v i li w K m M. rw (keep-is i li w K m M) (to-held k i (c .1) (E .size) _ (area i li w K m M));
-    writes = λ v i li w K m M. write-is i w m ∙ ap (λ (x : List ℕ). toOthers n i (T .echo .write n i x)) (digests-are i li m M) ∙ sent-is i;
+    keeps = λ i li w K m M. rw (keep-is i li w K m M) (to-held k i (c .1) (E .size) _ (area i li w K m M));
+    writes = λ i li w K m M. write-is i w m ∙ ap (λ (x : List ℕ). toOthers n i (T .echo .write n i x)) (digests-are i li m M) ∙ sent-is i;
   }
     where
       ne : k ≢ T .last
@@ -537,7 +533,7 @@ module _ (T : Table) (U : Script) (n l : ℕ) (W : Lawful T n l) where
   last-call H = record {
     pass = pass-plain (T .last) e (H .heard);
     to-is = rw (eq-eqb (T .last) (T .last) refl) refl;
-    writes = λ v i li w K m M. rw (eq-eqb (T .last) (T .last) refl)
+    writes = λ i li w K m M. rw (eq-eqb (T .last) (T .last) refl)
         (H .results i li w (subst (λ t. Own t i w) (moment-plain (T .last) e) (to-own (T .last) i w K)) m (mail-plain (T .last) i m e M));
   }
     where

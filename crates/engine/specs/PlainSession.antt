@@ -1,65 +1,48 @@
 -- Demand 3 for a table of plain rounds and an opening: the scene, and what is left to show for it.
-use mathlib.Core.Path.{_≡_, refl, sym, ap₂, _∙_, subst}
-use mathlib.Core.Bool.{Bool, true, false, _&&_}
+use mathlib.Core.Path.{_≡_, refl, ap, _∙_, subst}
 use mathlib.Core.Logic.{_≢_}
-use mathlib.Core.List.{List, [], _∷_}
+use mathlib.Core.List.{List}
 use mathlib.Core.Option.{some}
-use Prim.Native.Nat.{ℕ, suc, _<_}
-use native.Mathlib.Omega.{arith}
-use lib.ListN.{length}
+use Prim.Native.Nat.{ℕ, _<_}
 use lib.Dec.{eqb}
-use borrow.Author.Tests.{eqb-true, eqb-false}
 use Rattle.lists.specs.Pick.{pick}
-use Rattle.engine.specs.Step.{Loan, nothing, Accepted, Refused, outcome}
+use Rattle.engine.specs.Step.{frame, Loan, Accepted, Refused, outcome}
 use Rattle.engine.specs.World.{Opening, Box, Call, Scene, sessionOf, sessionAt, start, runs, FairList, Done}
-use Rattle.engine.specs.Engine.{Joint, Valid, Duty, ideal, every-result}
+use Rattle.engine.specs.Engine.{Joint, Alike, Duty, ideal, every-result}
 use Rattle.engine.specs.Live.{Cast}
 use Rattle.engine.specs.Area.{toOthers}
 use Rattle.engine.specs.Sheet.{Known, Holds}
-use Rattle.engine.specs.Plain.{Table, noLoan, isEcho, nextOf, numberOf, stepsOf, toEcho, lentOf, protocolOf}
+use Rattle.engine.specs.Plain.{Send, Table, nextOf, numberOf, stepsOf, toEcho, lentOf, digests, made, keepOf, writeOf, protocolOf}
 use Rattle.engine.specs.Honest.{Lawful, due, Script, storeOf, Honest, sheetOf, loansOf}
-use Rattle.engine.specs.PlainLaws.{next-echo, courseOf, known-first, number-end, honest-rounds}
+use Rattle.engine.specs.PlainLaws.{courseOf, known-first, number-end, honest-rounds}
 
 -- ---- what is lent
-nothing-in : (x : List ℕ) → eqb (length x) 0 ≡ true → x ≡ []
-nothing-in [] h = refl
-nothing-in (a ∷ x) h = absurd (let e : suc (length x) ≡ 0 = eqb-true _ _ h in omega arith)
+-- two loans are alike to how a round's messages are made
+pub record AlikeSend (S : Send) (n l : ℕ) (q q′ : Loan) : Type 0 where
+  pub keep : (i : ℕ) (w : List ℕ) → S .keep (frame n l i) q w ≡ S .keep (frame n l i) q′ w
+  pub write : (i r : ℕ) (w : List ℕ) → S .write (frame n l i) q w r ≡ S .write (frame n l i) q′ w r
 
-pub none-lent : (q : Loan) → noLoan q ≡ 0 → q ≡ nothing
-unfolding noLoan
-none-lent q h = go (eqb (length (q .r)) 0) refl (eqb (length (q .perm)) 0) refl h
+pub alike-same : (S : Send) (n l : ℕ) (q q′ : Loan) → q ≡ q′ → AlikeSend S n l q q′
+alike-same S n l q q′ e = record {
+  keep = λ i w. ap (λ (p : Loan). S .keep (frame n l i) p w) e;
+  write = λ i r w. ap (λ (p : Loan). S .write (frame n l i) p w r) e;
+}
+
+-- and so they are to the call
+alike-call : (T : Table) (n l k : ℕ) (q q′ : Loan) → AlikeSend (T .send (nextOf T (eqb n 2) k)) n l q q′
+    → Alike (protocolOf T .rule k) n l q q′
+unfolding keepOf writeOf made
+alike-call T n l k q q′ A = record {
+  check = λ i w m. refl;
+  keep = λ i w m. rw (A .keep) refl;
+  write = λ i w m. ap (λ (x : ℕ → List ℕ). pick (eqb k (T .last)) (T .result (frame n l i) w m) (toOthers n i
+      (pick (toEcho T (eqb n 2) k) (T .echo .write n i (digests T k (frame n l i) m)) x))) (λ e r. same i w m r e);
+}
   where
-    go : (a : Bool) → eqb (length (q .r)) 0 ≡ a → (b : Bool) → eqb (length (q .perm)) 0 ≡ b → _≡_ {A = ℕ} (pick (a && b) 0 17) 0
-        → q ≡ nothing
-    go true ea true eb h = ap₂ (λ (x y : List ℕ). record { r = x; perm = y }) (nothing-in (q .r) ea) (nothing-in (q .perm) eb)
-    go true ea false eb h = absurd (omega arith)
-    go false ea b eb h = absurd (omega arith)
-
-module _ (T : Table) (U : Script) (n l : ℕ) where
-  lent-cases : (k : ℕ) (q : Loan) (Q : Loan → Type 0) → lentOf T k n l q ≡ 0 → (noLoan q ≡ 0 → Q nothing)
-      → (T .send (nextOf T (eqb n 2) k) .lent n l q ≡ 0 → Q (U .loan (nextOf T (eqb n 2) k))) → Q (loansOf T U n l k)
-  unfolding lentOf loansOf
-  lent-cases k q Q v f g = go (eqb k (T .last)) (toEcho T (eqb n 2) k) v
-    where
-      go : (a b : Bool) → pick a (noLoan q) (pick b (noLoan q) (T .send (nextOf T (eqb n 2) k) .lent n l q)) ≡ 0
-          → Q (pick a nothing (pick b nothing (U .loan (nextOf T (eqb n 2) k))))
-      go true b v = f v
-      go false true v = f v
-      go false false v = g v
-
-  -- loans that have no reason, round by round of those that are sent
-  pub valid-by : ((j : ℕ) → T .send j .lent n l (U .loan j) ≡ 0) → (k : ℕ) → Valid (protocolOf T) n l (loansOf T U n l) k
-  unfolding lentOf loansOf noLoan
-  valid-by v k = go (eqb k (T .last)) (toEcho T (eqb n 2) k)
-    where
-      j : ℕ
-      j = nextOf T (eqb n 2) k
-
-      go : (a b : Bool) → (let q : Loan = pick a nothing (pick b nothing (U .loan j)) in
-          pick a (noLoan q) (pick b (noLoan q) (T .send j .lent n l q)) ≡ 0)
-      go true b = refl
-      go false true = refl
-      go false false = v (nextOf T (eqb n 2) k)
+    same : (i : ℕ) (w : List ℕ) (m : ℕ → List ℕ) (r : ℕ)
+        → T .send (nextOf T (eqb n 2) k) .write (frame n l i) q (made T k (frame n l i) q w m) r
+        ≡ T .send (nextOf T (eqb n 2) k) .write (frame n l i) q′ (made T k (frame n l i) q′ w m) r
+    same i w m r = A .write i r _ ∙ ap (λ (w : List ℕ). T .send (nextOf T (eqb n 2) k) .write (frame n l i) q′ w r) (A .keep i _)
 
 -- ---- the scene: n boxes with one l that run the rounds of the table
 -- Agree j: what is asked of the r Blocks and permutation of the call that makes the messages of round j; Given b: what makes an
@@ -92,11 +75,13 @@ module _ (T : Table) (U : Script) (n l : ℕ) {Args : Type 0} (O : Opening Args)
         → (O .reason a ≡ 0) × (O .spec a ≡ outcome (sessionOf n l b 1) Accepted (first .work b) (first .out b))
     pub keeps : (i : ℕ) → i < n → Known n l (storeOf T U n l) (due 1) i (first .work i)
     pub writes : (j : ℕ) → j < n → first .out j ≡ toOthers n j (U .sent 1 j)
-    pub agrees : (j : ℕ) (q : Loan) → T .send j .lent n l q ≡ 0 → Agree j q → q ≡ U .loan j
+    pub agrees : (j : ℕ) (q : Loan) → T .send j .lent n l q ≡ 0 → Agree j q → AlikeSend (T .send j) n l q (U .loan j)
 
   module _ (H : Honest T U n l) (B : HonestOpening) where
-    pub agreed-by : (k : ℕ) (q : Loan) → lentOf T k n l q ≡ 0 → Agree (nextOf T (eqb n 2) k) q → q ≡ loansOf T U n l k
-    agreed-by k q v a = lent-cases T U n l k q (λ x. q ≡ x) v (none-lent q) (λ v′. B .agrees (nextOf T (eqb n 2) k) q v′ a)
+    pub agreed-by : (k : ℕ) (q : Loan) → lentOf T k n l q ≡ 0 → Agree (nextOf T (eqb n 2) k) q
+        → Alike (protocolOf T .rule k) n l q (loansOf T U n l k)
+    unfolding lentOf loansOf
+    agreed-by k q v a = alike-call T n l k q _ (B .agrees (nextOf T (eqb n 2) k) q v a)
 
     pub takes-by : (b : ℕ) (a : Args) → b < n → Given b a
         → (O .reason a ≡ 0) × (O .spec a ≡ outcome (sessionAt scene b 0) Accepted (B .first .work b) (B .first .out b))
@@ -131,34 +116,12 @@ module _ (T : Table) (U : Script) (n l : ℕ) {Args : Type 0} (O : Opening Args)
       pub given : (b : ℕ) → b < n → Given b (args b)
       pub valid : (j : ℕ) → T .send j .lent n l (U .loan j) ≡ 0
       pub agree : (j : ℕ) → Agree j (U .loan j)
-      pub quiet-end : Agree 0 nothing
-      pub quiet-echo : (j : ℕ) → isEcho T j ≡ true → Agree j nothing
 
     pub castOf : Supply → Cast scene dutyOf
+    unfolding lentOf loansOf
     castOf I = record {
       args = I .args;
       given = I .given;
-      valid = λ d h. valid-by T U n l (I .valid) (numberOf T (eqb n 2) d);
-      agree = λ d h. agree (numberOf T (eqb n 2) d);
+      valid = λ d h. I .valid (nextOf T (eqb n 2) (numberOf T (eqb n 2) d));
+      agree = λ d h. I .agree (nextOf T (eqb n 2) (numberOf T (eqb n 2) d));
     }
-      where
-        two : Bool
-        two = eqb n 2
-
-        by-echo : (k : ℕ) → k ≢ T .last → (b : Bool) → toEcho T two k ≡ b
-            → Agree (nextOf T two k) (pick b nothing (U .loan (nextOf T two k)))
-        by-echo k ne true q =
-            let c = next-echo T n l W two k ne q in
-            subst (λ j. Agree j nothing) (sym (c .0)) (I .quiet-echo (suc k) (c .1))
-        by-echo k ne false q = I .agree (nextOf T two k)
-
-        end : (k : ℕ) → eqb k (T .last) ≡ true → nextOf T two k ≡ 0
-        end k q = unfold nextOf in rw q refl
-
-        by-last : (k : ℕ) (b : Bool) → eqb k (T .last) ≡ b
-            → Agree (nextOf T two k) (pick b nothing (pick (toEcho T two k) nothing (U .loan (nextOf T two k))))
-        by-last k true q = subst (λ j. Agree j nothing) (sym (end k q)) (I .quiet-end)
-        by-last k false q = by-echo k (eqb-false k (T .last) q) (toEcho T two k) refl
-
-        agree : (k : ℕ) → Agree (nextOf T two k) (loansOf T U n l k)
-        agree k = unfold loansOf in by-last k (eqb k (T .last)) refl

@@ -15,7 +15,7 @@ use Rattle.lists.specs.Over.{cat}
 use Rattle.lists.specs.All.{allOf, of-all}
 use Rattle.engine.specs.Step.{Frame, frame, Loan, Protocol, stretch}
 use Rattle.engine.specs.StepLaws.{mask-at}
-use Rattle.engine.specs.Engine.{Joint, mailOf, together, Valid, HonestRound}
+use Rattle.engine.specs.Engine.{Joint, mailOf, together, HonestRound}
 use Rattle.engine.specs.Area.{off, sec, putSec, length-putSec, sec-same, sec-other, length-lay, sec-lay, toOthers, stretch-toOthers}
 use Rattle.engine.specs.Area.{mem, Every, every-mem}
 
@@ -154,7 +154,7 @@ module _ (P : Protocol) (n l : ℕ) (loans : ℕ → Loan) (T : Sheet) where
   -- a claim on every box that takes round k with a work area and messages as the sheet says
   abbrev pub Each : ℕ → (ℕ → List ℕ → (ℕ → List ℕ) → Type 0) → Type 0
   Each k Q =
-      Valid P n l loans k → (i : ℕ) → i < n → (w : List ℕ) → Known n l (T .store) k i w → (m : ℕ → List ℕ) → Mail n (T .sent k) i m
+      (i : ℕ) → i < n → (w : List ℕ) → Known n l (T .store) k i w → (m : ℕ → List ℕ) → Mail n (T .sent k) i m
       → Q i w m
 
   -- what has to be shown of any round k
@@ -197,34 +197,34 @@ module _ (P : Protocol) (n l : ℕ) (loans : ℕ → Loan) (T : Sheet) where
       mail-ok G h i li j lj ne =
           mask-at (frame n l i) (λ j. stretch (P .msgLen n l (suc k)) j i (G .out j)) j lj ne ∙ arrives G h i j li lj ne
 
-      honest-by : ((G : Joint) → Holds (suc k) G → Valid P n l loans (suc k) → Holds (P .next n (suc k)) (together P n l loans (suc k) G))
+      honest-by : ((G : Joint) → Holds (suc k) G → Holds (P .next n (suc k)) (together P n l loans (suc k) G))
           → HonestRound P n l loans Holds (suc k)
       honest-by goes = record {
         sized = λ G h i li. h .0 i li .long ∙ sym (area i);
         formed = λ G h i j li lj ne. ap (P .rule (suc k) .form (frame n l i)) (arrives G h i j li lj ne) ∙ A .formed i j li lj ne;
         whole = λ G h i j li lj ne. ap (P .rule (suc k) .list (frame n l i)) (arrives G h i j li lj ne) ∙ A .whole i j li lj ne
             ∙ sym (arrives G h i j li lj ne);
-        passes = λ G h v i li. A .passes v i li (G .work i) (h .0 i li) (mailOf P n l loans (suc k) G i) (mail-ok G h i li);
+        passes = λ G h i li. A .passes i li (G .work i) (h .0 i li) (mailOf P n l loans (suc k) G i) (mail-ok G h i li);
         goes = goes;
       }
 
     -- the engine's duty for a round, from its record
     pub middle : Middle (suc k) → HonestRound P n l loans Holds (suc k)
     unfolding together
-    middle M = honest-by (M .pass) (λ G h v. subst (λ m. Holds m (together P n l loans (suc k) G)) (sym (M .to-is)) (next G h v))
+    middle M = honest-by (M .pass) (λ G h. subst (λ m. Holds m (together P n l loans (suc k) G)) (sym (M .to-is)) (next G h))
       where
         mails : (G : Joint) → Holds (suc k) G → (i : ℕ) → i < n → Mail n (T .sent (suc k)) i (mailOf P n l loans (suc k) G i)
         mails = mail-ok (M .pass)
 
-        next : (G : Joint) → Holds (suc k) G → Valid P n l loans (suc k) → Holds (suc (M .to)) (together P n l loans (suc k) G)
-        next G h v = (
-          λ i li. M .keeps v i li (G .work i) (h .0 i li) (mailOf P n l loans (suc k) G i) (mails G h i li),
-          λ j lj. M .writes v j lj (G .work j) (h .0 j lj) (mailOf P n l loans (suc k) G j) (mails G h j lj),
+        next : (G : Joint) → Holds (suc k) G → Holds (suc (M .to)) (together P n l loans (suc k) G)
+        next G h = (
+          λ i li. M .keeps i li (G .work i) (h .0 i li) (mailOf P n l loans (suc k) G i) (mails G h i li),
+          λ j lj. M .writes j lj (G .work j) (h .0 j lj) (mailOf P n l loans (suc k) G j) (mails G h j lj),
         )
 
     pub last : Last (suc k) → HonestRound P n l loans Holds (suc k)
     unfolding together
-    last M = honest-by (M .pass) (λ G h v. subst (λ m. Holds m (together P n l loans (suc k) G)) (sym (M .to-is)) (done G h v))
+    last M = honest-by (M .pass) (λ G h. subst (λ m. Holds m (together P n l loans (suc k) G)) (sym (M .to-is)) (done G h))
       where
-        done : (G : Joint) → Holds (suc k) G → Valid P n l loans (suc k) → Holds 0 (together P n l loans (suc k) G)
-        done G h v i li = M .writes v i li (G .work i) (h .0 i li) (mailOf P n l loans (suc k) G i) (mail-ok (M .pass) G h i li)
+        done : (G : Joint) → Holds (suc k) G → Holds 0 (together P n l loans (suc k) G)
+        done G h i li = M .writes i li (G .work i) (h .0 i li) (mailOf P n l loans (suc k) G i) (mail-ok (M .pass) G h i li)

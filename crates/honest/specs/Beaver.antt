@@ -275,10 +275,10 @@ module _ (R : Run) (I : Inputs R) where
   pub send-22 : Sends R 22
   unfolding staysTest allOf mem S.since S.holds S.tripleRows S.sent S.sent22 held written
   send-22 = record {
-    keeps = λ v i li w K. keep-one R (before 22) (due 22) i li K TRIPLES _ refl fit-triples
+    keeps = λ i li w K. keep-one R (before 22) (due 22) i li K TRIPLES _ refl fit-triples
         (λ q. tripleRows (box R i) (delta-is R K q) (bits-at R K q) (zs-at R K refl q)
         (es-at R K refl q) (perm-at R K refl q) (ds-at R K refl q));
-    writes = λ v i r li lr ne w K.
+    writes = λ i r li lr ne w K.
         (λ q. B.faandMsg (box R i) (bits-at R K q) (perm-at R K refl q) (triples-at R K refl q) (alpha-at R K q) (beta-at R K q) r);
   }
 

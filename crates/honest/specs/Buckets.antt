@@ -296,8 +296,8 @@ module _ (R : Run) (I : Inputs R) where
   pub send-21 : Sends R 21
   unfolding staysTest allOf mem S.since S.holds S.perms S.sent S.sent21 held written
   send-21 = record {
-    keeps = λ v i li w K. keep-one R (before 21) (due 21) i li K PERM _ refl fit-perm refl;
-    writes = λ v i r li lr ne w K.
+    keeps = λ i li w K. keep-one R (before 21) (due 21) i li K PERM _ refl fit-perm refl;
+    writes = λ i r li lr ne w K.
         ap₂ (λ (a b : List ℕ). dvalueMsg (box R i) a b r) (bits-at R K) (perm-at R K refl);
   }
 

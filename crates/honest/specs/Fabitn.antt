@@ -109,8 +109,8 @@ module _ (R : Run) (X : Boxes R) where
   pub send-6 : Sends R 6
   unfolding staysTest allOf mem S.since S.holds S.keySums S.sent S.sent6 held written
   send-6 = record {
-    keeps = λ v i li w K. keep-one R (before 6) (due 6) i li K KEY-SUMS _ refl fit-key-sums (ap (keySums (box R i) strings) (bits-at R K));
-    writes = λ v i r li lr ne w K. ap (λ (x : List ℕ). abitMsg (box R i) strings x r) (bits-at R K);
+    keeps = λ i li w K. keep-one R (before 6) (due 6) i li K KEY-SUMS _ refl fit-key-sums (ap (keySums (box R i) strings) (bits-at R K));
+    writes = λ i r li lr ne w K. ap (λ (x : List ℕ). abitMsg (box R i) strings x r) (bits-at R K);
   }
 
   pub recv-6 : Receives R 6

@@ -228,8 +228,8 @@ module _ (R : Run) (X : Boxes R) where
   pub send-8 : Sends R 8
   unfolding staysTest allOf mem S.since S.sent S.sent8 held written
   send-8 = record {
-    keeps = λ v i li w K. keep-none R (before 8) (due 8) i li K refl;
-    writes = λ v i r li lr ne w K.
+    keeps = λ i li w K. keep-none R (before 8) (due 8) i li K refl;
+    writes = λ i r li lr ne w K.
         ap₂ (commMsg (box R i)) (delta-is R K) (bits-at R K);
   }
 
@@ -290,8 +290,8 @@ module _ (R : Run) (X : Boxes R) where
   pub send-10 : Sends R 10
   unfolding staysTest allOf mem S.since S.sent S.sent10 held written
   send-10 = record {
-    keeps = λ v i li w K. keep-none R (before 10) (due 10) i li K refl;
-    writes = λ v i r li lr ne w K. ap (verMsg (box R i)) (bits-at R K);
+    keeps = λ i li w K. keep-none R (before 10) (due 10) i li K refl;
+    writes = λ i r li lr ne w K. ap (verMsg (box R i)) (bits-at R K);
   }
 
   pub recv-10 : Receives R 10
@@ -438,8 +438,8 @@ module _ (R : Run) (X : Boxes R) where
   pub send-12 : Sends R 12
   unfolding staysTest allOf mem S.since S.sent S.sent12 held written
   send-12 = record {
-    keeps = λ v i li w K. keep-none R (before 12) (due 12) i li K refl;
-    writes = λ v i r li lr ne w K.
+    keeps = λ i li w K. keep-none R (before 12) (due 12) i li K refl;
+    writes = λ i r li lr ne w K.
         λ t. dibiMsg (box R i) (delta-is R K t) (bits-at R K t) (dms-at R K refl t);
   }
 

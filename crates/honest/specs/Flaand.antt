@@ -211,8 +211,8 @@ module _ (R : Run) (X : Boxes R) where
   pub send-15 : Sends R 15
   unfolding staysTest allOf mem S.since S.sent S.sent15 held written
   send-15 = record {
-    keeps = λ v i li w K. keep-none R (before 15) (due 15) i li K refl;
-    writes = λ v i r li lr ne w K.
+    keeps = λ i li w K. keep-none R (before 15) (due 15) i li K refl;
+    writes = λ i r li lr ne w K.
         (λ q. flaandMsg (box R i) (bits-at R K q) (leaky-at R K refl q) (zs-at R K refl q) r);
   }
 
@@ -280,8 +280,8 @@ module _ (R : Run) (X : Boxes R) where
   pub send-17 : Sends R 17
   unfolding staysTest allOf mem S.since S.sent S.sent17 held written
   send-17 = record {
-    keeps = λ v i li w K. keep-free R (before 17) (due 17) i li K H-COMMS _ refl (omega arith) refl (own-long i li w K);
-    writes = λ v i r li lr ne w K. ap (commMsg (box R i)) (hs-at R K refl);
+    keeps = λ i li w K. keep-free R (before 17) (due 17) i li K H-COMMS _ refl (omega arith) refl (own-long i li w K);
+    writes = λ i r li lr ne w K. ap (commMsg (box R i)) (hs-at R K refl);
   }
 
   pub recv-17 : Receives R 17
@@ -345,8 +345,8 @@ module _ (R : Run) (X : Boxes R) where
   pub send-19 : Sends R 19
   unfolding staysTest allOf mem S.since S.sent S.sent19 held written
   send-19 = record {
-    keeps = λ v i li w K. keep-none R (before 19) (due 19) i li K refl;
-    writes = λ v i r li lr ne w K. ap (hashMsg (box R i)) (hs-at R K refl);
+    keeps = λ i li w K. keep-none R (before 19) (due 19) i li K refl;
+    writes = λ i r li lr ne w K. ap (hashMsg (box R i)) (hs-at R K refl);
   }
 
   pub recv-19 : Receives R 19

@@ -98,9 +98,9 @@ module _ (R : Run) (X : Boxes R) where
   pub send-14 : Sends R 14
   unfolding staysTest allOf mem S.since S.holds S.leakyRows S.sent S.sent14 held written
   send-14 = record {
-    keeps = λ v i li w K. keep-one R (before 14) (due 14) i li K LEAKY _ refl fit-leaky
+    keeps = λ i li w K. keep-one R (before 14) (due 14) i li K LEAKY _ refl fit-leaky
         (ap₂ (leakyRows (box R i)) (delta-is R K) (bits-at R K));
-    writes = λ v i r li lr ne w K.
+    writes = λ i r li lr ne w K.
         (λ e. haandMsg (box R i) (delta-is R K e) (masks-at R K e) (bits-at R K e) r);
   }
 

@@ -22,12 +22,11 @@ use Rattle.engine.specs.Step.{Loan, Accepted, Refused, outcome}
 use Rattle.engine.specs.World.{sessionOf}
 use Rattle.engine.specs.Area.{toOthers}
 use Rattle.engine.specs.Sheet.{Known}
-use Rattle.engine.specs.Plain.{noLoan}
 use Rattle.engine.specs.Honest.{Lawful, due}
-use Rattle.engine.specs.PlainSession.{none-lent, HonestOpening}
+use Rattle.engine.specs.PlainSession.{alike-same, HonestOpening}
 use Rattle.rounds.specs.Area.{workLen}
 use Rattle.rounds.specs.Opening.{Args, listsDue, buffersDue, masksFault, orFault, bytesFault, lengthsFault, reason, section, area, spec}
-use Rattle.rounds.specs.Table.{lent}
+use Rattle.rounds.specs.Table.{noLoan, lent}
 use Rattle.rounds.specs.Toss as Toss
 use Rattle.alone.specs.Opening.{Lens, first-seven, spec-takes}
 use Rattle.alone.specs.Opening as A
@@ -189,6 +188,16 @@ empty (a ∷ x) h = absurd (let e : suc (length x) ≡ 0 = eqb-true _ _ h in ome
 abbrev loan : List ℕ → List ℕ → Loan
 loan r perm = record { r = r; perm = perm }
 
+none-lent : (q : Loan) → noLoan q ≡ 0 → q ≡ loan [] []
+unfolding noLoan
+none-lent q h = go (eqb (length (q .r)) 0) refl (eqb (length (q .perm)) 0) refl h
+  where
+    go : (a : Bool) → eqb (length (q .r)) 0 ≡ a → (b : Bool) → eqb (length (q .perm)) 0 ≡ b → _≡_ {A = ℕ} (pick (a && b) 0 17) 0
+        → q ≡ loan [] []
+    go true ea true eb h = ap₂ loan (empty (q .r) ea) (empty (q .perm) eb)
+    go true ea false eb h = absurd (omega arith)
+    go false ea b eb h = absurd (omega arith)
+
 module _ (R : Run) (q : Loan) where
   open Run R using (l, strings, permutation)
 
@@ -273,5 +282,5 @@ module _ (R : Run) (X : Boxes R) where
     takes = takes-given;
     keeps = known-opened (played R) (inputs-for R X .boxes);
     writes = λ j lj. refl;
-    agrees = λ j q h g. agrees R q n j h g;
+    agrees = λ j q h g. alike-same (subject .send j) n l q _ (agrees R q n j h g);
   }

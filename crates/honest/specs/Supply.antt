@@ -1,5 +1,5 @@
 -- The premises of demand 3 can be met: all-zero inputs keep them, and with strings and a permutation of due length no call has a reason.
-use mathlib.Core.Path.{_≡_, refl, sym, ap, _∙_}
+use mathlib.Core.Path.{_≡_, refl, sym}
 use mathlib.Core.Bool.{Bool, true, false, _&&_}
 use mathlib.Core.List.{List, []}
 use Prim.Native.Nat.{ℕ, zero, suc, _+_, _-_, _*_}
@@ -8,7 +8,6 @@ use lib.ListN.{length, getD, replicate, length-replicate}
 use lib.Dec.{eqb}
 use borrow.Author.Tests.{eq-eqb, eqb-true}
 use Rattle.lists.specs.Pick.{pick}
-use Rattle.lists.specs.All.{true-false}
 use Rattle.lists.specs.Bytes.{bytes-replicate}
 use Rattle.algebra.specs.Group.{odd}
 use Rattle.algebra.specs.Share.{Good}
@@ -21,13 +20,11 @@ use Rattle.share.specs.Parties.{sharedAt}
 use Rattle.permutation.specs.Permutation.{isPerm}
 use Rattle.plan.specs.Plan.{InRange, leaky, bitsCount, rLen, msgLen}
 use Rattle.engine.specs.Step.{frame, Loan}
-use Rattle.engine.specs.Area.{mem}
-use Rattle.engine.specs.Plain.{noLoan, isEcho}
 use Rattle.engine.specs.Honest.{Lawful, Honest}
 use Rattle.engine.specs.PlainSession.{Supply}
 use Rattle.rounds.specs.Area.{workLen}
 use Rattle.rounds.specs.Opening.{Args}
-use Rattle.rounds.specs.Table.{lent}
+use Rattle.rounds.specs.Table.{noLoan, lent}
 use Rattle.honest.specs.Subject.{opener, subject}
 use Rattle.honest.specs.Script as S
 use Rattle.honest.specs.Inputs.{Run, box, Boxes}
@@ -121,18 +118,11 @@ module _ (R : Run) (X : Boxes R) (hs : length (R .strings) ≡ rLen (R .l)) (ho 
       go false ea true eb = rw (order-is, eq-eqb (length permutation) (leaky l) ho, perm) refl
       go false ea false eb = refl
 
-  -- an echo is neither round 6 nor round 21
-  not-due : (j k : ℕ) → isEcho subject j ≡ true → isEcho subject k ≡ false → j ≡ k → ⊥
-  not-due j k h z e = true-false (sym h ∙ ap (isEcho subject) e ∙ z)
-
   pub supply : (W : Lawful subject n l) (H : Honest subject (S.script (played R)) n l)
       → Supply subject (S.script (played R)) n l opener (Agree R) (Given R) W H (honest-opening R X W)
-  unfolding isEcho mem
   supply W H = record {
     args = λ b. lend (inputs b) (zeros (workLen (box R b))) (zeros ((n - 1) * msgLen n l 1));
     given = λ b lb. record { inputs-are = refl; work-len = length-replicate {A = ℕ} _ 0; out-len = length-replicate {A = ℕ} _ 0 };
     valid = lent-none;
     agree = λ j. record { r-is = λ e. rw e refl; perm-is = λ e. rw e order-is };
-    quiet-end = record { r-is = λ e. absurd (omega arith); perm-is = λ e. absurd (omega arith) };
-    quiet-echo = λ j h. record { r-is = λ e. absurd (not-due j 6 h refl e); perm-is = λ e. absurd (not-due j 21 h refl e) };
   }

@@ -165,8 +165,8 @@ module _ (R : Run) (X : Boxes R) where
   pub send-3 : Sends R 3
   unfolding staysTest allOf mem S.since S.sent S.sent3 held written
   send-3 = record {
-    keeps = λ v i li w K. keep-none R (before 3) (due 3) i li K refl;
-    writes = λ v i r li lr ne w K. ap verMsg (seed-at R K);
+    keeps = λ i li w K. keep-none R (before 3) (due 3) i li K refl;
+    writes = λ i r li lr ne w K. ap verMsg (seed-at R K);
   }
 
   fit-joint : Fit R JOINT
@@ -195,8 +195,8 @@ module _ (R : Run) (X : Boxes R) where
   pub send-4 : Sends R 4
   unfolding staysTest allOf mem S.since S.sent S.sent4 held written
   send-4 = record {
-    keeps = λ v i li w K. keep-none R (before 4) (due 4) i li K refl;
-    writes = λ v i r li lr ne w K. ap (λ (x : List ℕ). commMsg (chunk 32 r x) i) (pairs-at R K);
+    keeps = λ i li w K. keep-none R (before 4) (due 4) i li K refl;
+    writes = λ i r li lr ne w K. ap (λ (x : List ℕ). commMsg (chunk 32 r x) i) (pairs-at R K);
   }
 
   -- the seed that j tosses with r
@@ -227,8 +227,8 @@ module _ (R : Run) (X : Boxes R) where
   pub send-5 : Sends R 5
   unfolding staysTest allOf mem S.since S.sent S.sent5 held written
   send-5 = record {
-    keeps = λ v i li w K. keep-none R (before 5) (due 5) i li K refl;
-    writes = λ v i r li lr ne w K. ap (λ (x : List ℕ). verMsg (chunk 32 r x)) (pairs-at R K);
+    keeps = λ i li w K. keep-none R (before 5) (due 5) i li K refl;
+    writes = λ i r li lr ne w K. ap (λ (x : List ℕ). verMsg (chunk 32 r x)) (pairs-at R K);
   }
 
   fit-pairwise : Fit R PAIRWISE

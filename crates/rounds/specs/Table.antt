@@ -1,8 +1,8 @@
 -- The rounds of a session (document 01, "The call"): what is done with the messages of each, and how they are made.
-use mathlib.Core.Bool.{Bool, _&&_, _||_}
+use mathlib.Core.Bool.{Bool, _&&_}
 use mathlib.Core.List.{List, [], _∷_}
-use Prim.Native.Nat.{ℕ, _+_, _*_}
-use lib.ListN.{length, getD}
+use Prim.Native.Nat.{ℕ, _*_}
+use lib.ListN.{length}
 use lib.Dec.{ltb, leb, eqb}
 use Rattle.lists.specs.Pick.{pick}
 use Rattle.lists.specs.Rows.{chunk}
@@ -14,7 +14,7 @@ use Rattle.message.specs.Format.{listOf, formOf}
 use Rattle.plan.specs.Plan.{kindOf, countDue, msgLen, leaky, rLen}
 use Rattle.engine.specs.declared.Frame.{Frame}
 use Rattle.engine.specs.Step.{Fault, none?, Loan}
-use Rattle.engine.specs.Plain.{Recv, Send, Table, noLoan}
+use Rattle.engine.specs.Plain.{Recv, Send, Table}
 use Rattle.rounds.specs.Area.{DELTA, SEED, PAIRS, MASKS, BITS, ALPHA, BETA, COMMS, JOINT, PAIR-COMMS, PAIRWISE, KEY-SUMS, SHARE-COMMS, DMS, LEAKY, ZS, ES, HS, H-COMMS, PERM, DS, TRIPLES, ROUNDS-OWN, sizeOf, at, keep}
 use Rattle.rounds.specs.Echo.{hashVec, echo}
 use Rattle.rounds.specs.Toss as Toss
@@ -89,7 +89,12 @@ recv k = record {
 }
 
 -- ---- how the messages of each round are made
--- 17 or 18 of the r Blocks and the permutation: r is due with the call that writes `fabitn`, the permutation with the one that writes `dvalue`
+-- "both are empty otherwise"
+unfoldable pub noLoan : Loan → ℕ
+noLoan q = pick (eqb (length (q .r)) 0 && eqb (length (q .perm)) 0) 0 17
+
+-- 17 or 18 of the r Blocks and the permutation: r is due with the call that writes `fabitn`, the permutation with the one that writes
+-- `dvalue`. k is what the call writes: a round, an echo too, or 0 for the results
 unfoldable pub lent : ℕ → ℕ → ℕ → Loan → ℕ
 lent k n l q =
     pick (eqb k 6) (pick (eqb (length (q .r)) (rLen l) && eqb (length (q .perm)) 0) 0 17)
