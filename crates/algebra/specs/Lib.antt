@@ -5,4 +5,3 @@ pub mod Half
 pub mod Leaky
 pub mod Taut
 pub mod Share
-pub mod Solve

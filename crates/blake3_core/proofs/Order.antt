@@ -1,11 +1,6 @@
 -- The table of the word order: each entry is a place of the message, by one test over the table; a loop over it permutes.
-use mathlib.Core.Path.{_≡_, ap, _∙_}
-use mathlib.Core.Bool.{Bool, true, false}
-use mathlib.Core.List.{List, [], _∷_, _++_}
-use Prim.Native.Nat.{ℕ, zero, suc, _<_}
-use native.Mathlib.Omega.{arith}
+use Rattle.lists.specs.Kit.{_≡_, ap, _∙_, List, [], _∷_, _++_, Bool, true, false, ℕ, zero, suc, _<_, arith, getD, drop, replicate}
 use lib.Dec.{T, ltb, ltb→lt}
-use lib.ListN.{getD, drop, replicate}
 use Rattle.lists.specs.Over.{tab}
 use Rattle.lists.specs.Pick.{pick}
 use Rattle.blake3_core.specs.Compress.{permute, MSG-PERMUTATION}

@@ -1,8 +1,5 @@
 -- The rounds as the code has them, step by step: four quarter rounds are half a round, and there are seven rounds.
-use mathlib.Core.Path.{_≡_, refl, ap, _∙_}
-use mathlib.Core.List.{List}
-use Prim.Native.Nat.{ℕ}
-use lib.ListN.{getD}
+use Rattle.lists.specs.Kit.{_≡_, refl, ap, _∙_, List, ℕ, getD}
 use Rattle.blake3_core.specs.Compress.{g, columns, diagonals, round, rounds, permute, fold}
 
 -- ---- four quarter rounds

@@ -1,10 +1,10 @@
 -- A chunk's blocks, one after the other.
-use mathlib.Core.Path.{_≡_, refl, ap, _∙_}
-use mathlib.Core.List.{List, [], _∷_, _++_, map}
-use Prim.Native.Nat.{ℕ, zero, suc, _+_, _-_, _*_, _/_, _≤_}
+use Rattle.lists.specs.Kit.{_≡_, refl, ap, _∙_, List, [], _∷_, _++_, ℕ, zero, suc, _+_, _-_, _*_, _≤_, length, getD, take, drop, replicate}
+use mathlib.Core.List.{map}
+use Prim.Native.Nat.{_/_}
 use native.Mathlib.Numerals.{add-one}
 use native.Mathlib.Nat.{le-of-eq}
-use lib.ListN.{length, getD, take, drop, replicate, length-drop}
+use lib.ListN.{length-drop}
 use lib.Seq.{take-all, getD-drop}
 use Rattle.blake3_core.specs.Word.{word}
 use Rattle.blake3_core.specs.Compress.{compress}

@@ -1,8 +1,7 @@
 -- Four bytes, each shifted to its place and joined with those below it, are their word.
-use mathlib.Core.Path.{_≡_, ap, ap₂, _∙_}
-use Prim.Native.Nat.{ℕ, _+_, _-_, _*_, _%_, _^_, _<_}
+use Rattle.lists.specs.Kit.{_≡_, ap, ap₂, _∙_, ℕ, _+_, _-_, _*_, _<_, arith}
+use Prim.Native.Nat.{_%_, _^_}
 use native.Mathlib.Nat.{add-comm}
-use native.Mathlib.Omega.{arith}
 use lib.Bits.{bitOr, or-shifted-r}
 use Rattle.blake3_core.specs.Word.{word}
 

@@ -1,11 +1,9 @@
 -- What the code of this crate computes, over plain variables.
-use mathlib.Core.Path.{_≡_, refl, sym, ap, ap₂, _∙_}
-use mathlib.Core.Bool.{Bool, true, false}
-use mathlib.Core.List.{List, _++_}
-use Prim.Native.Nat.{ℕ, zero, suc, _+_, _-_, _*_, _^_, _%_, _<_, _≤_, min}
+use Rattle.lists.specs.Kit.{_≡_, refl, sym, ap, ap₂, _∙_, List, _++_, Bool, true, false, ℕ, zero, suc, _+_, _-_, _*_, _<_, _≤_, arith}
+use Rattle.lists.specs.Kit.{length, getD, take, drop, set}
+use Prim.Native.Nat.{_^_, _%_, min}
 use native.Mathlib.Nat.{mul-zero, mul-one, mod-lt, zero-lt-suc}
-use native.Mathlib.Omega.{arith}
-use lib.ListN.{length, getD, take, drop, set, length-set, List·getD-eq-default}
+use lib.ListN.{length-set, List·getD-eq-default}
 use lib.Seq.{drop-at, getD-take, getD-drop}
 use lib.Bits.{bitXor, xor-zero-r}
 use lib.Dec.{eqb}

@@ -1,9 +1,6 @@
 -- Items written into an exact part: bytes at the front, then Blocks through parts of it.
-use mathlib.Core.Path.{_≡_, refl, ap, ap₂, _∙_}
-use mathlib.Core.List.{List, [], _∷_, _++_}
-use Prim.Native.Nat.{ℕ, suc}
-use native.Mathlib.Omega.{arith}
-use lib.ListN.{length, set, length-set}
+use Rattle.lists.specs.Kit.{_≡_, refl, ap, ap₂, _∙_, List, [], _∷_, _++_, ℕ, suc, arith, length, set}
+use lib.ListN.{length-set}
 use borrow.Rule.Slice.PartMut.{putMid}
 use Rattle.lists.specs.Sect.{length-put}
 use Rattle.lists.specs.Over.{over-set, over-put, over-next, over-full, sets-all}

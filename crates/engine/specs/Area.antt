@@ -134,37 +134,15 @@ module _ (size : ℕ → ℕ) where
     unfolding putSec
     putSec-twice s xs ys l hy = put-twice (off s) (size s) xs ys w hy (omega (arith, within s S l))
 
-    pub putSec-comm : (s t : ℕ) (xs ys : List ℕ) → s < S → t < S → s ≢ t → length xs ≡ size s → length ys ≡ size t
-        → putSec s xs (putSec t ys w) ≡ putSec t ys (putSec s xs w)
-    unfolding putSec
-    putSec-comm s t xs ys ls lt ne hx hy = go (ltb s t) refl
-      where
-        go : (b : Bool) → ltb s t ≡ b
-            → put (off s) (size s) xs (put (off t) (size t) ys w) ≡ put (off t) (size t) ys (put (off s) (size s) xs w)
-        go true e = put-comm (off s) (size s) (off t) (size t) xs ys w hx (within s t (ltb-true s t e)) (omega (arith, within t S lt))
-        go false e =
-            let q = within t s (omega (arith, ltb-false s t e, ne)) in
-            sym (put-comm (off t) (size t) (off s) (size s) ys xs w hy q (omega (arith, within s S ls)))
-
     -- writing a part of a section, and one element of it
     pub put-sec : (s a k : ℕ) (xs : List ℕ) → s < S → a + k ≤ size s → put (off s + a) k xs w ≡ putSec s (put a k xs (sec s w)) w
     unfolding sec putSec
     put-sec s a k xs l h′ = put-put-in (off s) (size s) a k xs w h′ (omega (arith, within s S l))
 
-    pub set-sec : (s a v : ℕ) → s < S → a < size s → set w (off s + a) v ≡ putSec s (set (sec s w) a v) w
-    set-sec s a v l h′ =
-        let e : length (sec s w) ≡ size s = length-sec s l in
-        set-put (off s + a) v w (omega (arith, within s S l)) ∙ put-sec s a 1 (v ∷ []) l (omega arith)
-        ∙ ap (λ (x : List ℕ). putSec s x w) (sym (set-put a v (sec s w) (omega arith)))
-
   -- reading a part of a section, and one element of it
   pub get-sec : (s a k : ℕ) (w : List ℕ) → a + k ≤ size s → get (off s + a) k w ≡ get a k (sec s w)
   unfolding sec
   get-sec s a k w h = sym (get-get (off s) (size s) a k w h)
-
-  pub getD-sec : (s a : ℕ) (w : List ℕ) → a < size s → getD w (off s + a) 0 ≡ getD (sec s w) a 0
-  unfolding sec
-  getD-sec s a w h = sym (getD-take (size s) (drop (off s) w) a 0 h ∙ getD-drop (off s) w a 0)
 
   -- a buffer laid out section by section
   pub length-lay : (S : ℕ) (c : ℕ → List ℕ) → ((s : ℕ) → s < S → length (c s) ≡ size s) → length (cat S c) ≡ off S

@@ -90,10 +90,6 @@ module _ (T : Table) (k : ℕ) (f : Frame) (w : List ℕ) (m : ℕ → List ℕ)
       lv = length-putSec (T .size f) (suc (suc (T .count))) w h (suc (T .count)) _ (omega arith)
           (length-rows f (λ j. T .recv k .digest f (m j)) (λ j lj nj. len (m j)) ∙ sym rows)
 
-  pub echo-then-waits : byParty f (λ j. T .echo .fault (f .n) (f .i) j (hashes T f w) (m j)) .code ≡ 0 → echoCheck T k f w m ≡ pending T k f w
-  unfolding echoCheck
-  echo-then-waits h = or-none _ _ h
-
   pub echo-first : byParty f (λ j. T .echo .fault (f .n) (f .i) j (hashes T f w) (m j)) .code ≢ 0
       → echoCheck T k f w m ≡ byParty f (λ j. T .echo .fault (f .n) (f .i) j (hashes T f w) (m j))
   unfolding echoCheck
@@ -149,15 +145,6 @@ module _ (T : Table) (n l : ℕ) (W : Lawful T n l) where
   pub next-on : (two : Bool) (k : ℕ) → k ≢ T .last → (two && isEcho T (suc k)) ≡ false → nextOf T two k ≡ suc k
   unfolding nextOf
   next-on two k ne e = rw (ne-eqb k (T .last) ne, e) refl
-
-  -- two boxes pass the echoes over, more take each
-  pub two-skip : (k : ℕ) → toEcho T true k ≡ false
-  unfolding toEcho
-  two-skip k = refl
-
-  pub more-echo : (k : ℕ) → toEcho T false k ≡ isEcho T (suc k)
-  unfolding toEcho
-  more-echo k = refl
 
   pub next-echo : (two : Bool) (k : ℕ) → k ≢ T .last → toEcho T two k ≡ true → (nextOf T two k ≡ suc k) × (isEcho T (suc k) ≡ true)
   unfolding toEcho

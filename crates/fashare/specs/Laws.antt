@@ -36,10 +36,6 @@ three-written a b c l x y z k m e he ha hb h h′ ex ey ez =
     over-next (a ++ b) c z l _ m (e - m) e e2 (length-append a b ∙ (let q : length a + length b ≡ m = omega arith in q)) ez (omega arith)
     ∙ over-full ((a ++ b) ++ c) l e (omega arith) ∙ append-assoc a b c
 
--- of at least one chunk, one fits
-pub chunk-least : (c k : ℕ) → 1 ≤ c → k ≤ c * k
-chunk-least c k h = rw (one-mul k) at (mul-le-mul-right k h)
-
 pub dm-most : (n x : ℕ) → x ≡ dmLen n → n ≤ 8 → x ≤ 113
 unfolding dmLen
 dm-most n x e h = omega arith

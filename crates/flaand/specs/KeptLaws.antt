@@ -48,7 +48,3 @@ item f recs rows zs k t = bitBlock (e f recs zs t) (uAt f rows k t)
 pub length-item : (f : Frame) (recs rows zs : List ℕ) (k t : ℕ) → length (item f recs rows zs k t) ≡ 17
 unfolding item bitBlock
 length-item f recs rows zs k t = ap suc (length-bytesOf (uAt f rows k t))
-
-pub length-flaandMsg : (f : Frame) (recs rows zs : List ℕ) (k : ℕ) → length (flaandMsg f recs rows zs k) ≡ 8 + leaky (f .l) * 17
-unfolding flaandMsg item
-length-flaandMsg f recs rows zs k = length-encode 17 (leaky (f .l)) (item f recs rows zs k) (λ t h. length-item f recs rows zs k t)

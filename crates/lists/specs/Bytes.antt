@@ -55,11 +55,3 @@ bytes-cat (suc n) g h = bytes-append (cat n g) (g n) (bytes-cat n g (λ j l. h j
 
 pub bytes-get : (a k : ℕ) (s : List ℕ) → Bytes s → Bytes (get a k s)
 bytes-get a k s h = bytes-take k (drop a s) (bytes-drop a s h)
-
-pub bytes-put : (a k : ℕ) (xs s : List ℕ) → Bytes xs → Bytes s → Bytes (put a k xs s)
-bytes-put a k xs s h hs =
-    bytes-append (take a s) (xs ++ drop k (drop a s)) (bytes-take a s hs) (bytes-append xs (drop k (drop a s)) h (bytes-drop k (drop a s) (bytes-drop a s hs)))
-
-pub bytes-chunk : (m k : ℕ) (s : List ℕ) → Bytes s → Bytes (chunk m k s)
-unfolding chunk
-bytes-chunk m k s h = bytes-get (k * m) m s h

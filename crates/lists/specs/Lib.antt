@@ -6,3 +6,4 @@ pub mod Rows
 pub mod Bytes
 pub mod All
 pub mod Same
+pub mod Kit

@@ -36,16 +36,3 @@ same-eq a b e = subst (λ x. same? a x ≡ true) e (same-refl a)
 
 pub same-false : (a b : List ℕ) → same? a b ≡ false → a ≡ b → ⊥
 same-false a b h e = true-false (sym (same-eq a b e) ∙ h)
-
--- a loop over all elements that does not stop early
-pub same-all : (a b : List ℕ) → length a ≡ length b → same? a b ≡ allOf (length a) (λ i. eqb (getD a i 0) (getD b i 0))
-same-all a b h = go (same? a b) refl (allOf (length a) (λ i. eqb (getD a i 0) (getD b i 0))) refl
-  where
-    equal : a ≡ b → allOf (length a) (λ i. eqb (getD a i 0) (getD b i 0)) ≡ true
-    equal e = all-of (length a) _ (λ i l. eq-eqb (getD a i 0) (getD b i 0) (ap (λ (x : List ℕ). getD x i 0) e))
-
-    go : (s : Bool) → same? a b ≡ s → (t : Bool) → allOf (length a) (λ i. eqb (getD a i 0) (getD b i 0)) ≡ t → s ≡ t
-    go true e true f = refl
-    go true e false f = absurd (true-false (sym (equal (same-true a b e)) ∙ f))
-    go false e true f = absurd (same-false a b e (ext-getD 0 a b h (λ i l. eqb-true (getD a i 0) (getD b i 0) (of-all (length a) _ f i l))))
-    go false e false f = refl

@@ -316,10 +316,6 @@ module _ (K : Kind) (count : ℕ) (m : List ℕ) where
   unfolding formOf
   form-bad e = ap (λ (b : Bool). pick b (pick (eqb (countOf m) count && innersDue K count m) 0 6) 13) e
 
-  -- 13, whatever count is due
-  pub form-over : length m < 8 + countOf m → formOf K count m ≡ 13
-  form-over h = form-bad (decodes-over K m h)
-
   pub form-of : Formed K count m → formOf K count m ≡ 0
   unfolding formOf
   form-of w =

@@ -134,15 +134,6 @@ module _ (m : List ℕ) (h : formOf Dms 40 m ≡ 0) where
   pub dms-count : (q : ℕ) → q < 40 → q < countOf m
   dms-count q l = omega (arith, formed Dms 40 m h .count-is)
 
-  pub dm-inside : (q : ℕ) → q < 40 → itemAt Dms m q + 8 + wordAt m (itemAt Dms m q) ≤ length m
-  unfolding itemLen
-  dm-inside q l =
-      let at : ℕ = itemAt Dms m q in
-      let d = decoded Dms m dms-decode in
-      let v = vec-held 1 (drop at m) (d .item q (dms-count q l)) in
-      let w : wordAt (drop at m) 0 ≡ wordAt m at = word-drop m at 0 ∙ ap (wordAt m) (add-zero at) in
-      omega (arith, v .fits, length-drop at m, at-le Dms m (d .head) q, w)
-
 -- the fault of dm q
 module _ (f : Frame) (m : List ℕ) (q k at : ℕ) (ea : at ≡ itemAt Dms m q) where
   dm-fault : (w b : ℕ) → w ≡ wordAt m at → b ≡ getD m (at + 8) 0
@@ -151,12 +142,5 @@ module _ (f : Frame) (m : List ℕ) (q k at : ℕ) (ea : at ≡ itemAt Dms m q) 
   dm-fault w b ew eb =
       ap₂ (λ x y. pick (eqb x (dmLen (f .n))) (pick (leb y 1) 0 1) 4) (ap (wordAt m) (sym ea) ∙ sym ew) (ap (λ a. getD m (a + 8) 0) (sym ea) ∙ sym eb)
 
-  pub dm-long : (w : ℕ) → w ≡ wordAt m at → w ≢ dmLen (f .n) → 4 ≡ S.dmFault f (λ _. m) q k
-  dm-long w ew ne =
-      sym (dm-fault w (getD m (at + 8) 0) ew refl ∙ ap (λ b. pick b (pick (leb (getD m (at + 8) 0) 1) 0 1) 4) (ne-eqb w (dmLen (f .n)) ne))
-
   pub dm-bit : (w : ℕ) → w ≡ wordAt m at → w ≡ dmLen (f .n) → 1 < getD m (at + 8) 0 → 1 ≡ S.dmFault f (λ _. m) q k
   dm-bit w ew e h = sym (dm-fault w (getD m (at + 8) 0) ew refl ∙ rw (eq-eqb w (dmLen (f .n)) e, lt-leb (getD m (at + 8) 0) 1 h) refl)
-
-  pub dm-fine : (w : ℕ) → w ≡ wordAt m at → w ≡ dmLen (f .n) → getD m (at + 8) 0 ≤ 1 → 0 ≡ S.dmFault f (λ _. m) q k
-  dm-fine w ew e h = sym (dm-fault w (getD m (at + 8) 0) ew refl ∙ rw (eq-eqb w (dmLen (f .n)) e, le-leb (getD m (at + 8) 0) 1 h) refl)

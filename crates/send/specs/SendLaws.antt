@@ -200,9 +200,6 @@ module _ {n i l : ℕ} {w : List ℕ} (h : Work n i l w) where
       (λ j r. ap length (sym (held-none (frame n l i) q w j (r .not6) (r .not14) (r .not17) (r .not21) (r .not22))))
       k
 
-  pub hold-work : (k : ℕ) (q : Loan) → Work n i l (held k (frame n l i) q w)
-  hold-work k q = record { ranges = h .ranges; whole = hold-length k q ∙ h .whole }
-
   at-same : (s : ℕ) (x : List ℕ) → s < SECTIONS → length x ≡ sizeOf (frame n l i) s → at (frame n l i) s (keep (frame n l i) s x w) ≡ x
   unfolding at keep
   at-same s x b e = sec-same (sizeOf (frame n l i)) SECTIONS w (area h) s x b e

@@ -97,7 +97,7 @@ module _ (n l i k : ℕ) where
 
   pub lent-made : (q : Loan) → k < 22 → toEcho table (eqb n 2) k ≡ false → lentOf table k n l q ≡ Table.lent (nextRound n k) n l q
   unfolding lentOf
-  lent-made q h e = rw (ne-eqb k 22 (omega arith), e, next-is n k (omega arith)) refl
+  lent-made q h e = rw (next-is n k (omega arith)) refl
 
 -- ---- the content
 module _ (f : Frame) (w : List ℕ) (m : ℕ → List ℕ) (k : ℕ) where

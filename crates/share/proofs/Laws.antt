@@ -1,11 +1,8 @@
 -- What the code of this crate computes, over plain variables.
-use mathlib.Core.Path.{_≡_, refl, sym, ap, ap₂, _∙_}
-use mathlib.Core.Bool.{Bool, true, false, not, _&&_, Bool·beq}
-use mathlib.Core.List.{List, _∷_, _++_}
-use Prim.Native.Nat.{ℕ, suc, _+_, _-_, _*_, _<_, _≤_}
+use Rattle.lists.specs.Kit.{_≡_, refl, sym, ap, ap₂, _∙_, List, _∷_, _++_, Bool, true, false, not, _&&_, ℕ, suc, _+_, _-_, _*_, _<_, _≤_}
+use Rattle.lists.specs.Kit.{arith, length, getD, take, drop, replicate, set}
+use mathlib.Core.Bool.{Bool·beq}
 use native.Mathlib.Numerals.{add-one}
-use native.Mathlib.Omega.{arith}
-use lib.ListN.{length, getD, take, drop, set, replicate}
 use lib.Seq.{drop-cons, drop-at}
 use borrow.Rule.Slice.PartMut.{putMid}
 use Rattle.lists.specs.Pick.{pick}

@@ -29,20 +29,7 @@ xor-bits false true = refl
 xor-bits true false = refl
 xor-bits true true = refl
 
--- ---- sums of shares, part by part
-module _ (a b : Share) where
-  pub bit-op : (shares .op a b) .bit ≡ addb (a .bit) (b .bit)
-  unfolding shares
-  bit-op = refl
-
-  pub mac-op : (k : ℕ) → (shares .op a b) .mac k ≡ blocks .op (a .mac k) (b .mac k)
-  unfolding shares
-  mac-op k = refl
-
-  pub key-op : (k : ℕ) → (shares .op a b) .key k ≡ blocks .op (a .key k) (b .key k)
-  unfolding shares
-  key-op k = refl
-
+-- ---- a bit times a share, part by part
 pub bit-sel : (d : Bool) (a : Share) → (sel shares d a) .bit ≡ sel bits d (a .bit)
 unfolding shares
 bit-sel false a = refl

@@ -1,7 +1,5 @@
 -- `admit::alive` meets its contract.
-use mathlib.Core.Path.{sym, ap₂, _∙_}
-use mathlib.Core.Bool.{_&&_}
-use borrow.Author.Needs.{needs}
+use Rattle.lists.specs.Kit.{sym, ap₂, _∙_, _&&_, needs}
 use Rattle.admit.specs.AdmitLaws.{round-is}
 use Rattle.admit.proofs.alive.Statement.{statement}
 use Rattle.admit.proofs.alive.Tie as tie

@@ -1,12 +1,6 @@
 -- `admit::form` meets its contract: the first j parties have no fault of form, and their lists are measured.
-use mathlib.Core.Path.{_≡_, sym, ap, _∙_}
-use mathlib.Core.List.{[], _++_}
-use Prim.Native.Nat.{ℕ, _-_, _<_, _≤_}
-use native.Mathlib.Omega.{arith}
-use lib.ListN.{drop, replicate}
+use Rattle.lists.specs.Kit.{_≡_, sym, ap, _∙_, [], _++_, ℕ, _-_, _<_, _≤_, arith, drop, replicate, now, needs}
 use borrow.Author.Tests.{ne-eqb}
-use borrow.Author.Needs.{needs}
-use denote.Ref.{now}
 use Rattle.lists.specs.Pick.{pick}
 use Rattle.lists.specs.Over.{tab}
 use Rattle.plan.specs.Plan.{kindOf}

@@ -1,6 +1,5 @@
 -- `admit::lengths` meets its contract.
-use mathlib.Core.Path.{refl}
-use borrow.Author.Needs.{needs}
+use Rattle.lists.specs.Kit.{refl, needs}
 use Rattle.plan.specs.PlanLaws.{in-range}
 use Rattle.admit.specs.Admit.{lengthsFit}
 use Rattle.admit.proofs.lengths.Statement.{statement}

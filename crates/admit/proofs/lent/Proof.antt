@@ -1,11 +1,6 @@
 -- `admit::lent` meets its contract.
-use mathlib.Core.Path.{_≡_, sym, ap, _∙_}
-use mathlib.Core.Bool.{_&&_}
-use Prim.Native.Nat.{ℕ}
-use borrow.Author.Needs.{needs}
-use lib.ListN.{length}
+use Rattle.lists.specs.Kit.{_≡_, sym, ap, _∙_, _&&_, ℕ, length, now, needs}
 use lib.Dec.{eqb}
-use denote.Ref.{now}
 use Rattle.lists.specs.Pick.{pick}
 use Rattle.plan.specs.Plan.{leaky}
 use Rattle.engine.specs.Plain.{lentOf}

@@ -1,7 +1,5 @@
 -- `admit::part_in` meets its contract.
-use mathlib.Core.List.{[]}
-use borrow.Author.Needs.{needs}
-use denote.Ref.{now}
+use Rattle.lists.specs.Kit.{[], now, needs}
 use Rattle.engine.specs.Step.{Lent}
 use Rattle.admit.specs.Admit.{given}
 use Rattle.admit.specs.AdmitLaws.{fits-own, fits-gone, fits-there}

@@ -1,12 +1,6 @@
 -- `admit::parts_in` meets its contract: the parts of the first k parties lie inside.
-use mathlib.Core.Path.{_≡_, sym, _∙_}
-use mathlib.Core.Bool.{true}
-use mathlib.Core.List.{[]}
-use Prim.Native.Nat.{_-_, _≤_}
-use native.Mathlib.Omega.{arith}
-use borrow.Author.Needs.{needs}
+use Rattle.lists.specs.Kit.{_≡_, sym, _∙_, [], true, _-_, _≤_, arith, now, needs}
 use borrow.Author.Tests.{not-true, not-false}
-use denote.Ref.{now}
 use Rattle.lists.specs.All.{allOf, all-zero}
 use Rattle.engine.specs.Step.{Lent}
 use Rattle.admit.specs.Admit.{given, fits}

@@ -1,8 +1,5 @@
 -- `admit::read_one` meets its contract.
-use mathlib.Core.Path.{ap, _∙_}
-use mathlib.Core.List.{[]}
-use borrow.Author.Needs.{needs}
-use denote.Ref.{now}
+use Rattle.lists.specs.Kit.{ap, _∙_, [], now, needs}
 use Rattle.message.specs.Format as Format
 use Rattle.engine.specs.Step.{Lent}
 use Rattle.rounds.specs.FaultLaws.{fault-own, fault-other}

@@ -1,10 +1,6 @@
 -- `admit::reason` meets its contract.
-use mathlib.Core.Path.{_≡_, sym, _∙_}
-use mathlib.Core.Bool.{true}
-use borrow.Author.Needs.{needs}
+use Rattle.lists.specs.Kit.{_≡_, sym, _∙_, true, length, now, needs}
 use borrow.Author.Tests.{not-true, not-false}
-use lib.ListN.{length}
-use denote.Ref.{now}
 use Rattle.plan.specs.Plan.{InRange}
 use Rattle.engine.specs.Step.{Lent, partsIn}
 use Rattle.engine.specs.Plain.{protocolOf}

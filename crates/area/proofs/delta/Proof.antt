@@ -1,10 +1,4 @@
-use mathlib.Core.Path.{ap, _∙_}
-use mathlib.Core.List.{List}
-use Prim.Native.Nat.{ℕ}
-use native.Mathlib.Omega.{arith}
-use lib.ListN.{length}
-use denote.Ref.{now}
-use borrow.Author.Needs.{needs}
+use Rattle.lists.specs.Kit.{ap, _∙_, List, ℕ, arith, length, now, needs}
 use Rattle.block.specs.Block.{blockAt}
 use Rattle.rounds.specs.Area.{DELTA, SECTIONS, sizeOf, sizes, workLen, at}
 use Rattle.rounds.specs.Table as Table

@@ -1,9 +1,4 @@
-use mathlib.Core.Path.{_≡_, ap}
-use Prim.Native.Nat.{_+_, _≤_}
-use native.Mathlib.Omega.{arith}
-use lib.ListN.{length}
-use denote.Ref.{now}
-use borrow.Author.Needs.{needs}
+use Rattle.lists.specs.Kit.{_≡_, ap, _+_, _≤_, arith, length, now, needs}
 use Rattle.area.specs.AreaLaws.{work-any}
 use Rattle.area.specs.SectionLaws.{section-ends, is-section}
 use Rattle.area.proofs.section.Statement.{statement}

@@ -1,8 +1,5 @@
 -- `area::section_at` meets its contract: at turn k the sum is where section k starts.
-use mathlib.Core.Path.{_≡_, refl, ap, _∙_}
-use Prim.Native.Nat.{ℕ, _+_, _-_, _≤_}
-use native.Mathlib.Omega.{arith}
-use borrow.Author.Needs.{needs}
+use Rattle.lists.specs.Kit.{_≡_, refl, ap, _∙_, ℕ, _+_, _-_, _≤_, arith, needs}
 use Rattle.engine.specs.Step.{frame}
 use Rattle.engine.specs.Area.{off}
 use Rattle.rounds.specs.Area.{sizeOf}

@@ -1,9 +1,6 @@
 -- `area::section_len` meets its contract: an arm for each section.
-use mathlib.Core.Path.{_≡_, refl}
-use Prim.Native.Nat.{_+_, _-_, _*_, _≤_}
+use Rattle.lists.specs.Kit.{_≡_, refl, _+_, _-_, _*_, _≤_, arith, needs}
 use native.Mathlib.Nat.{le-antisymm}
-use native.Mathlib.Omega.{arith}
-use borrow.Author.Needs.{needs}
 use Rattle.share.specs.Record.{recordLen}
 use Rattle.plan.specs.Plan.{bucketSize, leaky, dmLen}
 use Rattle.plan.specs.PlanLaws.{leaky-most, bucket-low, bucket-high}

@@ -1,6 +1,4 @@
-use mathlib.Core.Path.{ap, _∙_}
-use Prim.Native.Nat.{_+_}
-use native.Mathlib.Omega.{arith}
+use Rattle.lists.specs.Kit.{ap, _∙_, _+_, arith}
 use Rattle.area.specs.AreaLaws.{size-any, off-any, size-most, off-most}
 use Rattle.area.proofs.section_span.Statement.{statement}
 use Rattle.area.proofs.section_span.Tie as tie

@@ -1,7 +1,5 @@
 -- `area::work_len` meets its contract.
-use mathlib.Core.Path.{refl, sym, _∙_}
-use native.Mathlib.Omega.{arith}
-use borrow.Author.Needs.{needs}
+use Rattle.lists.specs.Kit.{refl, sym, _∙_, arith, needs}
 use Rattle.plan.specs.PlanLaws.{in-range-true}
 use Rattle.rounds.specs.Area.{workLen}
 use Rattle.area.proofs.work_len.Statement.{statement}

@@ -1,6 +1,4 @@
-use mathlib.Core.Path.{subst}
-use borrow.Author.Needs.{needs}
-use denote.Ref.{now}
+use Rattle.lists.specs.Kit.{subst, now, needs}
 use Rattle.engine.specs.Step.{Fault, frame}
 use Rattle.rounds.specs.Mail.{letter}
 use Rattle.rounds.specs.FaultLaws.{Finds}

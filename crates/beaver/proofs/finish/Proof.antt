@@ -1,5 +1,4 @@
-use borrow.Author.Needs.{needs}
-use denote.Ref.{now}
+use Rattle.lists.specs.Kit.{now, needs}
 use Rattle.beaver.specs.FinishLaws.{finished}
 use Rattle.beaver.proofs.finish.Statement.{statement}
 use Rattle.beaver.proofs.finish.Tie as tie

@@ -1,10 +1,4 @@
-use mathlib.Core.Path.{_≡_, ap, ap₂, _∙_}
-use mathlib.Core.Bool.{_&&_}
-use Prim.Native.Nat.{_+_, _*_, _<_, _≤_}
-use native.Mathlib.Omega.{arith}
-use lib.ListN.{length, getD}
-use borrow.Author.Needs.{needs}
-use denote.Ref.{now}
+use Rattle.lists.specs.Kit.{_≡_, ap, ap₂, _∙_, _&&_, _+_, _*_, _<_, _≤_, arith, length, getD, now, needs}
 use Rattle.algebra.specs.Group.{XorGroup, sel, odd}
 use Rattle.block.specs.Block.{blockAt, eqBlock}
 use Rattle.block.specs.Group.{blocks}

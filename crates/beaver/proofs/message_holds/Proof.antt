@@ -1,10 +1,5 @@
 -- The loop's invariant: ok says whether the MACs of the first j buckets hold.
-use mathlib.Core.Path.{_≡_, sym, ap, _∙_}
-use mathlib.Core.Bool.{Bool}
-use Prim.Native.Nat.{ℕ, _-_, _≤_}
-use native.Mathlib.Omega.{arith}
-use borrow.Author.Needs.{needs}
-use denote.Ref.{now}
+use Rattle.lists.specs.Kit.{_≡_, sym, ap, _∙_, Bool, ℕ, _-_, _≤_, arith, now, needs}
 use Rattle.lists.specs.All.{allOf, all-zero}
 use Rattle.beaver.specs.CheckLaws.{holds, all-more}
 use Rattle.beaver.proofs.message_holds.Statement.{statement}

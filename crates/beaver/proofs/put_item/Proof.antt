@@ -1,8 +1,4 @@
-use mathlib.Core.Path.{_≡_, ap, _∙_}
-use Prim.Native.Nat.{_<_}
-use native.Mathlib.Omega.{arith}
-use borrow.Author.Needs.{needs}
-use denote.Ref.{now}
+use Rattle.lists.specs.Kit.{_≡_, ap, _∙_, _<_, arith, now, needs}
 use Rattle.share.specs.Share.{Share}
 use Rattle.plan.specs.PlanLaws.{bucket-low}
 use Rattle.rounds.specs.Beaver as R

@@ -1,11 +1,5 @@
 -- The loop's invariant: the count and the items of the first j buckets are written.
-use mathlib.Core.Path.{_≡_, refl, sym, _∙_}
-use mathlib.Core.List.{List}
-use Prim.Native.Nat.{ℕ, _+_, _-_, _*_, _<_, _≤_}
-use native.Mathlib.Omega.{arith}
-use lib.ListN.{length}
-use borrow.Author.Needs.{needs}
-use denote.Ref.{now}
+use Rattle.lists.specs.Kit.{_≡_, refl, sym, _∙_, List, ℕ, _+_, _-_, _*_, _<_, _≤_, arith, length, now, needs}
 use Rattle.encode.specs.Stretch.{Stretch, stretch-count, stretch-self, even-turn, even-end, in-list}
 use Rattle.rounds.specs.Loops.{lent-part}
 use Rattle.rounds.specs.Beaver as R

@@ -1,11 +1,5 @@
 -- The loop's invariant: the messages to the first q parties but i are written.
-use mathlib.Core.Path.{refl, ap, _∙_}
-use mathlib.Core.List.{List}
-use Prim.Native.Nat.{ℕ, _+_, _-_, _*_, _≤_}
-use native.Mathlib.Omega.{arith}
-use lib.ListN.{length}
-use borrow.Author.Needs.{needs}
-use denote.Ref.{now}
+use Rattle.lists.specs.Kit.{refl, ap, _∙_, List, ℕ, _+_, _-_, _*_, _≤_, arith, length, now, needs}
 use Rattle.lists.specs.Over.{in-chunks}
 use Rattle.plan.specs.PlanLaws.{other-below}
 use Rattle.rounds.specs.Loops.{lent-part}

@@ -1,9 +1,4 @@
-use mathlib.Core.Path.{ap, ap₂, _∙_}
-use mathlib.Core.Bool.{Bool}
-use Prim.Native.Nat.{_+_}
-use native.Mathlib.Omega.{arith}
-use borrow.Author.Needs.{needs}
-use denote.Ref.{now}
+use Rattle.lists.specs.Kit.{ap, ap₂, _∙_, Bool, _+_, arith, now, needs}
 use Rattle.algebra.specs.Group.{addb}
 use Rattle.share.specs.Share.{Share, recordOf}
 use Rattle.plan.specs.PlanLaws.{bucket-low}

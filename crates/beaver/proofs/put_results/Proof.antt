@@ -1,12 +1,5 @@
 -- The loop's invariant: the results of the first j buckets are written.
-use mathlib.Core.Path.{_≡_, sym, ap, ap₂, _∙_}
-use mathlib.Core.Bool.{Bool}
-use mathlib.Core.List.{List}
-use Prim.Native.Nat.{ℕ, _+_, _-_, _*_, _≤_}
-use native.Mathlib.Omega.{arith}
-use lib.ListN.{length}
-use borrow.Author.Needs.{needs}
-use denote.Ref.{now}
+use Rattle.lists.specs.Kit.{_≡_, sym, ap, ap₂, _∙_, List, Bool, ℕ, _+_, _-_, _*_, _≤_, arith, length, now, needs}
 use Rattle.lists.specs.Over.{Written, in-chunks}
 use Rattle.algebra.specs.Group.{addb}
 use Rattle.share.specs.Record.{recordLen}

@@ -1,6 +1,4 @@
-use mathlib.Core.Path.{ap, _∙_}
-use Prim.Native.Nat.{_-_, _*_}
-use borrow.Author.Needs.{needs}
+use Rattle.lists.specs.Kit.{ap, _∙_, _-_, _*_, needs}
 use Rattle.engine.specs.Step.{frame}
 use Rattle.engine.specs.Area.{toOthers}
 use Rattle.rounds.specs.Beaver as R

@@ -1,6 +1,4 @@
-use mathlib.Core.Path.{_∙_}
-use borrow.Author.Needs.{needs}
-use denote.Ref.{now}
+use Rattle.lists.specs.Kit.{_∙_, now, needs}
 use Rattle.engine.specs.Step.{frame}
 use Rattle.rounds.specs.Mail.{letter}
 use Rattle.rounds.specs.Beaver as R

@@ -1,7 +1,4 @@
-use mathlib.Core.Path.{refl, sym, ap, _∙_}
-use mathlib.Core.List.{List}
-use Prim.Native.Nat.{ℕ, _<_}
-use native.Mathlib.Omega.{arith}
+use Rattle.lists.specs.Kit.{refl, sym, ap, _∙_, List, ℕ, _<_, arith}
 use borrow.Fn.Kinds.{In}
 use borrow.Fn.PlainCycle.{Measures, is, falls, and}
 use Rattle.blake3_chunks.specs.Chunks.{WINDOW}

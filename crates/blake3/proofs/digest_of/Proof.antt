@@ -1,8 +1,4 @@
-use mathlib.Core.Path.{ap, _∙_}
-use mathlib.Core.List.{List}
-use Prim.Native.Nat.{ℕ}
-use native.Mathlib.Omega.{arith}
-use lib.ListN.{length}
+use Rattle.lists.specs.Kit.{ap, _∙_, List, ℕ, arith, length}
 use Rattle.blake3.specs.Tree.{tree, digest}
 use Rattle.blake3.specs.FirstLaws.{firsts-one, all-plain}
 use Rattle.blake3.proofs.digest_of.Statement.{statement}

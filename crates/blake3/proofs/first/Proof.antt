@@ -1,5 +1,4 @@
-use native.Mathlib.Omega.{arith}
-use mathlib.Core.Path.{sym}
+use Rattle.lists.specs.Kit.{sym, arith}
 use Rattle.blake3.specs.FirstLaws.{head-in, head-is, item-in, item-is}
 use Rattle.blake3.proofs.first.Statement.{statement}
 use Rattle.blake3.proofs.first.Tie as tie

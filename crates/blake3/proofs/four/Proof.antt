@@ -1,6 +1,5 @@
-use mathlib.Core.Path.{_∙_}
+use Rattle.lists.specs.Kit.{_∙_, needs}
 use Rattle.blake3.specs.TreeLaws.{tree-window}
-use borrow.Author.Needs.{needs}
 use Rattle.blake3.proofs.four.Statement.{statement}
 use Rattle.blake3.proofs.four.Tie as tie
 

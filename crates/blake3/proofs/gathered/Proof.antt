@@ -1,8 +1,5 @@
-use mathlib.Core.Path.{_≡_, refl, sym, ap, ap₂, _∙_}
-use mathlib.Core.List.{List, _++_}
-use Prim.Native.Nat.{ℕ, _+_, _-_, _≤_}
-use native.Mathlib.Omega.{arith}
-use lib.ListN.{length, getD, set, take, drop, replicate, length-set}
+use Rattle.lists.specs.Kit.{_≡_, refl, sym, ap, ap₂, _∙_, List, _++_, ℕ, _+_, _-_, _≤_, arith, length, getD, take, drop, replicate, set}
+use lib.ListN.{length-set}
 use lib.Seq.{take-at, length-take-le}
 use Rattle.lists.specs.Over.{tab, tab-zero, tab-step, length-tab}
 use Rattle.lists.specs.Tab.{take-tab}

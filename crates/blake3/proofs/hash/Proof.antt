@@ -1,6 +1,5 @@
-use mathlib.Core.Path.{ap, _∙_}
+use Rattle.lists.specs.Kit.{ap, _∙_, needs}
 use Rattle.blake3.specs.Tree.{bytes, hash}
-use borrow.Author.Needs.{needs}
 use Rattle.blake3.proofs.hash.Statement.{statement}
 use Rattle.blake3.proofs.hash.Tie as tie
 

@@ -1,9 +1,6 @@
-use mathlib.Core.Path.{ap, _∙_}
-use mathlib.Core.List.{List}
-use Prim.Native.Nat.{ℕ}
+use Rattle.lists.specs.Kit.{ap, _∙_, List, ℕ, needs}
 use Rattle.block.specs.Block.{blockAt}
 use Rattle.blake3.specs.Tree.{bytes, hash}
-use borrow.Author.Needs.{needs}
 use Rattle.blake3.proofs.hash128.Statement.{statement}
 use Rattle.blake3.proofs.hash128.Tie as tie
 

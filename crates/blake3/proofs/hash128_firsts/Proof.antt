@@ -1,13 +1,9 @@
-use mathlib.Core.Path.{_≡_}
-use mathlib.Core.List.{List}
-use Prim.Native.Nat.{ℕ}
-use native.Mathlib.Omega.{arith}
+use Rattle.lists.specs.Kit.{_≡_, List, ℕ, arith, needs}
 use Rattle.block.specs.declared.Block.{Block}
 use Rattle.block.specs.Block.{blockAt}
 use Rattle.blake3_node.specs.Node.{ROOT}
 use Rattle.blake3.specs.Tree.{tree, digest, bytes, hash}
 use Rattle.blake3.specs.FirstLaws.{length-firsts, firsts-fit, all-firsts}
-use borrow.Author.Needs.{needs}
 use Rattle.blake3.proofs.hash128_firsts.Statement.{statement}
 use Rattle.blake3.proofs.hash128_firsts.Tie as tie
 

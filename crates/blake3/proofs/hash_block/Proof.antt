@@ -1,13 +1,9 @@
-use mathlib.Core.Path.{_≡_, ap, _∙_}
-use mathlib.Core.List.{List, [], _∷_}
-use Prim.Native.Nat.{ℕ}
-use native.Mathlib.Omega.{arith}
+use Rattle.lists.specs.Kit.{_≡_, ap, _∙_, List, [], _∷_, ℕ, arith, needs}
 use Rattle.blake3_core.specs.Compress.{compress, IV}
 use Rattle.block.specs.declared.Block.{Block}
 use Rattle.block.specs.Block.{bytesOf, Small}
 use Rattle.blake3.specs.Tree.{digest}
 use Rattle.blake3.specs.ByteLaws.{words, block-digest}
-use borrow.Author.Needs.{needs}
 use Rattle.blake3.proofs.hash_block.Statement.{statement}
 use Rattle.blake3.proofs.hash_block.Tie as tie
 

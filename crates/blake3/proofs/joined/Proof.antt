@@ -1,7 +1,6 @@
-use mathlib.Core.Path.{_≡_, ap, _∙_}
-use Prim.Native.Nat.{_*_, _%_, _^_}
+use Rattle.lists.specs.Kit.{_≡_, ap, _∙_, _*_, arith}
+use Prim.Native.Nat.{_%_, _^_}
 use native.Mathlib.Nat.{add-comm}
-use native.Mathlib.Omega.{arith}
 use lib.Bits.{bitOr, or-shifted-r}
 use Rattle.blake3.proofs.joined.Statement.{statement}
 use Rattle.blake3.proofs.joined.Tie as tie

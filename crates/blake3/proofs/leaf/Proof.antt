@@ -1,10 +1,6 @@
-use mathlib.Core.Path.{ap, _∙_}
-use mathlib.Core.List.{List}
-use Prim.Native.Nat.{ℕ}
-use native.Mathlib.Omega.{arith}
+use Rattle.lists.specs.Kit.{ap, _∙_, List, ℕ, arith, needs}
 use Rattle.blake3_node.specs.Node.{chunk}
 use Rattle.blake3.specs.FirstLaws.{firsts-fit, plain-part}
-use borrow.Author.Needs.{needs}
 use Rattle.blake3.proofs.leaf.Statement.{statement}
 use Rattle.blake3.proofs.leaf.Tie as tie
 

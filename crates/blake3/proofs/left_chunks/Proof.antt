@@ -1,5 +1,4 @@
-use Prim.Native.Nat.{_-_, _<_}
-use native.Mathlib.Omega.{arith}
+use Rattle.lists.specs.Kit.{_-_, _<_, arith}
 use Rattle.blake3.specs.TreeLaws.{Power, power-one, power-double, power-pos}
 use Rattle.blake3.proofs.left_chunks.Statement.{statement}
 use Rattle.blake3.proofs.left_chunks.Tie as tie

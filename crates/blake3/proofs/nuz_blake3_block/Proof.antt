@@ -1,6 +1,5 @@
-use mathlib.Core.Path.{ap, _∙_}
+use Rattle.lists.specs.Kit.{ap, _∙_, needs}
 use Rattle.blake3.specs.Tree as T
-use borrow.Author.Needs.{needs}
 use Rattle.blake3.proofs.nuz_blake3_block.Statement.{statement}
 use Rattle.blake3.proofs.nuz_blake3_block.Tie as tie
 

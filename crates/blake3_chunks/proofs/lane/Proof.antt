@@ -1,13 +1,10 @@
 -- As `compress`: seven rounds, from the words of the lane's block.
-use mathlib.Core.Path.{ap, _∙_}
-use mathlib.Core.List.{List}
-use Prim.Native.Nat.{ℕ, _*_}
+use Rattle.lists.specs.Kit.{ap, _∙_, List, ℕ, _*_, needs}
 use Rattle.lists.specs.Sect.{get-rest}
 use Rattle.blake3_core.specs.Compress as S
 use Rattle.blake3_core.proofs.Rounds.{seven}
 use Rattle.blake3_node.specs.Node.{blockWords}
 use Rattle.blake3_chunks.specs.Chunks.{node, pressed}
-use borrow.Author.Needs.{needs}
 use Rattle.blake3_chunks.proofs.lane.Statement.{statement}
 use Rattle.blake3_chunks.proofs.lane.Tie as tie
 

@@ -1,9 +1,5 @@
 -- The loop's invariant: what the first j lanes give stands in front.
-use mathlib.Core.Path.{_≡_, refl, ap, _∙_}
-use mathlib.Core.List.{List, _++_}
-use Prim.Native.Nat.{ℕ, _+_, _-_, _*_, _≤_}
-use native.Mathlib.Omega.{arith}
-use lib.ListN.{take, drop, getD}
+use Rattle.lists.specs.Kit.{_≡_, refl, ap, _∙_, List, _++_, ℕ, _+_, _-_, _*_, _≤_, arith, getD, take, drop}
 use Rattle.lists.specs.Over.{tab, tab-zero, tab-turn, tab-end, length-take-drop}
 use Rattle.blake3_chunks.specs.declared.Node.{Node}
 use Rattle.blake3_chunks.specs.Chunks.{noNode, chunkOf, pressed}

@@ -1,12 +1,9 @@
 -- The loop's invariant: each lane has taken the first k blocks of its chunk.
-use mathlib.Core.Path.{_≡_, refl, ap, _∙_}
-use Prim.Native.Nat.{_-_, _≤_}
+use Rattle.lists.specs.Kit.{_≡_, refl, ap, _∙_, _-_, _≤_, arith, needs}
 use native.Mathlib.Numerals.{add-one}
-use native.Mathlib.Omega.{arith}
 use Rattle.lists.specs.Over.{tab}
 use Rattle.blake3_node.specs.Node.{after, startFlag}
 use Rattle.blake3_chunks.specs.ChunkLaws.{before, lanes-next, lanes-last}
-use borrow.Author.Needs.{needs}
 use Rattle.blake3_chunks.proofs.window.Statement.{statement}
 use Rattle.blake3_chunks.proofs.window.Tie as tie
 

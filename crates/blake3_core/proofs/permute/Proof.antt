@@ -1,8 +1,5 @@
-use mathlib.Core.Path.{_≡_, refl, ap, _∙_}
-use mathlib.Core.List.{List, _++_}
-use Prim.Native.Nat.{ℕ, _-_, _≤_}
-use native.Mathlib.Omega.{arith}
-use lib.ListN.{length, getD, set, drop, replicate, length-set}
+use Rattle.lists.specs.Kit.{_≡_, refl, ap, _∙_, List, _++_, ℕ, _-_, _≤_, arith, length, getD, drop, replicate, set}
+use lib.ListN.{length-set}
 use Rattle.lists.specs.Over.{tab, tab-zero, tab-step}
 use Rattle.blake3_core.specs.Compress.{MSG-PERMUTATION}
 use Rattle.blake3_core.proofs.Order.{inside, permuted}

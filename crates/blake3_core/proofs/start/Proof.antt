@@ -1,8 +1,5 @@
-use mathlib.Core.Path.{_≡_}
-use mathlib.Core.List.{List}
-use Prim.Native.Nat.{ℕ}
+use Rattle.lists.specs.Kit.{_≡_, List, ℕ, needs}
 use Rattle.blake3_core.specs.Compress as S
-use borrow.Author.Needs.{needs}
 use Rattle.blake3_core.proofs.start.Statement.{statement}
 use Rattle.blake3_core.proofs.start.Tie as tie
 

@@ -1,12 +1,7 @@
 -- The loop's invariant: the words of the first t Blocks stand in front.
-use mathlib.Core.Path.{_≡_, refl, ap, _∙_}
-use mathlib.Core.List.{_++_}
-use Prim.Native.Nat.{_+_, _-_, _≤_}
-use native.Mathlib.Omega.{arith}
-use lib.ListN.{drop}
+use Rattle.lists.specs.Kit.{_≡_, refl, ap, _∙_, _++_, _+_, _-_, _≤_, arith, drop, needs}
 use Rattle.lists.specs.Over.{tab, tab-zero, tab-turn, tab-end}
 use Rattle.blake3_lanes.specs.Lanes.{wordsOf, wordsAt}
-use borrow.Author.Needs.{needs}
 use Rattle.blake3_lanes.proofs.gather.Statement.{statement}
 use Rattle.blake3_lanes.proofs.gather.Tie as tie
 

@@ -1,15 +1,11 @@
 -- The invariant of both loops: the hashes of the first t Blocks stand in front.
-use mathlib.Core.Path.{_≡_, refl, ap, _∙_}
-use Prim.Native.Nat.{ℕ, _+_, _-_, _*_, _≤_}
-use native.Mathlib.Omega.{arith}
-use lib.ListN.{length}
+use Rattle.lists.specs.Kit.{_≡_, refl, ap, _∙_, ℕ, _+_, _-_, _*_, _≤_, arith, length, needs}
 use Rattle.lists.specs.Over.{Written, written-zero, written-turn, written-more, written-on, written-end}
 use Rattle.block.specs.declared.Block.{Block}
 use Rattle.block.specs.Block.{bytesOf}
 use Rattle.blake3.specs.Tree.{hash, digest, bytes}
 use Rattle.blake3_lanes.specs.Lanes.{hashAt}
 use Rattle.blake3_lanes.specs.LaneLaws.{length-hashAt, length-hashes, hash-part}
-use borrow.Author.Needs.{needs}
 use Rattle.blake3_lanes.proofs.hash_blocks.Statement.{statement}
 use Rattle.blake3_lanes.proofs.hash_blocks.Tie as tie
 

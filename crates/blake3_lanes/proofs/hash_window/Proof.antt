@@ -1,11 +1,8 @@
 -- The loop's invariant: the hashes of the first t Blocks stand in front.
-use mathlib.Core.Path.{_∙_}
-use Prim.Native.Nat.{_+_, _-_, _*_, _≤_}
-use native.Mathlib.Omega.{arith}
+use Rattle.lists.specs.Kit.{_∙_, _+_, _-_, _*_, _≤_, arith, needs}
 use Rattle.lists.specs.Over.{Written, written-zero, written-turn, written-end}
 use Rattle.blake3_lanes.specs.Lanes.{hashAt}
 use Rattle.blake3_lanes.specs.LaneLaws.{length-hashAt, lane-hash}
-use borrow.Author.Needs.{needs}
 use Rattle.blake3_lanes.proofs.hash_window.Statement.{statement}
 use Rattle.blake3_lanes.proofs.hash_window.Tie as tie
 

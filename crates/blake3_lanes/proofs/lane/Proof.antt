@@ -1,12 +1,9 @@
 -- As `compress`: seven rounds, from the message words that the lane has.
-use mathlib.Core.Path.{ap}
-use mathlib.Core.List.{List}
-use Prim.Native.Nat.{ℕ}
+use Rattle.lists.specs.Kit.{ap, List, ℕ, needs}
 use Rattle.blake3_core.specs.Compress as S
 use Rattle.blake3.specs.declared.Digest.{Digest}
 use Rattle.blake3_core.proofs.Rounds.{seven}
 use Rattle.blake3_lanes.specs.Lanes.{digestOf}
-use borrow.Author.Needs.{needs}
 use Rattle.blake3_lanes.proofs.lane.Statement.{statement}
 use Rattle.blake3_lanes.proofs.lane.Tie as tie
 

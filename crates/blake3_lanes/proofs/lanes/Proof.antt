@@ -1,12 +1,7 @@
 -- The loop's invariant: the digests of the first t lanes stand in front.
-use mathlib.Core.Path.{_≡_, refl}
-use mathlib.Core.List.{_++_}
-use Prim.Native.Nat.{_+_, _-_, _≤_}
-use native.Mathlib.Omega.{arith}
-use lib.ListN.{drop, getD}
+use Rattle.lists.specs.Kit.{_≡_, refl, _++_, _+_, _-_, _≤_, arith, getD, drop, needs}
 use Rattle.lists.specs.Over.{tab, tab-zero, tab-turn, tab-end}
 use Rattle.blake3_lanes.specs.Lanes.{noWords, digestOf}
-use borrow.Author.Needs.{needs}
 use Rattle.blake3_lanes.proofs.lanes.Statement.{statement}
 use Rattle.blake3_lanes.proofs.lanes.Tie as tie
 

@@ -1,9 +1,5 @@
 use native.Mathlib.Numerals.{add-one}
-use mathlib.Core.Path.{_≡_, refl}
-use Prim.Native.Nat.{_*_, _-_, _≤_}
-use native.Mathlib.Omega.{arith}
-use borrow.Author.Needs.{needs}
-use lib.ListN.{length}
+use Rattle.lists.specs.Kit.{_≡_, refl, _-_, _*_, _≤_, arith, length, needs}
 use Rattle.blake3_node.specs.Node as N
 use Rattle.blake3_node.proofs.Blocks.{next, last}
 use Rattle.blake3_node.proofs.chunk.Statement.{statement}

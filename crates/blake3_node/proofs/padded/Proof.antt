@@ -1,8 +1,5 @@
-use mathlib.Core.Path.{_≡_, refl, sym, _∙_}
-use mathlib.Core.List.{_++_}
-use Prim.Native.Nat.{_-_, _≤_}
-use native.Mathlib.Omega.{arith}
-use lib.ListN.{length, take, drop, replicate, length-set}
+use Rattle.lists.specs.Kit.{_≡_, refl, sym, _∙_, _++_, _-_, _≤_, arith, length, take, drop, replicate}
+use lib.ListN.{length-set}
 use Rattle.lists.specs.Over.{copy-turn}
 use Rattle.blake3_node.proofs.Blocks.{padded-words}
 use Rattle.blake3_node.proofs.padded.Statement.{statement}

@@ -1,9 +1,6 @@
-use mathlib.Core.Path.{ap, _∙_}
-use mathlib.Core.List.{List}
-use Prim.Native.Nat.{ℕ, _+_}
+use Rattle.lists.specs.Kit.{ap, _∙_, List, ℕ, _+_, needs}
 use Rattle.blake3_core.specs.Compress.{compress, IV}
 use Rattle.blake3_node.specs.Node as N
-use borrow.Author.Needs.{needs}
 use Rattle.blake3_node.proofs.parent.Statement.{statement}
 use Rattle.blake3_node.proofs.parent.Tie as tie
 

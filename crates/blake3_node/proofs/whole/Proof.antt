@@ -1,6 +1,4 @@
-use mathlib.Core.Path.{ap₂, refl}
-use mathlib.Core.List.{_∷_}
-use borrow.Author.Needs.{needs}
+use Rattle.lists.specs.Kit.{refl, ap₂, _∷_, needs}
 use Rattle.blake3_node.proofs.whole.Statement.{statement}
 use Rattle.blake3_node.proofs.whole.Tie as tie
 

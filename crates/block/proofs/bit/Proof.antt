@@ -1,7 +1,5 @@
-use lib.ListN.{getD}
-use denote.Ref.{now}
+use Rattle.lists.specs.Kit.{getD, now, needs}
 use Rattle.block.proofs.Laws.{test-odd}
-use borrow.Author.Needs.{needs}
 use Rattle.block.proofs.bit.Statement.{statement}
 use Rattle.block.proofs.bit.Tie as tie
 

@@ -1,10 +1,7 @@
-use mathlib.Core.Path.{_∙_}
-use native.Mathlib.Omega.{arith}
+use Rattle.lists.specs.Kit.{_∙_, arith, now, needs}
 use Rattle.lists.specs.Over.{over-put, over-full}
 use Rattle.block.specs.Block.{le8, bytesOf}
 use Rattle.block.specs.Trip.{length-le8}
-use denote.Ref.{now}
-use borrow.Author.Needs.{needs}
 use Rattle.block.proofs.store.Statement.{statement}
 use Rattle.block.proofs.store.Tie as tie
 

@@ -1,9 +1,7 @@
 use Rattle.lists.specs.Over.{sets-all}
 use Rattle.block.specs.Block.{le8}
-use denote.Ref.{now}
+use Rattle.lists.specs.Kit.{arith, now, needs}
 use lib.ListN.{length-set}
-use native.Mathlib.Omega.{arith}
-use borrow.Author.Needs.{needs}
 use Rattle.block.proofs.store64.Statement.{statement}
 use Rattle.block.proofs.store64.Tie as tie
 

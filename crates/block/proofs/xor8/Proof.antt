@@ -1,9 +1,7 @@
-use mathlib.Core.Path.{_∙_, ap₂, ap}
+use Rattle.lists.specs.Kit.{ap, ap₂, _∙_, now, needs}
 use lib.Bits.{bitXor}
-use denote.Ref.{now}
 use Rattle.block.specs.Block.{le8}
 use Rattle.block.specs.XorWord.{le8-xor-words}
-use borrow.Author.Needs.{needs}
 use Rattle.block.proofs.xor8.Statement.{statement}
 use Rattle.block.proofs.xor8.Tie as tie
 

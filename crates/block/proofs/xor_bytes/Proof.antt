@@ -1,9 +1,5 @@
 -- The loop's invariant: a has b added to its first i bytes.
-use Prim.Native.Nat.{_-_, _≤_}
-use native.Mathlib.Omega.{arith}
-use borrow.Author.Needs.{needs}
-use lib.ListN.{length}
-use denote.Ref.{now}
+use Rattle.lists.specs.Kit.{_-_, _≤_, arith, length, now, needs}
 use Rattle.block.proofs.Laws.{Added, added-none, added-byte, added-all}
 use Rattle.block.proofs.xor_bytes.Statement.{statement}
 use Rattle.block.proofs.xor_bytes.Tie as tie

@@ -1,11 +1,7 @@
 -- The loop's invariant: a has b added to its first i bytes. A turn adds eight more, in the part that `xor8` is lent.
-use mathlib.Core.Path.{_≡_}
+use Rattle.lists.specs.Kit.{_≡_, _+_, _-_, _≤_, arith, length, now, needs}
 use mathlib.Core.Logic.{⊎-elim}
-use Prim.Native.Nat.{_+_, _-_, _≤_, min}
-use native.Mathlib.Omega.{arith}
-use borrow.Author.Needs.{needs}
-use lib.ListN.{length}
-use denote.Ref.{now}
+use Prim.Native.Nat.{min}
 use borrow.Rule.Slice.PartMut.{putMid}
 use Rattle.block.proofs.Laws.{Added, added-none, added-lent, added-all}
 use Rattle.block.proofs.xor_inplace.Statement.{statement}

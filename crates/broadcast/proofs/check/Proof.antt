@@ -1,9 +1,4 @@
-use mathlib.Core.Path.{_≡_, sym, ap, _∙_, subst}
-use mathlib.Core.List.{List}
-use Prim.Native.Nat.{ℕ}
-use native.Mathlib.Omega.{arith}
-use lib.ListN.{length}
-use denote.Ref.{now}
+use Rattle.lists.specs.Kit.{_≡_, sym, ap, subst, _∙_, List, ℕ, arith, length, now, needs}
 use Rattle.engine.specs.Step.{frame, byParty}
 use Rattle.engine.specs.Plain.{pending}
 use Rattle.rounds.specs.Area.{HASHES}
@@ -12,7 +7,6 @@ use Rattle.rounds.specs.EchoLaws.{echoFaults}
 use Rattle.rounds.specs.FaultLaws.{Finds}
 use Rattle.rounds.specs.Table.{table}
 use Rattle.broadcast.specs.BroadcastLaws.{length-at, hashes-size, echo-checks, finds-one, finds-two}
-use borrow.Author.Needs.{needs}
 use Rattle.broadcast.proofs.check.Statement.{statement}
 use Rattle.broadcast.proofs.check.Tie as tie
 use Rattle.broadcast.proofs.check.Reads as reads

@@ -1,7 +1,6 @@
 -- An arm for each round that has a content check.
-use mathlib.Core.Path.{_≡_, refl}
+use Rattle.lists.specs.Kit.{_≡_, refl, ℕ}
 use mathlib.Core.Logic.{_⊎_, inl, inr}
-use Prim.Native.Nat.{ℕ}
 use lib.Dec.{eqb}
 use Rattle.engine.specs.Area.{mem}
 use Rattle.rounds.specs.Table.{faults}

@@ -1,13 +1,8 @@
-use mathlib.Core.Path.{_≡_, ap, _∙_}
-use mathlib.Core.List.{List}
-use Prim.Native.Nat.{ℕ, _+_}
-use native.Mathlib.Omega.{arith}
-use denote.Ref.{now}
+use Rattle.lists.specs.Kit.{_≡_, ap, _∙_, List, ℕ, _+_, arith, now, needs}
 use Rattle.engine.specs.Step.{frame}
 use Rattle.rounds.specs.Area.{PENDING, keep}
 use Rattle.area.specs.SectionLaws.{section-ends, puts-section}
 use Rattle.broadcast.specs.BroadcastLaws.{pending-size, length-part}
-use borrow.Author.Needs.{needs}
 use Rattle.broadcast.proofs.keep_fault.Statement.{statement}
 use Rattle.broadcast.proofs.keep_fault.Tie as tie
 use Rattle.broadcast.proofs.keep_fault.Reads as reads

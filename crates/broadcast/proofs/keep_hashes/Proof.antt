@@ -1,14 +1,9 @@
-use mathlib.Core.Path.{_≡_, sym, ap, _∙_}
-use mathlib.Core.List.{List}
-use Prim.Native.Nat.{ℕ, _+_}
-use native.Mathlib.Omega.{arith}
-use denote.Ref.{now}
+use Rattle.lists.specs.Kit.{_≡_, sym, ap, _∙_, List, ℕ, _+_, arith, now, needs}
 use Rattle.engine.specs.Step.{frame}
 use Rattle.rounds.specs.Area.{HASHES, keep}
 use Rattle.rounds.specs.Mail.{letter}
 use Rattle.area.specs.SectionLaws.{section-ends, puts-section}
 use Rattle.broadcast.specs.BroadcastLaws.{hashes-size, length-part, digests-are}
-use borrow.Author.Needs.{needs}
 use Rattle.broadcast.proofs.keep_hashes.Statement.{statement}
 use Rattle.broadcast.proofs.keep_hashes.Tie as tie
 use Rattle.broadcast.proofs.keep_hashes.Reads as reads

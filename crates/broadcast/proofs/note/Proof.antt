@@ -1,8 +1,7 @@
-use mathlib.Core.Path.{_≡_, ap, _∙_}
+use Rattle.lists.specs.Kit.{_≡_, ap, _∙_, needs}
 use Rattle.engine.specs.Step.{frame}
 use Rattle.engine.specs.Plain.{waits}
 use Rattle.rounds.specs.Area.{PENDING, keep}
-use borrow.Author.Needs.{needs}
 use Rattle.broadcast.proofs.note.Statement.{statement}
 use Rattle.broadcast.proofs.note.Tie as tie
 use Rattle.broadcast.proofs.note.Reads as reads

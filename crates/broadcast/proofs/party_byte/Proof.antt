@@ -1,5 +1,4 @@
-use mathlib.Core.Path.{sym, ap}
-use native.Mathlib.Omega.{arith}
+use Rattle.lists.specs.Kit.{sym, ap, arith}
 use borrow.Author.Tests.{eq-eqb, ne-eqb}
 use Rattle.lists.specs.Pick.{pick}
 use Rattle.broadcast.proofs.party_byte.Statement.{statement}

@@ -1,8 +1,4 @@
-use mathlib.Core.Path.{_≡_, ap, _∙_}
-use native.Mathlib.Omega.{arith}
-use lib.ListN.{length}
-use borrow.Author.Needs.{needs}
-use denote.Ref.{now}
+use Rattle.lists.specs.Kit.{_≡_, ap, _∙_, arith, length, now, needs}
 use Rattle.engine.specs.Step.{frame}
 use Rattle.rounds.specs.Area.{PENDING}
 use Rattle.broadcast.specs.BroadcastLaws.{length-at, pending-size, finds-pending, finds-nothing}

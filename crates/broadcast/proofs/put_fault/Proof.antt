@@ -1,9 +1,6 @@
-use mathlib.Core.Path.{_≡_, _∙_}
-use mathlib.Core.List.{List, [], _∷_}
-use denote.Ref.{now}
+use Rattle.lists.specs.Kit.{_≡_, _∙_, List, [], _∷_, now, needs}
 use Rattle.lists.specs.Over.{sets-all}
 use Rattle.broadcast.specs.BroadcastLaws.{waits-is}
-use borrow.Author.Needs.{needs}
 use Rattle.broadcast.proofs.put_fault.Statement.{statement}
 use Rattle.broadcast.proofs.put_fault.Tie as tie
 use Rattle.broadcast.proofs.put_fault.Reads as reads

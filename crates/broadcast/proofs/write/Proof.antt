@@ -1,15 +1,9 @@
-use mathlib.Core.Path.{_≡_, sym, ap, _∙_}
-use mathlib.Core.List.{List}
-use Prim.Native.Nat.{ℕ}
-use native.Mathlib.Omega.{arith}
-use lib.ListN.{length}
-use denote.Ref.{now}
+use Rattle.lists.specs.Kit.{_≡_, sym, ap, _∙_, List, ℕ, arith, length, now, needs}
 use Rattle.engine.specs.Step.{frame}
 use Rattle.engine.specs.Area.{toOthers}
 use Rattle.rounds.specs.Area.{HASHES}
 use Rattle.rounds.specs.Echo.{echoMsg}
 use Rattle.broadcast.specs.BroadcastLaws.{length-at, hashes-size, hashes-at}
-use borrow.Author.Needs.{needs}
 use Rattle.broadcast.proofs.write.Statement.{statement}
 use Rattle.broadcast.proofs.write.Tie as tie
 use Rattle.broadcast.proofs.write.Reads as reads

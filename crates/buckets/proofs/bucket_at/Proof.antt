@@ -1,7 +1,4 @@
-use mathlib.Core.Path.{_≡_, sym, ap, _∙_}
-use Prim.Native.Nat.{_+_, _-_, _*_, _≤_}
-use native.Mathlib.Omega.{arith}
-use borrow.Author.Needs.{needs}
+use Rattle.lists.specs.Kit.{_≡_, sym, ap, _∙_, _+_, _-_, _*_, _≤_, arith, needs}
 use Rattle.plan.specs.Plan.{bucketSize}
 use Rattle.plan.specs.PlanLaws.{bucket-low, bucket-high}
 use Rattle.rounds.specs.Buckets.{later}

@@ -1,10 +1,5 @@
 -- The loop's invariant: ok says whether the first e MACs are right.
-use mathlib.Core.Path.{_≡_, sym, ap, _∙_}
-use Prim.Native.Nat.{ℕ, _+_, _-_, _*_, _<_, _≤_}
-use native.Mathlib.Omega.{arith}
-use lib.ListN.{length}
-use borrow.Author.Needs.{needs}
-use denote.Ref.{now}
+use Rattle.lists.specs.Kit.{_≡_, sym, ap, _∙_, ℕ, _+_, _-_, _*_, _<_, _≤_, arith, length, now, needs}
 use Rattle.lists.specs.All.{allOf, all-zero}
 use Rattle.share.specs.Record.{recordLen}
 use Rattle.plan.specs.Plan.{bucketSize}

@@ -1,9 +1,4 @@
-use mathlib.Core.Path.{_∙_}
-use Prim.Native.Nat.{_+_, _-_, _<_, _≤_}
-use native.Mathlib.Omega.{arith}
-use lib.ListN.{length}
-use borrow.Author.Needs.{needs}
-use denote.Ref.{now}
+use Rattle.lists.specs.Kit.{_∙_, _+_, _-_, _<_, _≤_, arith, length, now, needs}
 use Rattle.share.specs.Record.{recordLen}
 use Rattle.plan.specs.Plan.{bucketSize}
 use Rattle.plan.specs.PlanLaws.{bucket-low, bucket-high}

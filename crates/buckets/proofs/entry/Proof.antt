@@ -1,9 +1,5 @@
-use mathlib.Core.Path.{_≡_, refl, sym, ap, ap₂, _∙_}
-use Prim.Native.Nat.{ℕ, _+_, _*_, _%_, _≤_}
-use native.Mathlib.Omega.{arith}
-use lib.ListN.{length}
-use borrow.Author.Needs.{needs}
-use denote.Ref.{now}
+use Rattle.lists.specs.Kit.{_≡_, refl, sym, ap, ap₂, _∙_, ℕ, _+_, _*_, _≤_, arith, length, now, needs}
+use Prim.Native.Nat.{_%_}
 use Rattle.plan.specs.Plan.{bucketSize, leaky}
 use Rattle.plan.specs.PlanLaws.{leaky-most}
 use Rattle.rounds.specs.Buckets.{word4, entry}

@@ -1,10 +1,4 @@
-use mathlib.Core.Path.{_≡_, refl, ap}
-use mathlib.Core.List.{List}
-use Prim.Native.Nat.{ℕ, _+_, _-_, _*_, _≤_}
-use lib.ListN.{length, getD}
-use native.Mathlib.Omega.{arith}
-use borrow.Author.Needs.{needs}
-use denote.Ref.{now}
+use Rattle.lists.specs.Kit.{_≡_, refl, ap, List, ℕ, _+_, _-_, _*_, _≤_, arith, length, getD, now, needs}
 use Rattle.lists.specs.Over.{Written, written-zero, written-turn, written-end, length-take-drop}
 use Rattle.rounds.specs.Buckets.{le4}
 use Rattle.buckets.proofs.keep_perm.Statement.{statement}

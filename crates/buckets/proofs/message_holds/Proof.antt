@@ -1,9 +1,5 @@
 -- The loop's invariant: ok says whether the first j buckets are right.
-use mathlib.Core.Path.{_≡_, sym, ap, _∙_}
-use Prim.Native.Nat.{_-_, _≤_}
-use native.Mathlib.Omega.{arith}
-use borrow.Author.Needs.{needs}
-use denote.Ref.{now}
+use Rattle.lists.specs.Kit.{_≡_, sym, ap, _∙_, _-_, _≤_, arith, now, needs}
 use Rattle.lists.specs.All.{allOf, all-zero}
 use Rattle.buckets.specs.Dvalues.{bucketHolds, messageHolds, all-more}
 use Rattle.buckets.proofs.message_holds.Statement.{statement}

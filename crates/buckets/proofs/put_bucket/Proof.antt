@@ -1,12 +1,6 @@
-use mathlib.Core.Path.{_≡_, refl, sym, ap, ap₂, _∙_, subst}
-use mathlib.Core.Bool.{Bool}
-use mathlib.Core.List.{List}
-use Prim.Native.Nat.{ℕ, suc, _+_, _-_, _*_, _<_, _≤_}
+use Rattle.lists.specs.Kit.{_≡_, refl, sym, ap, ap₂, subst, _∙_, List, Bool, ℕ, suc, _+_, _-_, _*_, _<_, _≤_, arith, length, getD, now}
+use Rattle.lists.specs.Kit.{needs}
 use native.Mathlib.Numerals.{add-one}
-use native.Mathlib.Omega.{arith}
-use lib.ListN.{length, getD}
-use borrow.Author.Needs.{needs}
-use denote.Ref.{now}
 use Rattle.algebra.specs.Group.{XorGroup}
 use Rattle.block.specs.declared.Block.{Block}
 use Rattle.share.specs.Record.{recordLen}

@@ -1,11 +1,6 @@
 -- The loop's invariant: the first e bits are written.
-use mathlib.Core.Path.{_≡_, refl, sym, ap, _∙_}
-use mathlib.Core.List.{List, _++_}
-use Prim.Native.Nat.{ℕ, _+_, _-_, _≤_}
-use native.Mathlib.Omega.{arith}
-use lib.ListN.{length, drop, set, length-set}
-use borrow.Author.Needs.{needs}
-use denote.Ref.{now}
+use Rattle.lists.specs.Kit.{_≡_, refl, sym, ap, _∙_, List, _++_, ℕ, _+_, _-_, _≤_, arith, length, drop, set, now, needs}
+use lib.ListN.{length-set}
 use Rattle.lists.specs.Over.{tab, tab-zero, tab-step, tab-end}
 use Rattle.algebra.specs.Group.{num}
 use Rattle.engine.specs.declared.Frame.{Frame}

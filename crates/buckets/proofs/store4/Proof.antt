@@ -1,5 +1,4 @@
-use borrow.Author.Needs.{needs}
-use denote.Ref.{now}
+use Rattle.lists.specs.Kit.{now, needs}
 use Rattle.lists.specs.Over.{sets-all}
 use Rattle.rounds.specs.Buckets.{le4}
 use Rattle.buckets.proofs.store4.Statement.{statement}

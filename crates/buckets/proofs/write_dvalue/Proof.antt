@@ -1,13 +1,6 @@
-use mathlib.Core.Path.{_≡_, refl, sym, ap, ap₂, _∙_, subst}
-use mathlib.Core.Bool.{Bool}
-use mathlib.Core.List.{List}
-use Prim.Native.Nat.{ℕ, _+_, _-_, _*_, _<_, _≤_}
+use Rattle.lists.specs.Kit.{_≡_, refl, sym, ap, ap₂, subst, _∙_, List, Bool, ℕ, _+_, _-_, _*_, _<_, _≤_, arith, length, getD, now, needs}
 use native.Mathlib.Nat.{zero-mul, mul-le-mul-right}
-use native.Mathlib.Omega.{arith}
-use lib.ListN.{length, getD}
 use borrow.Rule.Slice.PartMut.{putMid}
-use borrow.Author.Needs.{needs}
-use denote.Ref.{now}
 use Rattle.lists.specs.Over.{length-take-drop}
 use Rattle.encode.specs.Encode.{dvalueItem}
 use Rattle.encode.specs.Stretch.{Stretch, stretch-count, stretch-self, even-turn, even-end, in-list}

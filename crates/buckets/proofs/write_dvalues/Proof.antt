@@ -1,10 +1,4 @@
-use mathlib.Core.Path.{_≡_, refl, sym, ap, _∙_}
-use mathlib.Core.List.{List}
-use Prim.Native.Nat.{ℕ, _+_, _-_, _*_, _<_, _≤_}
-use native.Mathlib.Omega.{arith}
-use lib.ListN.{length}
-use borrow.Author.Needs.{needs}
-use denote.Ref.{now}
+use Rattle.lists.specs.Kit.{_≡_, refl, sym, ap, _∙_, List, ℕ, _+_, _-_, _*_, _<_, _≤_, arith, length, now, needs}
 use Rattle.lists.specs.Over.{length-take-drop}
 use Rattle.encode.specs.Coded.{length-encode}
 use Rattle.plan.specs.Plan.{msgLen, bucketSize, other}

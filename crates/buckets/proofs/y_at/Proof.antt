@@ -1,9 +1,5 @@
-use mathlib.Core.Path.{_≡_, ap₂, _∙_}
-use Prim.Native.Nat.{ℕ, _+_, _*_, _<_, _≤_}
+use Rattle.lists.specs.Kit.{_≡_, ap₂, _∙_, ℕ, _+_, _*_, _<_, _≤_, arith, now, needs}
 use native.Mathlib.Nat.{mul-le-mul-right}
-use native.Mathlib.Omega.{arith}
-use borrow.Author.Needs.{needs}
-use denote.Ref.{now}
 use Rattle.share.specs.Record.{recordLen}
 use Rattle.plan.specs.Plan.{leaky}
 use Rattle.plan.specs.PlanLaws.{leaky-most}

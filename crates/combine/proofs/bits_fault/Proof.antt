@@ -1,11 +1,5 @@
-use mathlib.Core.Path.{_≡_}
-use mathlib.Core.Bool.{true}
-use Prim.Native.Nat.{_-_, _≤_}
-use native.Mathlib.Omega.{arith}
-use borrow.Author.Needs.{needs}
+use Rattle.lists.specs.Kit.{_≡_, true, _-_, _≤_, arith, length, getD, now, needs}
 use borrow.Author.Tests.{le-leb, lt-leb}
-use denote.Ref.{now}
-use lib.ListN.{length, getD}
 use lib.Dec.{leb}
 use Rattle.lists.specs.All.{allOf, all-zero}
 use Rattle.combine.specs.Stops.{stop-at, stop-none, all-on}

@@ -1,10 +1,4 @@
-use mathlib.Core.Path.{_≡_, sym, ap, ap₂, _∙_}
-use mathlib.Core.List.{List}
-use Prim.Native.Nat.{ℕ, _+_, _-_, _*_, _≤_}
-use native.Mathlib.Omega.{arith}
-use borrow.Author.Needs.{needs}
-use denote.Ref.{now}
-use lib.ListN.{length, getD}
+use Rattle.lists.specs.Kit.{_≡_, sym, ap, ap₂, _∙_, List, ℕ, _+_, _-_, _*_, _≤_, arith, length, getD, now, needs}
 use Rattle.algebra.specs.Group.{odd}
 use Rattle.share.specs.Record.{recordLen}
 use Rattle.engine.specs.Step.{Accepted, Refused, replyOf}

@@ -1,6 +1,4 @@
-use mathlib.Core.Path.{_∙_}
-use borrow.Author.Needs.{needs}
-use denote.Ref.{now}
+use Rattle.lists.specs.Kit.{_∙_, now, needs}
 use Rattle.rounds.specs.Buckets.{Triple}
 use Rattle.combine.specs.Pair.{pairAt}
 use Rattle.combine.specs.PairLaws.{pair-left}

@@ -1,8 +1,4 @@
-use mathlib.Core.Path.{ap, _∙_}
-use mathlib.Core.List.{List}
-use Prim.Native.Nat.{ℕ}
-use borrow.Author.Needs.{needs}
-use denote.Ref.{now}
+use Rattle.lists.specs.Kit.{ap, _∙_, List, ℕ, now, needs}
 use Rattle.algebra.specs.Group.{XorGroup, sel}
 use Rattle.share.specs.Share.{shareAt, shares, recordOf}
 use Rattle.share.specs.ShareLaws.{small-share-op, small-share-at, record-add}

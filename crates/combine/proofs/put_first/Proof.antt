@@ -1,9 +1,4 @@
-use mathlib.Core.Path.{_≡_, ap, _∙_}
-use mathlib.Core.List.{List}
-use Prim.Native.Nat.{ℕ, _+_, _*_}
-use native.Mathlib.Omega.{arith}
-use borrow.Author.Needs.{needs}
-use denote.Ref.{now}
+use Rattle.lists.specs.Kit.{_≡_, ap, _∙_, List, ℕ, _+_, _*_, arith, now, needs}
 use Rattle.share.specs.Record.{recordLen}
 use Rattle.share.specs.Share.{shareAt, recordOf}
 use Rattle.rounds.specs.Combine.{triple}

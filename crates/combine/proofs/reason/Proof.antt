@@ -1,11 +1,5 @@
-use mathlib.Core.Path.{_≡_, sym, ap, _∙_}
-use mathlib.Core.Bool.{Bool}
-use Prim.Native.Nat.{ℕ, _+_, _-_, _*_, _≤_}
+use Rattle.lists.specs.Kit.{_≡_, sym, ap, _∙_, Bool, ℕ, _+_, _-_, _*_, _≤_, arith, length, getD, now, needs}
 use native.Mathlib.Nat.{mul-le-mul-right}
-use native.Mathlib.Omega.{arith}
-use borrow.Author.Needs.{needs}
-use denote.Ref.{now}
-use lib.ListN.{length, getD}
 use lib.Dec.{leb}
 use Rattle.lists.specs.Pick.{pick, tests}
 use Rattle.lists.specs.All.{allOf}

@@ -1,5 +1,4 @@
-use mathlib.Core.Path.{sym, ap, _∙_}
-use denote.Ref.{now}
+use Rattle.lists.specs.Kit.{sym, ap, _∙_, now}
 use Rattle.message.specs.declared.Kind.the-variants.{Options}
 use Rattle.message.specs.Format.{formOf}
 use Rattle.rounds.specs.Mail.{letter}

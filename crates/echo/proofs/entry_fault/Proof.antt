@@ -1,9 +1,4 @@
-use mathlib.Core.Path.{_≡_, sym, ap, ap₂, _∙_}
-use mathlib.Core.Bool.{Bool}
-use Prim.Native.Nat.{ℕ, _+_, _≤_}
-use native.Mathlib.Omega.{arith}
-use lib.ListN.{length, getD, take, drop}
-use denote.Ref.{now}
+use Rattle.lists.specs.Kit.{_≡_, sym, ap, ap₂, _∙_, Bool, ℕ, _+_, _≤_, arith, length, getD, take, drop, now, needs}
 use Rattle.lists.specs.Pick.{pick}
 use Rattle.lists.specs.Rows.{chunk}
 use Rattle.lists.specs.Same.{same?}
@@ -12,7 +7,6 @@ use Rattle.message.specs.declared.Kind.the-variants.{Options}
 use Rattle.message.specs.FormatLaws.{formed}
 use Rattle.rounds.specs.Echo.{entryFault}
 use Rattle.rounds.specs.EchoLaws.{option-at, same-block, entry-absent, entry-there}
-use borrow.Author.Needs.{needs}
 use Rattle.echo.proofs.entry_fault.Statement.{statement}
 use Rattle.echo.proofs.entry_fault.Tie as tie
 

@@ -1,6 +1,5 @@
-use mathlib.Core.Path.{sym, ap, _∙_}
+use Rattle.lists.specs.Kit.{sym, ap, _∙_, needs}
 use Rattle.lists.specs.Pick.{pick}
-use borrow.Author.Needs.{needs}
 use Rattle.echo.proofs.entry_len.Statement.{statement}
 use Rattle.echo.proofs.entry_len.Tie as tie
 

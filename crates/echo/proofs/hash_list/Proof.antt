@@ -1,7 +1,5 @@
-use mathlib.Core.Bool.{true, false}
-use denote.Ref.{now}
+use Rattle.lists.specs.Kit.{true, false, now, needs}
 use Rattle.rounds.specs.EchoLaws.{hash-of}
-use borrow.Author.Needs.{needs}
 use Rattle.echo.proofs.hash_list.Statement.{statement}
 use Rattle.echo.proofs.hash_list.Tie as tie
 

@@ -1,7 +1,4 @@
-use mathlib.Core.Path.{sym, ap, _∙_}
-use native.Mathlib.Omega.{arith}
-use lib.ListN.{length, replicate}
-use denote.Ref.{now}
+use Rattle.lists.specs.Kit.{sym, ap, _∙_, arith, length, replicate, now, needs}
 use Rattle.lists.specs.Pick.{pick}
 use Rattle.algebra.specs.Sum.{neq-true}
 use Rattle.block.specs.Block.{bytesOf}
@@ -11,7 +8,6 @@ use Rattle.rounds.specs.Mail.{letter}
 use Rattle.rounds.specs.MailLaws.{neq-same, letter-fits}
 use Rattle.rounds.specs.Echo.{hashVec}
 use Rattle.rounds.specs.EchoLaws.{zero-bytes}
-use borrow.Author.Needs.{needs}
 use Rattle.echo.proofs.hash_row.Statement.{statement}
 use Rattle.echo.proofs.hash_row.Tie as tie
 

@@ -1,9 +1,4 @@
-use mathlib.Core.Path.{_∙_}
-use mathlib.Core.List.{List}
-use Prim.Native.Nat.{ℕ, _-_, _*_, _≤_}
-use native.Mathlib.Omega.{arith}
-use lib.ListN.{replicate}
-use denote.Ref.{now}
+use Rattle.lists.specs.Kit.{_∙_, List, ℕ, _-_, _*_, _≤_, arith, replicate, now, needs}
 use Rattle.lists.specs.Pick.{pick}
 use Rattle.lists.specs.Over.{Written}
 use Rattle.algebra.specs.Sum.{neq}
@@ -11,7 +6,6 @@ use Rattle.rounds.specs.Mail.{letter}
 use Rattle.rounds.specs.Echo.{hashVec}
 use Rattle.rounds.specs.RowsLaws.{even-zero, even-turn, even-end}
 use Rattle.rounds.specs.EchoLaws.{hash-rows}
-use borrow.Author.Needs.{needs}
 use Rattle.echo.proofs.keep_hashes.Statement.{statement}
 use Rattle.echo.proofs.keep_hashes.Tie as tie
 

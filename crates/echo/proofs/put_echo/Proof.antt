@@ -1,14 +1,9 @@
-use mathlib.Core.Path.{_≡_, refl, sym, ap, _∙_}
-use Prim.Native.Nat.{_+_, _-_, _≤_}
-use native.Mathlib.Omega.{arith}
-use lib.ListN.{length}
-use denote.Ref.{now}
+use Rattle.lists.specs.Kit.{_≡_, refl, sym, ap, _∙_, _+_, _-_, _≤_, arith, length, now, needs}
 use Rattle.lists.specs.Over.{length-take-drop}
 use Rattle.encode.specs.Stretch.{Stretch, stretch-count, stretch-self, stretch-turn, stretch-end}
 use Rattle.plan.specs.Plan.{msgLen}
 use Rattle.rounds.specs.Echo.{echoMsg}
 use Rattle.rounds.specs.EchoLaws.{entry, entryAt, entry-length, entry-zero, entry-next, entry-fits, entries-fill, echo-len}
-use borrow.Author.Needs.{needs}
 use Rattle.echo.proofs.put_echo.Statement.{statement}
 use Rattle.echo.proofs.put_echo.Tie as tie
 

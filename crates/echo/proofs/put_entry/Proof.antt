@@ -1,11 +1,8 @@
-use mathlib.Core.Path.{sym, ap, _∙_}
-use native.Mathlib.Omega.{arith}
-use denote.Ref.{now}
+use Rattle.lists.specs.Kit.{sym, ap, _∙_, arith, now, needs}
 use Rattle.lists.specs.Pick.{pick}
 use Rattle.encode.specs.Encode.{someItem}
 use Rattle.block.specs.Block.{bytesOf}
 use Rattle.rounds.specs.EchoLaws.{put-present, put-absent}
-use borrow.Author.Needs.{needs}
 use Rattle.echo.proofs.put_entry.Statement.{statement}
 use Rattle.echo.proofs.put_entry.Tie as tie
 

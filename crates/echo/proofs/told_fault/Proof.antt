@@ -1,8 +1,5 @@
-use mathlib.Core.Path.{refl, sym, _∙_}
-use mathlib.Core.Bool.{true, false}
-use denote.Ref.{now}
+use Rattle.lists.specs.Kit.{refl, sym, _∙_, true, false, now, needs}
 use Rattle.rounds.specs.EchoLaws.{told-fault}
-use borrow.Author.Needs.{needs}
 use Rattle.echo.proofs.told_fault.Statement.{statement}
 use Rattle.echo.proofs.told_fault.Tie as tie
 

@@ -1,14 +1,9 @@
-use mathlib.Core.Path.{_≡_, sym, ap, _∙_}
-use Prim.Native.Nat.{_+_, _-_, _*_, _≤_}
-use native.Mathlib.Omega.{arith}
-use lib.ListN.{length}
-use denote.Ref.{now}
+use Rattle.lists.specs.Kit.{_≡_, sym, ap, _∙_, _+_, _-_, _*_, _≤_, arith, length, now, needs}
 use Rattle.lists.specs.Over.{in-chunks}
 use Rattle.plan.specs.PlanLaws.{other-below, other-skips}
 use Rattle.rounds.specs.Echo.{echoMsg}
 use Rattle.rounds.specs.RowsLaws.{length-row}
 use Rattle.rounds.specs.OthersLaws.{Sent, sent-zero, sent-turn, sent-end}
-use borrow.Author.Needs.{needs}
 use Rattle.echo.proofs.write_echoes.Statement.{statement}
 use Rattle.echo.proofs.write_echoes.Tie as tie
 

@@ -1,10 +1,6 @@
-use mathlib.Core.Path.{ap, _∙_}
-use Prim.Native.Nat.{_+_, _*_}
+use Rattle.lists.specs.Kit.{ap, _∙_, _+_, _*_, arith, length, now, needs}
 use native.Mathlib.Nat.{add-sub-cancel-left}
-use native.Mathlib.Omega.{arith}
-use lib.ListN.{length, length-set}
-use borrow.Author.Needs.{needs}
-use denote.Ref.{now}
+use lib.ListN.{length-set}
 use Rattle.encode.specs.Bucket.{dvalueIn, length-dvalueIn}
 use Rattle.encode.proofs.put_dvalue.Statement.{statement}
 use Rattle.encode.proofs.put_dvalue.Tie as tie

@@ -1,6 +1,5 @@
-use Prim.Native.Nat.{_+_}
+use Rattle.lists.specs.Kit.{_+_, needs}
 use native.Mathlib.Nat.{add-sub-cancel-left}
-use borrow.Author.Needs.{needs}
 use Rattle.encode.specs.Bucket.{counts}
 use Rattle.encode.proofs.put_dvalue_counts.Statement.{statement}
 use Rattle.encode.proofs.put_dvalue_counts.Tie as tie

@@ -1,12 +1,6 @@
-use mathlib.Core.Path.{_≡_, ap, _∙_}
-use mathlib.Core.List.{List}
-use Prim.Native.Nat.{ℕ, _+_, _-_}
-use native.Mathlib.Omega.{arith}
-use lib.ListN.{length, take, drop}
+use Rattle.lists.specs.Kit.{_≡_, ap, _∙_, List, ℕ, _+_, _-_, arith, length, take, drop, now, needs}
 use lib.Seq.{take-all}
 use borrow.Rule.Slice.PartMut.{putMid}
-use denote.Ref.{now}
-use borrow.Author.Needs.{needs}
 use Rattle.lists.specs.Over.{two-parts}
 use Rattle.lists.specs.Sect.{length-put, length-get}
 use Rattle.block.specs.Block.{le8}

@@ -1,6 +1,4 @@
-use mathlib.Core.List.{[], _∷_}
-use borrow.Author.Needs.{needs}
-use denote.Ref.{now}
+use Rattle.lists.specs.Kit.{[], _∷_, now, needs}
 use Rattle.lists.specs.Over.{sets-all}
 use Rattle.encode.specs.Encode.{noneItem}
 use Rattle.encode.proofs.put_none.Statement.{statement}

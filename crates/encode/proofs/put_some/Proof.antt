@@ -1,8 +1,5 @@
-use mathlib.Core.Path.{refl, sym, ap, _∙_}
-use native.Mathlib.Omega.{arith}
-use lib.ListN.{length, length-set}
-use borrow.Author.Needs.{needs}
-use denote.Ref.{now}
+use Rattle.lists.specs.Kit.{refl, sym, ap, _∙_, arith, length, now, needs}
+use lib.ListN.{length-set}
 use Rattle.block.specs.Block.{bytesOf}
 use Rattle.block.specs.Trip.{length-bytesOf}
 use Rattle.encode.specs.Encode.{someItem}

@@ -1,5 +1,4 @@
-use borrow.Author.Needs.{needs}
-use denote.Ref.{now}
+use Rattle.lists.specs.Kit.{now, needs}
 use Rattle.algebra.specs.Group.{num}
 use Rattle.encode.specs.Encode.{twoBits}
 use Rattle.encode.proofs.Laws.{bytes-two}

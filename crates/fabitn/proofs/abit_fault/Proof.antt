@@ -1,10 +1,4 @@
-use mathlib.Core.Path.{_≡_, sym, ap, ap₂, _∙_}
-use mathlib.Core.Bool.{Bool, true, false}
-use Prim.Native.Nat.{ℕ, _+_, _*_}
-use native.Mathlib.Omega.{arith}
-use lib.ListN.{getD}
-use denote.Ref.{now}
-use borrow.Author.Needs.{needs}
+use Rattle.lists.specs.Kit.{_≡_, sym, ap, ap₂, _∙_, Bool, true, false, ℕ, _+_, _*_, arith, getD, now, needs}
 use Rattle.lists.specs.Pick.{pick}
 use Rattle.algebra.specs.Group.{sel}
 use Rattle.block.specs.Block.{blockAt, eqBlock}

@@ -1,11 +1,5 @@
 -- The loop's invariant: the rows of the first k parties are kept.
-use mathlib.Core.Path.{_≡_, refl, ap, ap₂, _∙_}
-use mathlib.Core.List.{List}
-use Prim.Native.Nat.{ℕ, _+_, _*_, _-_, _<_, _≤_}
-use native.Mathlib.Omega.{arith}
-use lib.ListN.{length}
-use denote.Ref.{now}
-use borrow.Author.Needs.{needs}
+use Rattle.lists.specs.Kit.{_≡_, refl, ap, ap₂, _∙_, List, ℕ, _+_, _-_, _*_, _<_, _≤_, arith, length, now, needs}
 use Rattle.lists.specs.Over.{cat}
 use Rattle.lists.specs.Sect.{get, put, length-get}
 use Rattle.share.specs.Record.{recordLen}

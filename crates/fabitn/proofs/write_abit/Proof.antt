@@ -1,10 +1,4 @@
-use mathlib.Core.Path.{_≡_, refl, sym, ap, ap₂, _∙_}
-use mathlib.Core.List.{List}
-use Prim.Native.Nat.{ℕ, _+_, _*_, _≤_}
-use native.Mathlib.Omega.{arith}
-use lib.ListN.{length, getD}
-use denote.Ref.{now}
-use borrow.Author.Needs.{needs}
+use Rattle.lists.specs.Kit.{_≡_, refl, sym, ap, ap₂, _∙_, List, ℕ, _+_, _*_, _≤_, arith, length, getD, now, needs}
 use Rattle.algebra.specs.Group.{odd}
 use Rattle.block.specs.declared.Block.{Block}
 use Rattle.encode.specs.Encode.{encode, bitBlock}

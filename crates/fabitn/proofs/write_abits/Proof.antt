@@ -1,10 +1,5 @@
 -- The loop's invariant: the messages to the first q parties but i are written.
-use mathlib.Core.Path.{_≡_, refl, sym, ap, _∙_}
-use Prim.Native.Nat.{ℕ, _+_, _*_, _-_, _<_, _≤_}
-use native.Mathlib.Omega.{arith}
-use lib.ListN.{length, getD}
-use denote.Ref.{now}
-use borrow.Author.Needs.{needs}
+use Rattle.lists.specs.Kit.{_≡_, refl, sym, ap, _∙_, ℕ, _+_, _-_, _*_, _<_, _≤_, arith, length, getD, now, needs}
 use Rattle.lists.specs.Over.{Written, tab, length-tab, length-take-drop}
 use Rattle.algebra.specs.Group.{num}
 use Rattle.plan.specs.Plan.{msgLen, listLen, countDue, kindOf}

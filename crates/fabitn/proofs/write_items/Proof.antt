@@ -1,11 +1,5 @@
 -- The loop's invariant: the count and the first j items are written.
-use mathlib.Core.Path.{_≡_, refl, sym, ap, _∙_}
-use mathlib.Core.List.{List}
-use Prim.Native.Nat.{ℕ, _+_, _*_, _-_, _≤_}
-use native.Mathlib.Omega.{arith}
-use lib.ListN.{length, getD}
-use denote.Ref.{now}
-use borrow.Author.Needs.{needs}
+use Rattle.lists.specs.Kit.{_≡_, refl, sym, ap, _∙_, List, ℕ, _+_, _-_, _*_, _≤_, arith, length, getD, now, needs}
 use Rattle.lists.specs.Over.{Written}
 use Rattle.algebra.specs.Group.{odd}
 use Rattle.rbits.specs.Chosen.{pairAt}

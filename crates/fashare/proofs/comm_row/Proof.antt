@@ -1,11 +1,5 @@
-use mathlib.Core.Path.{_≡_, refl, sym, ap, _∙_}
-use mathlib.Core.List.{List}
-use Prim.Native.Nat.{_+_, _-_, _<_, _≤_}
-use native.Mathlib.Omega.{arith}
-use lib.ListN.{length, take, drop, replicate}
+use Rattle.lists.specs.Kit.{_≡_, refl, sym, ap, _∙_, List, _+_, _-_, _<_, _≤_, arith, length, take, drop, replicate, now, needs}
 use lib.Seq.{take-all}
-use denote.Ref.{now}
-use borrow.Author.Needs.{needs}
 use Rattle.lists.specs.Sect.{length-get}
 use Rattle.rounds.specs.LetterLaws.{letter-long}
 use Rattle.rounds.specs.SentLaws.{pick-own, pick-other}

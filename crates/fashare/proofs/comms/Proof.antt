@@ -1,10 +1,5 @@
 -- The loop's invariant: the commitments of the first q strings are written.
-use mathlib.Core.Path.{_≡_, refl}
-use Prim.Native.Nat.{_*_, _-_, _≤_}
-use native.Mathlib.Omega.{arith}
-use lib.ListN.{length}
-use denote.Ref.{now}
-use borrow.Author.Needs.{needs}
+use Rattle.lists.specs.Kit.{_≡_, refl, _-_, _*_, _≤_, arith, length, now, needs}
 use Rattle.lists.specs.Over.{Written}
 use Rattle.engine.specs.Step.{frame}
 use Rattle.rounds.specs.RowsLaws.{even-zero, even-turn, even-end}

@@ -1,9 +1,5 @@
 -- The loop's invariant: the sum has the first k parties' keys.
-use mathlib.Core.Path.{_≡_, sym, ap, _∙_}
-use Prim.Native.Nat.{_+_, _-_, _≤_}
-use native.Mathlib.Omega.{arith}
-use denote.Ref.{now}
-use borrow.Author.Needs.{needs}
+use Rattle.lists.specs.Kit.{_≡_, sym, ap, _∙_, _+_, _-_, _≤_, arith, now, needs}
 use Rattle.algebra.specs.Group.{XorGroup, sel}
 use Rattle.algebra.specs.Sum as Sum
 use Rattle.block.specs.Group.{blocks}

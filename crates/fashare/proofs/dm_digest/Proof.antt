@@ -1,10 +1,6 @@
-use mathlib.Core.Path.{_≡_, sym, ap, _∙_}
-use mathlib.Core.List.{List}
-use Prim.Native.Nat.{_+_, _*_, _≤_}
-use native.Mathlib.Omega.{arith}
-use lib.ListN.{length, take, drop, length-append}
+use Rattle.lists.specs.Kit.{_≡_, sym, ap, _∙_, List, _+_, _*_, _≤_, arith, length, take, drop, needs}
+use lib.ListN.{length-append}
 use lib.Seq.{length-take-le, take-at}
-use borrow.Author.Needs.{needs}
 use Rattle.blake3.specs.Tree as T
 use Rattle.plan.specs.Plan.{dmLen}
 use Rattle.fashare.proofs.dm_digest.Statement.{statement}

@@ -1,9 +1,4 @@
-use mathlib.Core.Path.{_≡_, refl, ap, ap₂, _∙_}
-use native.Mathlib.Omega.{arith}
-use Prim.Native.Nat.{_-_}
-use lib.ListN.{length}
-use denote.Ref.{now}
-use borrow.Author.Needs.{needs}
+use Rattle.lists.specs.Kit.{_≡_, refl, ap, ap₂, _∙_, _-_, arith, length, now, needs}
 use Rattle.block.specs.Block.{bytesOf}
 use Rattle.block.specs.Group.{blocks}
 use Rattle.blake3.specs.Tree as T

@@ -1,9 +1,4 @@
-use mathlib.Core.Path.{_≡_, sym, ap, _∙_}
-use mathlib.Core.List.{List, _++_}
-use Prim.Native.Nat.{ℕ, _+_, _-_, _*_}
-use lib.ListN.{length}
-use denote.Ref.{now}
-use borrow.Author.Needs.{needs}
+use Rattle.lists.specs.Kit.{_≡_, sym, ap, _∙_, List, _++_, ℕ, _+_, _-_, _*_, length, now, needs}
 use Rattle.lists.specs.Over.{length-cat}
 use Rattle.block.specs.Block.{le8}
 use Rattle.encode.specs.Encode.{encode}

@@ -1,11 +1,6 @@
 -- The loop's invariant: the bit and the first p MACs are written.
-use mathlib.Core.Path.{_≡_, refl, sym, ap, _∙_}
-use mathlib.Core.List.{[], _∷_}
-use Prim.Native.Nat.{ℕ, _+_, _*_, _-_, _<_, _≤_}
-use native.Mathlib.Omega.{arith}
-use lib.ListN.{length, length-set}
-use denote.Ref.{now}
-use borrow.Author.Needs.{needs}
+use Rattle.lists.specs.Kit.{_≡_, refl, sym, ap, _∙_, [], _∷_, ℕ, _+_, _-_, _*_, _<_, _≤_, arith, length, now, needs}
+use lib.ListN.{length-set}
 use Rattle.lists.specs.Over.{Written, written-turn, written-end}
 use Rattle.algebra.specs.Group.{num}
 use Rattle.block.specs.Block.{bytesOf}

@@ -1,8 +1,5 @@
 -- The loop's invariant: the first q strings have no fault.
-use mathlib.Core.Path.{_≡_}
-use Prim.Native.Nat.{_-_, _≤_}
-use native.Mathlib.Omega.{arith}
-use borrow.Author.Needs.{needs}
+use Rattle.lists.specs.Kit.{_≡_, _-_, _≤_, arith, needs}
 use Rattle.engine.specs.Step.{frame, byParty}
 use Rattle.rounds.specs.Area.{firstOf}
 use Rattle.rounds.specs.Mail.{letter}

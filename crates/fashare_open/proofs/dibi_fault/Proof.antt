@@ -1,9 +1,4 @@
-use mathlib.Core.Path.{_≡_, refl, sym, ap, ap₂, _∙_}
-use mathlib.Core.Bool.{Bool, true, false, not, _||_}
-use Prim.Native.Nat.{ℕ, _+_, _*_}
-use lib.ListN.{take, drop}
-use denote.Ref.{now}
-use borrow.Author.Needs.{needs}
+use Rattle.lists.specs.Kit.{_≡_, refl, sym, ap, ap₂, _∙_, Bool, true, false, not, _||_, ℕ, _+_, _*_, take, drop, now, needs}
 use Rattle.lists.specs.Pick.{pick}
 use Rattle.lists.specs.All.{true-false}
 use Rattle.lists.specs.Same.{same?}

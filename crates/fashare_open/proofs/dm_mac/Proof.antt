@@ -1,9 +1,4 @@
-use mathlib.Core.Path.{sym, ap, ap₂, _∙_}
-use Prim.Native.Nat.{_+_, _-_, _≤_}
-use native.Mathlib.Omega.{arith}
-use lib.ListN.{length}
-use denote.Ref.{now}
-use borrow.Author.Needs.{needs}
+use Rattle.lists.specs.Kit.{sym, ap, ap₂, _∙_, _+_, _-_, _≤_, arith, length, now, needs}
 use Rattle.algebra.specs.Group.{sel, sel-nil}
 use Rattle.algebra.specs.Sum.{neq}
 use Rattle.block.specs.Block.{blockAt}

@@ -1,6 +1,4 @@
-use mathlib.Core.Path.{sym, ap}
-use Prim.Native.Nat.{_+_, _-_, _*_}
-use borrow.Author.Needs.{needs}
+use Rattle.lists.specs.Kit.{sym, ap, _+_, _-_, _*_, needs}
 use borrow.Author.Tests.{lt-ltb, le-ltb}
 use Rattle.lists.specs.Pick.{pick}
 use Rattle.rounds.specs.Fashare.{dmMac}

@@ -1,7 +1,4 @@
-use mathlib.Core.Path.{ap}
-use Prim.Native.Nat.{_+_, _*_}
-use native.Mathlib.Omega.{arith}
-use borrow.Author.Needs.{needs}
+use Rattle.lists.specs.Kit.{ap, _+_, _*_, arith, needs}
 use Rattle.rounds.specs.DibiLaws.{dm-most}
 use Rattle.fashare_open.proofs.dm_row.Statement.{statement}
 use Rattle.fashare_open.proofs.dm_row.Tie as tie

@@ -1,10 +1,5 @@
 -- The loop's invariant: the MACs for k of the first j parties are added.
-use mathlib.Core.Path.{_≡_, ap, ap₂, _∙_}
-use Prim.Native.Nat.{_+_, _-_, _≤_}
-use native.Mathlib.Omega.{arith}
-use lib.ListN.{length}
-use denote.Ref.{now}
-use borrow.Author.Needs.{needs}
+use Rattle.lists.specs.Kit.{_≡_, ap, ap₂, _∙_, _+_, _-_, _≤_, arith, length, now, needs}
 use Rattle.algebra.specs.Sum.{others}
 use Rattle.block.specs.Group.{blocks}
 use Rattle.share.specs.Record.{recordLen, macAt}

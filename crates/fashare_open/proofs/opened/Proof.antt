@@ -1,6 +1,4 @@
-use mathlib.Core.Path.{ap, ap₂, _∙_}
-use native.Mathlib.Omega.{arith}
-use borrow.Author.Needs.{needs}
+use Rattle.lists.specs.Kit.{ap, ap₂, _∙_, arith, needs}
 use Rattle.algebra.specs.Group.{sel}
 use Rattle.block.specs.Group.{blocks}
 use Rattle.fashare_open.proofs.opened.Statement.{statement}

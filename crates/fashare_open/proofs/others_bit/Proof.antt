@@ -1,10 +1,5 @@
 -- The loop's invariant: the bits of the first k parties but i are added.
-use mathlib.Core.Path.{_≡_, ap, _∙_}
-use Prim.Native.Nat.{_+_, _-_, _*_, _≤_}
-use native.Mathlib.Omega.{arith}
-use lib.ListN.{getD}
-use denote.Ref.{now}
-use borrow.Author.Needs.{needs}
+use Rattle.lists.specs.Kit.{_≡_, ap, _∙_, _+_, _-_, _*_, _≤_, arith, getD, now, needs}
 use Rattle.algebra.specs.Group.{bits, sel, odd}
 use Rattle.algebra.specs.Sum.{neq, others}
 use Rattle.plan.specs.Plan.{dmLen}

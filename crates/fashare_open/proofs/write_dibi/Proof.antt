@@ -1,9 +1,5 @@
 -- The loop's invariant: the messages to the first t parties but i are written.
-use mathlib.Core.Path.{refl}
-use Prim.Native.Nat.{_+_, _*_, _-_, _<_, _≤_}
-use native.Mathlib.Omega.{arith}
-use denote.Ref.{now}
-use borrow.Author.Needs.{needs}
+use Rattle.lists.specs.Kit.{refl, _+_, _-_, _*_, _<_, _≤_, arith, now, needs}
 use Rattle.lists.specs.Over.{Written, length-take-drop}
 use Rattle.plan.specs.Plan.{msgLen, listLen, countDue, kindOf}
 use Rattle.engine.specs.Step.{frame}

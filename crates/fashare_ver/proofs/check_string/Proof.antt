@@ -1,8 +1,5 @@
 -- The loop's invariant: the first k parties have no fault.
-use mathlib.Core.Path.{_≡_, sym, _∙_}
-use Prim.Native.Nat.{ℕ, _-_, _≤_}
-use native.Mathlib.Omega.{arith}
-use borrow.Author.Needs.{needs}
+use Rattle.lists.specs.Kit.{_≡_, sym, _∙_, ℕ, _-_, _≤_, arith, needs}
 use Rattle.engine.specs.Step.{frame, scan}
 use Rattle.engine.specs.StepLaws.{scan-turn}
 use Rattle.rounds.specs.Mail.{letter}

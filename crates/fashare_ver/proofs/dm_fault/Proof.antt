@@ -1,15 +1,10 @@
-use mathlib.Core.Path.{_≡_, sym, ap, _∙_}
-use Prim.Native.Nat.{ℕ, _+_, _≤_}
-use native.Mathlib.Omega.{arith}
-use lib.ListN.{length}
-use denote.Ref.{now}
+use Rattle.lists.specs.Kit.{_≡_, sym, ap, _∙_, ℕ, _+_, _≤_, arith, length, now, needs}
 use Rattle.block.specs.Block.{wordAt}
 use Rattle.message.specs.declared.Kind.the-variants.{Dms}
 use Rattle.message.specs.FormatLaws.{formed}
 use Rattle.plan.specs.Plan.{dmLen}
 use Rattle.engine.specs.Step.{frame}
 use Rattle.rounds.specs.DmLaws.{dm-in, dm-length, dm-bit-over, dm-clean}
-use borrow.Author.Needs.{needs}
 use Rattle.fashare_ver.proofs.dm_fault.Statement.{statement}
 use Rattle.fashare_ver.proofs.dm_fault.Tie as tie
 

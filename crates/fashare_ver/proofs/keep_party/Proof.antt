@@ -1,11 +1,4 @@
-use mathlib.Core.Path.{_≡_, sym, ap, _∙_}
-use mathlib.Core.Bool.{Bool}
-use mathlib.Core.List.{List}
-use Prim.Native.Nat.{ℕ, _*_}
-use native.Mathlib.Omega.{arith}
-use lib.ListN.{length, replicate}
-use denote.Ref.{now}
-use borrow.Author.Needs.{needs}
+use Rattle.lists.specs.Kit.{_≡_, sym, ap, _∙_, List, Bool, ℕ, _*_, arith, length, replicate, now, needs}
 use Rattle.lists.specs.Pick.{pick}
 use Rattle.algebra.specs.Sum.{neq-true}
 use Rattle.plan.specs.Plan.{dmLen}

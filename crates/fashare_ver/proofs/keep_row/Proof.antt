@@ -1,11 +1,5 @@
 -- The loop's invariant: the first q dms are written.
-use mathlib.Core.Path.{_≡_, sym, ap, _∙_}
-use mathlib.Core.List.{List}
-use Prim.Native.Nat.{ℕ, _+_, _*_, _-_, _≤_}
-use native.Mathlib.Omega.{arith}
-use lib.ListN.{length, take, drop}
-use denote.Ref.{now}
-use borrow.Author.Needs.{needs}
+use Rattle.lists.specs.Kit.{_≡_, sym, ap, _∙_, List, ℕ, _+_, _-_, _*_, _≤_, arith, length, take, drop, now, needs}
 use Rattle.lists.specs.Over.{Written, in-chunks, length-take-drop}
 use Rattle.plan.specs.Plan.{dmLen}
 use Rattle.rounds.specs.Fashare.{dmAt}

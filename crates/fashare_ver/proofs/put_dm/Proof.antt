@@ -1,8 +1,4 @@
-use mathlib.Core.Path.{refl}
-use Prim.Native.Nat.{_+_}
-use native.Mathlib.Omega.{arith}
-use denote.Ref.{now}
-use borrow.Author.Needs.{needs}
+use Rattle.lists.specs.Kit.{refl, _+_, arith, now, needs}
 use Rattle.plan.specs.Plan.{dmLen}
 use Rattle.engine.specs.Step.{frame}
 use Rattle.rounds.specs.DmLaws.{dm-put}

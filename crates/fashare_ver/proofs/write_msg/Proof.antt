@@ -1,12 +1,6 @@
 -- The loop's invariant: the count and the first q dms are written.
-use mathlib.Core.Path.{_≡_, refl, sym, ap, _∙_}
-use mathlib.Core.List.{List}
-use Prim.Native.Nat.{ℕ, _+_, _*_, _-_, _<_, _≤_}
+use Rattle.lists.specs.Kit.{_≡_, refl, sym, ap, _∙_, List, ℕ, _+_, _-_, _*_, _<_, _≤_, arith, length, now, needs}
 use native.Mathlib.Nat.{zero-mul}
-use native.Mathlib.Omega.{arith}
-use lib.ListN.{length}
-use denote.Ref.{now}
-use borrow.Author.Needs.{needs}
 use Rattle.lists.specs.Over.{length-take-drop}
 use Rattle.encode.specs.Encode.{dmItem}
 use Rattle.encode.specs.Stretch.{Stretch, stretch-count, stretch-self, even-turn, even-end, in-list}

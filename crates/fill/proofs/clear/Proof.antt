@@ -1,10 +1,5 @@
-use mathlib.Core.Path.{_≡_, refl, ap, _∙_}
-use mathlib.Core.List.{_++_}
-use Prim.Native.Nat.{_-_, _≤_}
-use native.Mathlib.Omega.{arith}
-use lib.ListN.{length, drop, replicate, length-set}
-use denote.Ref.{now}
-use borrow.Author.Needs.{needs}
+use Rattle.lists.specs.Kit.{_≡_, refl, ap, _∙_, _++_, _-_, _≤_, arith, length, drop, replicate, now, needs}
+use lib.ListN.{length-set}
 use borrow.Author.Fill.{fill-none, fill-more}
 use Rattle.lists.specs.Over.{over-full}
 use Rattle.fill.proofs.clear.Statement.{statement}

@@ -1,10 +1,5 @@
-use mathlib.Core.Path.{_≡_, refl, _∙_}
-use mathlib.Core.List.{_++_}
-use Prim.Native.Nat.{_-_, _+_, _≤_}
-use native.Mathlib.Omega.{arith}
-use lib.ListN.{length, take, drop, length-take, length-drop}
-use denote.Ref.{now}
-use borrow.Author.Needs.{needs}
+use Rattle.lists.specs.Kit.{_≡_, refl, _∙_, _++_, _+_, _-_, _≤_, arith, length, take, drop, now, needs}
+use lib.ListN.{length-take, length-drop}
 use Rattle.lists.specs.Over.{copy-part, over-full}
 use Rattle.fill.specs.Copied.{copied}
 use Rattle.fill.proofs.copy.Statement.{statement}

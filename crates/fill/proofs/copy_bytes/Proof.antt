@@ -1,10 +1,5 @@
-use mathlib.Core.Path.{_≡_, refl, ap, _∙_}
-use mathlib.Core.List.{_++_}
-use Prim.Native.Nat.{_-_, _≤_}
-use native.Mathlib.Omega.{arith}
-use lib.ListN.{length, take, drop, length-set, getD}
-use denote.Ref.{now}
-use borrow.Author.Needs.{needs}
+use Rattle.lists.specs.Kit.{_≡_, refl, ap, _∙_, _++_, _-_, _≤_, arith, length, getD, take, drop, now, needs}
+use lib.ListN.{length-set}
 use Rattle.lists.specs.Over.{copy-turn, over-full}
 use Rattle.fill.proofs.copy_bytes.Statement.{statement}
 use Rattle.fill.proofs.copy_bytes.Tie as tie

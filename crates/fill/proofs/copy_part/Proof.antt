@@ -1,8 +1,4 @@
-use mathlib.Core.Path.{ap, _∙_}
-use native.Mathlib.Omega.{arith}
-use lib.ListN.{length, take, replicate}
-use denote.Ref.{now}
-use borrow.Author.Needs.{needs}
+use Rattle.lists.specs.Kit.{ap, _∙_, arith, length, take, replicate, now, needs}
 use Rattle.fill.specs.Copied.{copied}
 use Rattle.fill.proofs.copy_part.Statement.{statement}
 use Rattle.fill.proofs.copy_part.Tie as tie

@@ -1,8 +1,4 @@
-use mathlib.Core.Path.{_≡_, ap, ap₂, _∙_}
-use mathlib.Core.Bool.{Bool}
-use Prim.Native.Nat.{_*_}
-use native.Mathlib.Omega.{arith}
-use denote.Ref.{now}
+use Rattle.lists.specs.Kit.{_≡_, ap, ap₂, _∙_, Bool, _*_, arith, now, needs}
 use Rattle.algebra.specs.Group.{XorGroup}
 use Rattle.algebra.specs.Sum.{others}
 use Rattle.block.specs.Group.{blocks}
@@ -13,7 +9,6 @@ use Rattle.rounds.specs.Mail.{letter}
 use Rattle.haand.specs.GivenLaws.{position-most, x-in, r-in}
 use Rattle.flaand.specs.HLaws.{zTerm, maskedAt, h-parts}
 use Rattle.flaand.specs.KeptLaws.{asked}
-use borrow.Author.Needs.{needs}
 use Rattle.flaand.proofs.h.Statement.{statement}
 use Rattle.flaand.proofs.h.Tie as tie
 

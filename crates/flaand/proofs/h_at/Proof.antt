@@ -1,9 +1,4 @@
-use mathlib.Core.Path.{_≡_, refl, sym, ap, ap₂, _∙_}
-use mathlib.Core.List.{List}
-use Prim.Native.Nat.{ℕ, _+_, _-_, _*_, _≤_}
-use native.Mathlib.Omega.{arith}
-use lib.ListN.{length, take, drop}
-use denote.Ref.{now}
+use Rattle.lists.specs.Kit.{_≡_, refl, sym, ap, ap₂, _∙_, List, ℕ, _+_, _-_, _*_, _≤_, arith, length, take, drop, now, needs}
 use Rattle.plan.specs.Plan.{leaky}
 use Rattle.engine.specs.declared.Frame.{Frame}
 use Rattle.engine.specs.Step.{frame}
@@ -14,7 +9,6 @@ use Rattle.rounds.specs.Loops.{part-sec}
 use Rattle.rounds.specs.Flaand as F
 use Rattle.haand.specs.GivenLaws.{bits-len-is, bits-inside, size-bits, size-leaky, size-zs}
 use Rattle.flaand.specs.AreaLaws.{rows-inside, zs-inside, kept-secs}
-use borrow.Author.Needs.{needs}
 use Rattle.flaand.proofs.h_at.Statement.{statement}
 use Rattle.flaand.proofs.h_at.Tie as tie
 

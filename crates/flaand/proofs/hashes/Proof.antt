@@ -1,8 +1,4 @@
-use mathlib.Core.Path.{ap, ap₂, _∙_}
-use Prim.Native.Nat.{_+_, _*_, _≤_}
-use native.Mathlib.Omega.{arith}
-use lib.ListN.{length}
-use denote.Ref.{now}
+use Rattle.lists.specs.Kit.{ap, ap₂, _∙_, _+_, _*_, _≤_, arith, length, now, needs}
 use Rattle.algebra.specs.Group.{XorGroup}
 use Rattle.block.specs.Block.{blockAt}
 use Rattle.block.specs.Group.{blocks}
@@ -10,7 +6,6 @@ use Rattle.rounds.specs.Area.{leakyLen}
 use Rattle.rounds.specs.Haand as R
 use Rattle.flaand.specs.HLaws.{hashesAt}
 use Rattle.flaand.specs.KeptLaws.{row-in, z-in}
-use borrow.Author.Needs.{needs}
 use Rattle.flaand.proofs.hashes.Statement.{statement}
 use Rattle.flaand.proofs.hashes.Tie as tie
 

@@ -1,16 +1,10 @@
-use mathlib.Core.Path.{sym, ap, _∙_}
-use mathlib.Core.List.{List}
-use Prim.Native.Nat.{ℕ, _+_, _*_}
-use native.Mathlib.Omega.{arith}
-use lib.ListN.{length, getD}
-use denote.Ref.{now}
+use Rattle.lists.specs.Kit.{sym, ap, _∙_, List, ℕ, _+_, _*_, arith, length, getD, now, needs}
 use Rattle.lists.specs.Over.{tab}
 use Rattle.algebra.specs.Group.{odd, num}
 use Rattle.rounds.specs.Mail.{letter}
 use Rattle.rounds.specs.MailLaws.{letter-fits, letter-long}
 use Rattle.rounds.specs.Flaand.{eTold}
 use Rattle.rounds.specs.Loops.{row-own, row-other}
-use borrow.Author.Needs.{needs}
 use Rattle.flaand.proofs.keep_e_row.Statement.{statement}
 use Rattle.flaand.proofs.keep_e_row.Tie as tie
 

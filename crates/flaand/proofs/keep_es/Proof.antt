@@ -1,10 +1,5 @@
 -- The loop's invariant: the rows of the first k parties are written.
-use mathlib.Core.Path.{_≡_, sym, ap, _∙_}
-use mathlib.Core.List.{List}
-use Prim.Native.Nat.{ℕ, _+_, _-_, _*_, _≤_}
-use native.Mathlib.Omega.{arith}
-use lib.ListN.{length}
-use denote.Ref.{now}
+use Rattle.lists.specs.Kit.{_≡_, sym, ap, _∙_, List, ℕ, _+_, _-_, _*_, _≤_, arith, length, now, needs}
 use Rattle.lists.specs.Over.{cat, tab, Written, in-chunks}
 use Rattle.algebra.specs.Group.{num}
 use Rattle.plan.specs.Plan.{leaky}
@@ -13,7 +8,6 @@ use Rattle.rounds.specs.Mail.{letter, Arrived}
 use Rattle.rounds.specs.Loops.{rowOf, rows-of}
 use Rattle.rounds.specs.RowsLaws.{length-row, even-zero, even-turn, even-end}
 use Rattle.rounds.specs.Flaand.{eTold, eRows}
-use borrow.Author.Needs.{needs}
 use Rattle.flaand.proofs.keep_es.Statement.{statement}
 use Rattle.flaand.proofs.keep_es.Tie as tie
 

@@ -1,11 +1,5 @@
 -- The loop's invariant: h of the first t positions is kept. The other sections are as they were.
-use mathlib.Core.Path.{_≡_, refl, sym, ap, ap₂, _∙_}
-use mathlib.Core.Logic.{_≢_}
-use mathlib.Core.List.{List}
-use Prim.Native.Nat.{ℕ, _+_, _-_, _*_, _<_, _≤_}
-use native.Mathlib.Omega.{arith}
-use lib.ListN.{length}
-use denote.Ref.{now}
+use Rattle.lists.specs.Kit.{_≡_, refl, sym, ap, ap₂, _∙_, _≢_, List, ℕ, _+_, _-_, _*_, _<_, _≤_, arith, length, now, needs}
 use Rattle.lists.specs.Over.{in-chunks, next-chunk}
 use Rattle.block.specs.declared.Block.{Block}
 use Rattle.block.specs.Block.{bytesOf}
@@ -21,7 +15,6 @@ use Rattle.rounds.specs.Flaand as F
 use Rattle.haand.specs.Given.{Work}
 use Rattle.haand.specs.GivenLaws.{area, row-inside}
 use Rattle.flaand.specs.AreaLaws.{size-hs}
-use borrow.Author.Needs.{needs}
 use Rattle.flaand.proofs.keep_hs.Statement.{statement}
 use Rattle.flaand.proofs.keep_hs.Tie as tie
 

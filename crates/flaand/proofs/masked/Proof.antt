@@ -1,9 +1,4 @@
-use mathlib.Core.Path.{ap, ap₂, _∙_}
-use mathlib.Core.Bool.{Bool}
-use Prim.Native.Nat.{_+_, _*_, _≤_}
-use native.Mathlib.Omega.{arith}
-use lib.ListN.{length}
-use denote.Ref.{now}
+use Rattle.lists.specs.Kit.{ap, ap₂, _∙_, Bool, _+_, _*_, _≤_, arith, length, now, needs}
 use Rattle.lists.specs.Over.{in-chunks}
 use Rattle.algebra.specs.Group.{XorGroup, sel}
 use Rattle.block.specs.Block.{blockAt}
@@ -12,7 +7,6 @@ use Rattle.plan.specs.Plan.{leaky}
 use Rattle.rounds.specs.Area.{leakyLen}
 use Rattle.rounds.specs.Haand as R
 use Rattle.flaand.specs.HLaws.{maskedAt}
-use borrow.Author.Needs.{needs}
 use Rattle.flaand.proofs.masked.Statement.{statement}
 use Rattle.flaand.proofs.masked.Tie as tie
 

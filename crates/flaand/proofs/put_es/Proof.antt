@@ -1,13 +1,8 @@
 -- The loop's invariant: the first t bits are written.
-use mathlib.Core.Path.{_≡_, refl, ap, _∙_}
-use mathlib.Core.List.{List, _++_}
-use Prim.Native.Nat.{ℕ, _+_, _-_, _*_, _≤_}
-use native.Mathlib.Omega.{arith}
-use lib.ListN.{length, getD, drop, set, length-set}
-use denote.Ref.{now}
+use Rattle.lists.specs.Kit.{_≡_, refl, ap, _∙_, List, _++_, ℕ, _+_, _-_, _*_, _≤_, arith, length, getD, drop, set, now, needs}
+use lib.ListN.{length-set}
 use Rattle.lists.specs.Over.{tab, tab-zero, tab-step, tab-end, in-chunks}
 use Rattle.algebra.specs.Group.{odd, num}
-use borrow.Author.Needs.{needs}
 use Rattle.flaand.proofs.put_es.Statement.{statement}
 use Rattle.flaand.proofs.put_es.Tie as tie
 

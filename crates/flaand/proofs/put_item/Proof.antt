@@ -1,13 +1,8 @@
-use mathlib.Core.Path.{ap, ap₂, _∙_}
-use Prim.Native.Nat.{_+_, _*_, _≤_}
-use native.Mathlib.Omega.{arith}
-use lib.ListN.{length}
-use denote.Ref.{now}
+use Rattle.lists.specs.Kit.{ap, ap₂, _∙_, _+_, _*_, _≤_, arith, length, now, needs}
 use Rattle.block.specs.Block.{blockAt}
 use Rattle.encode.specs.Encode.{bitBlock}
 use Rattle.rounds.specs.Haand as R
 use Rattle.flaand.specs.KeptLaws.{entry-in}
-use borrow.Author.Needs.{needs}
 use Rattle.flaand.proofs.put_item.Statement.{statement}
 use Rattle.flaand.proofs.put_item.Tie as tie
 

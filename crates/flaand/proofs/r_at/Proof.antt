@@ -1,10 +1,7 @@
-use mathlib.Core.Path.{ap₂}
-use Prim.Native.Nat.{_+_, _*_}
-use native.Mathlib.Omega.{arith}
+use Rattle.lists.specs.Kit.{ap₂, _+_, _*_, arith, needs}
 use Rattle.plan.specs.Plan.{leaky}
 use Rattle.plan.specs.PlanLaws.{leaky-most}
 use Rattle.haand.specs.GivenLaws.{at-most}
-use borrow.Author.Needs.{needs}
 use Rattle.flaand.proofs.r_at.Statement.{statement}
 use Rattle.flaand.proofs.r_at.Tie as tie
 

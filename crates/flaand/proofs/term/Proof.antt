@@ -1,7 +1,6 @@
-use mathlib.Core.Path.{ap₂, _∙_}
+use Rattle.lists.specs.Kit.{ap₂, _∙_, needs}
 use Rattle.algebra.specs.Group.{XorGroup}
 use Rattle.block.specs.Group.{blocks}
-use borrow.Author.Needs.{needs}
 use Rattle.flaand.proofs.term.Statement.{statement}
 use Rattle.flaand.proofs.term.Tie as tie
 

@@ -1,10 +1,5 @@
 -- The loop's invariant: the messages to the first q parties but i are written.
-use mathlib.Core.Path.{_≡_, sym, ap, _∙_}
-use mathlib.Core.List.{List}
-use Prim.Native.Nat.{ℕ, _+_, _-_, _*_, _≤_}
-use native.Mathlib.Omega.{arith}
-use lib.ListN.{length}
-use denote.Ref.{now}
+use Rattle.lists.specs.Kit.{_≡_, sym, ap, _∙_, List, ℕ, _+_, _-_, _*_, _≤_, arith, length, now, needs}
 use Rattle.lists.specs.Over.{in-chunks}
 use Rattle.plan.specs.Plan.{leaky}
 use Rattle.plan.specs.PlanLaws.{other-below}
@@ -12,7 +7,6 @@ use Rattle.engine.specs.Step.{frame}
 use Rattle.rounds.specs.Loops.{lent-part}
 use Rattle.rounds.specs.OthersLaws.{Sent, sent-zero, sent-turn, sent-end}
 use Rattle.rounds.specs.Flaand.{flaandMsg}
-use borrow.Author.Needs.{needs}
 use Rattle.flaand.proofs.write_flaand.Statement.{statement}
 use Rattle.flaand.proofs.write_flaand.Tie as tie
 

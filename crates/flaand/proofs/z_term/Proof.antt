@@ -1,10 +1,4 @@
-use mathlib.Core.Path.{sym, ap, _∙_}
-use mathlib.Core.Bool.{Bool}
-use mathlib.Core.List.{List}
-use Prim.Native.Nat.{ℕ, _+_, _*_, _≤_}
-use native.Mathlib.Omega.{arith}
-use lib.ListN.{length, getD}
-use denote.Ref.{now}
+use Rattle.lists.specs.Kit.{sym, ap, _∙_, List, Bool, ℕ, _+_, _*_, _≤_, arith, length, getD, now, needs}
 use Rattle.lists.specs.Over.{in-chunks}
 use Rattle.algebra.specs.Group.{XorGroup, sel, odd}
 use Rattle.algebra.specs.Sum.{neq-true}
@@ -15,7 +9,6 @@ use Rattle.rounds.specs.Mail.{letter}
 use Rattle.rounds.specs.MailLaws.{neq-same, letter-fits, letter-long}
 use Rattle.rounds.specs.Flaand.{eTold}
 use Rattle.flaand.specs.HLaws.{zTerm}
-use borrow.Author.Needs.{needs}
 use Rattle.flaand.proofs.z_term.Statement.{statement}
 use Rattle.flaand.proofs.z_term.Tie as tie
 

@@ -1,12 +1,8 @@
 -- The loop's invariant: the commitments to the first t h stand in the own row, and nothing else is changed.
-use mathlib.Core.Path.{_≡_, refl, ap, _∙_}
-use mathlib.Core.List.{List, _++_}
-use Prim.Native.Nat.{ℕ, _+_, _-_, _*_, _≤_}
-use native.Mathlib.Omega.{arith}
-use lib.ListN.{length, take, drop, length-drop}
+use Rattle.lists.specs.Kit.{_≡_, refl, ap, _∙_, List, _++_, ℕ, _+_, _-_, _*_, _≤_, arith, length, take, drop, now, needs}
+use lib.ListN.{length-drop}
 use lib.Seq.{length-take-le}
 use borrow.Rule.Slice.PartMut.{postOf}
-use denote.Ref.{now}
 use Rattle.lists.specs.Over.{cat, length-cat, in-chunks}
 use Rattle.lists.specs.Sect.{put}
 use Rattle.block.specs.Block.{blockAt, bytesOf}
@@ -23,7 +19,6 @@ use Rattle.rounds.specs.Flaand as F
 use Rattle.haand.specs.GivenLaws.{area}
 use Rattle.flaand_comm.specs.AreaLaws.{size-h-comms, parts, own-inside, behind, cut-whole, h-window}
 use Rattle.flaand_comm.specs.AreaLaws.{copied, copied-length, copied-same}
-use borrow.Author.Needs.{needs}
 use Rattle.flaand_comm.proofs.hold_h_comms.Statement.{statement}
 use Rattle.flaand_comm.proofs.hold_h_comms.Tie as tie
 

@@ -1,10 +1,5 @@
 -- The loop's invariant: the rows of the first k parties are written.
-use mathlib.Core.Path.{_≡_, sym, ap, _∙_}
-use mathlib.Core.List.{List}
-use Prim.Native.Nat.{ℕ, _+_, _-_, _*_, _≤_}
-use native.Mathlib.Omega.{arith}
-use lib.ListN.{length, take, drop}
-use denote.Ref.{now}
+use Rattle.lists.specs.Kit.{_≡_, sym, ap, _∙_, List, ℕ, _+_, _-_, _*_, _≤_, arith, length, take, drop, now, needs}
 use Rattle.lists.specs.Over.{cat, Written, in-chunks}
 use Rattle.plan.specs.Plan.{leaky}
 use Rattle.plan.specs.PlanLaws.{leaky-most}
@@ -13,7 +8,6 @@ use Rattle.rounds.specs.Mail.{letter, Arrived}
 use Rattle.rounds.specs.Loops.{rowOf, rows-of}
 use Rattle.rounds.specs.RowsLaws.{length-row, even-zero, even-turn, even-end}
 use Rattle.rounds.specs.Flaand.{commRows}
-use borrow.Author.Needs.{needs}
 use Rattle.flaand_comm.proofs.keep_h_comms.Statement.{statement}
 use Rattle.flaand_comm.proofs.keep_h_comms.Tie as tie
 

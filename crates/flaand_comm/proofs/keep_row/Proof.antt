@@ -1,13 +1,9 @@
-use mathlib.Core.Path.{sym, ap, _∙_}
-use Prim.Native.Nat.{_+_, _≤_}
-use native.Mathlib.Omega.{arith}
-use lib.ListN.{length, take, drop, length-drop}
-use denote.Ref.{now}
+use Rattle.lists.specs.Kit.{sym, ap, _∙_, _+_, _≤_, arith, length, take, drop, now, needs}
+use lib.ListN.{length-drop}
 use Rattle.lists.specs.Sect.{get-rest}
 use Rattle.rounds.specs.Mail.{letter}
 use Rattle.rounds.specs.MailLaws.{letter-fits, letter-long}
 use Rattle.rounds.specs.Loops.{row-own, row-other}
-use borrow.Author.Needs.{needs}
 use Rattle.flaand_comm.proofs.keep_row.Statement.{statement}
 use Rattle.flaand_comm.proofs.keep_row.Tie as tie
 

@@ -1,8 +1,4 @@
-use mathlib.Core.Path.{sym, ap, _∙_}
-use mathlib.Core.List.{_++_}
-use Prim.Native.Nat.{_+_, _-_, _*_}
-use denote.Ref.{now}
-use borrow.Author.Needs.{needs}
+use Rattle.lists.specs.Kit.{sym, ap, _∙_, _++_, _+_, _-_, _*_, now, needs}
 use Rattle.block.specs.Block.{le8}
 use Rattle.engine.specs.Area.{toOthers}
 use Rattle.flaand_comm.proofs.write_h_comms.Statement.{statement}

@@ -1,14 +1,10 @@
-use mathlib.Core.Path.{_≡_, sym, ap, _∙_}
-use mathlib.Core.Bool.{Bool}
-use Prim.Native.Nat.{ℕ}
-use denote.Ref.{now}
+use Rattle.lists.specs.Kit.{_≡_, sym, ap, _∙_, Bool, ℕ, now, needs}
 use Rattle.lists.specs.Pick.{pick}
 use Rattle.engine.specs.Step.{frame}
 use Rattle.rounds.specs.Mail.{letter}
 use Rattle.rounds.specs.FaultLaws.{Finds}
 use Rattle.rounds.specs.Flaand.{hFaults}
 use Rattle.flaand_hash.specs.Laws.{faults-open, faults-sum}
-use borrow.Author.Needs.{needs}
 use Rattle.flaand_hash.proofs.check_hs.Statement.{statement}
 use Rattle.flaand_hash.proofs.check_hs.Tie as tie
 

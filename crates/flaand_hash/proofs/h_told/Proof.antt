@@ -1,10 +1,4 @@
-use mathlib.Core.Path.{sym, ap, _∙_}
-use mathlib.Core.Bool.{Bool}
-use mathlib.Core.List.{List}
-use Prim.Native.Nat.{ℕ, _+_, _*_, _≤_}
-use native.Mathlib.Omega.{arith}
-use lib.ListN.{length}
-use denote.Ref.{now}
+use Rattle.lists.specs.Kit.{sym, ap, _∙_, List, Bool, ℕ, _+_, _*_, _≤_, arith, length, now, needs}
 use Rattle.lists.specs.Over.{in-chunks}
 use Rattle.algebra.specs.Group.{sel}
 use Rattle.algebra.specs.Sum.{neq-true}
@@ -14,7 +8,6 @@ use Rattle.plan.specs.Plan.{leaky}
 use Rattle.rounds.specs.Mail.{letter}
 use Rattle.rounds.specs.MailLaws.{neq-same, letter-fits, letter-long}
 use Rattle.rounds.specs.Flaand.{hTold}
-use borrow.Author.Needs.{needs}
 use Rattle.flaand_hash.proofs.h_told.Statement.{statement}
 use Rattle.flaand_hash.proofs.h_told.Tie as tie
 

@@ -1,15 +1,10 @@
 -- The loop's invariant: the first k parties have no fault.
-use mathlib.Core.Path.{_≡_, sym, _∙_}
-use mathlib.Core.List.{List}
-use Prim.Native.Nat.{ℕ, _-_, _≤_}
-use native.Mathlib.Omega.{arith}
-use denote.Ref.{now}
+use Rattle.lists.specs.Kit.{_≡_, sym, _∙_, List, ℕ, _-_, _≤_, arith, now, needs}
 use Rattle.engine.specs.Step.{frame, scan}
 use Rattle.engine.specs.StepLaws.{scan-turn}
 use Rattle.rounds.specs.Mail.{letter}
 use Rattle.rounds.specs.FaultLaws.{Finds, faultAt, clean-zero, finds-first, finds-none}
 use Rattle.flaand_hash.specs.Laws.{openFault, opening-by}
-use borrow.Author.Needs.{needs}
 use Rattle.flaand_hash.proofs.open.Statement.{statement}
 use Rattle.flaand_hash.proofs.open.Tie as tie
 

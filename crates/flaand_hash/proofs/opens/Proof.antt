@@ -1,10 +1,5 @@
 -- The loop's invariant: ok says whether the first t open.
-use mathlib.Core.Path.{_≡_, refl, sym, ap, ap₂, _∙_}
-use mathlib.Core.List.{List}
-use Prim.Native.Nat.{ℕ, _+_, _-_, _*_, _≤_}
-use native.Mathlib.Omega.{arith}
-use lib.ListN.{length, take, drop}
-use denote.Ref.{now}
+use Rattle.lists.specs.Kit.{_≡_, refl, sym, ap, ap₂, _∙_, List, ℕ, _+_, _-_, _*_, _≤_, arith, length, take, drop, now, needs}
 use Rattle.lists.specs.All.{allOf, all-zero}
 use Rattle.lists.specs.Over.{cat, in-chunks}
 use Rattle.lists.specs.Sect.{length-get}
@@ -13,7 +8,6 @@ use Rattle.blake3_lanes.specs.Lanes.{hashAt}
 use Rattle.plan.specs.Plan.{leaky}
 use Rattle.plan.specs.PlanLaws.{leaky-most}
 use Rattle.flaand_hash.specs.Laws.{opens, opensAt, window-turn}
-use borrow.Author.Needs.{needs}
 use Rattle.flaand_hash.proofs.opens.Statement.{statement}
 use Rattle.flaand_hash.proofs.opens.Tie as tie
 

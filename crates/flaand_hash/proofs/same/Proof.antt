@@ -1,14 +1,10 @@
 -- The loop's invariant: ok says whether the bytes before `at` are the same.
-use mathlib.Core.Path.{_≡_, refl, ap₂, _∙_}
-use Prim.Native.Nat.{_-_, _%_, _≤_}
-use native.Mathlib.Omega.{arith}
-use lib.ListN.{length, take}
+use Rattle.lists.specs.Kit.{_≡_, refl, ap₂, _∙_, _-_, _≤_, arith, length, take, now, needs}
+use Prim.Native.Nat.{_%_}
 use lib.Seq.{take-all}
-use denote.Ref.{now}
 use Rattle.lists.specs.Same.{same?}
 use Rattle.block.specs.Block.{eqBlock}
 use Rattle.flaand_hash.specs.Laws.{same-more}
-use borrow.Author.Needs.{needs}
 use Rattle.flaand_hash.proofs.same.Statement.{statement}
 use Rattle.flaand_hash.proofs.same.Tie as tie
 

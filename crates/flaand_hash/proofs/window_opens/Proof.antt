@@ -1,16 +1,11 @@
-use mathlib.Core.Path.{_≡_, sym, ap, _∙_}
-use mathlib.Core.List.{List, _++_}
-use Prim.Native.Nat.{ℕ, _*_}
-use native.Mathlib.Omega.{arith}
-use lib.ListN.{length, take, drop, replicate, length-append}
+use Rattle.lists.specs.Kit.{_≡_, sym, ap, _∙_, List, _++_, ℕ, _*_, arith, length, take, drop, replicate, now, needs}
+use lib.ListN.{length-append}
 use lib.Seq.{take-at, length-take-le}
-use denote.Ref.{now}
 use Rattle.lists.specs.Over.{length-cat}
 use Rattle.lists.specs.Same.{same?}
 use Rattle.block.specs.Block.{blockAt, bytesOf}
 use Rattle.blake3_lanes.specs.Lanes.{hashAt}
 use Rattle.rounds.specs.FashareLaws.{length-hash}
-use borrow.Author.Needs.{needs}
 use Rattle.flaand_hash.proofs.window_opens.Statement.{statement}
 use Rattle.flaand_hash.proofs.window_opens.Tie as tie
 

@@ -1,8 +1,4 @@
-use mathlib.Core.Path.{sym, ap, _∙_}
-use mathlib.Core.List.{List, _++_}
-use Prim.Native.Nat.{ℕ, _+_, _-_, _*_}
-use denote.Ref.{now}
-use borrow.Author.Needs.{needs}
+use Rattle.lists.specs.Kit.{sym, ap, _∙_, List, _++_, ℕ, _+_, _-_, _*_, now, needs}
 use Rattle.block.specs.Block.{le8}
 use Rattle.engine.specs.Step.{frame}
 use Rattle.engine.specs.Area.{toOthers}

@@ -1,11 +1,5 @@
 -- The loop's invariant: ok says whether the h of the first t positions sum to zero.
-use mathlib.Core.Path.{_≡_, sym, ap, ap₂, _∙_}
-use mathlib.Core.Bool.{Bool}
-use mathlib.Core.List.{List}
-use Prim.Native.Nat.{ℕ, _+_, _-_, _*_, _<_, _≤_}
-use native.Mathlib.Omega.{arith}
-use lib.ListN.{length}
-use denote.Ref.{now}
+use Rattle.lists.specs.Kit.{_≡_, sym, ap, ap₂, _∙_, List, Bool, ℕ, _+_, _-_, _*_, _<_, _≤_, arith, length, now, needs}
 use Rattle.lists.specs.All.{allOf, all-zero}
 use Rattle.lists.specs.Over.{in-chunks}
 use Rattle.algebra.specs.Group.{XorGroup}
@@ -16,7 +10,6 @@ use Rattle.plan.specs.Plan.{leaky}
 use Rattle.rounds.specs.Mail.{letter}
 use Rattle.rounds.specs.Flaand.{hTold}
 use Rattle.flaand_hash.specs.Laws.{summed, all-more}
-use borrow.Author.Needs.{needs}
 use Rattle.flaand_hash.proofs.zero_sum.Statement.{statement}
 use Rattle.flaand_hash.proofs.zero_sum.Tie as tie
 

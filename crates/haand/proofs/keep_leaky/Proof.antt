@@ -1,14 +1,8 @@
 -- The loop's invariant: the rows of the first t positions are kept. BITS is as it was.
-use mathlib.Core.Path.{_≡_, refl, sym, ap, ap₂, _∙_}
-use mathlib.Core.List.{List, _++_}
-use Prim.Native.Nat.{ℕ, _+_, _-_, _*_, _<_, _≤_}
-use native.Mathlib.Omega.{arith}
+use Rattle.lists.specs.Kit.{_≡_, refl, sym, ap, ap₂, _∙_, List, _++_, ℕ, _+_, _-_, _*_, _<_, _≤_, arith, length, take, drop, now, needs}
 use native.Mathlib.Nat.{add-mul, mul-le-mul-right, zero-mul}
-use lib.ListN.{length, take, drop}
 use lib.Seq.{length-take-le}
-use denote.Ref.{now}
 use borrow.Rule.Slice.PartMut.{postOf}
-use borrow.Author.Needs.{needs}
 use Rattle.lists.specs.Over.{cat, length-cat}
 use Rattle.lists.specs.Sect.{length-put}
 use Rattle.plan.specs.Plan.{leaky}

@@ -1,10 +1,5 @@
 -- The loop's invariant: the sum has the first k parties.
-use mathlib.Core.Path.{_≡_, refl, ap, ap₂, _∙_}
-use mathlib.Core.Bool.{Bool}
-use Prim.Native.Nat.{ℕ, _-_, _≤_}
-use native.Mathlib.Omega.{arith}
-use denote.Ref.{now}
-use borrow.Author.Needs.{needs}
+use Rattle.lists.specs.Kit.{_≡_, refl, ap, ap₂, _∙_, Bool, ℕ, _-_, _≤_, arith, now, needs}
 use Rattle.algebra.specs.Group.{XorGroup, sel}
 use Rattle.algebra.specs.Sum.{others, neq}
 use Rattle.block.specs.declared.Block.{Block}

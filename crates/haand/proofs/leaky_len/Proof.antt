@@ -1,5 +1,4 @@
-use mathlib.Core.Path.{refl}
-use borrow.Author.Needs.{needs}
+use Rattle.lists.specs.Kit.{refl, needs}
 use Rattle.rounds.specs.Area.{leakyLen}
 use Rattle.haand.proofs.leaky_len.Statement.{statement}
 use Rattle.haand.proofs.leaky_len.Tie as tie

@@ -1,9 +1,4 @@
-use mathlib.Core.Path.{ap, _∙_}
-use Prim.Native.Nat.{_+_, _*_, _<_}
-use native.Mathlib.Omega.{arith}
-use lib.ListN.{length, getD}
-use denote.Ref.{now}
-use borrow.Author.Needs.{needs}
+use Rattle.lists.specs.Kit.{ap, _∙_, _+_, _*_, _<_, arith, length, getD, now, needs}
 use Rattle.lists.specs.Over.{in-chunks}
 use Rattle.algebra.specs.Group.{odd}
 use Rattle.plan.specs.Plan.{leaky}

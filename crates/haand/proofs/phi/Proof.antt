@@ -1,9 +1,4 @@
-use mathlib.Core.Path.{ap, ap₂, _∙_}
-use mathlib.Core.Bool.{Bool}
-use Prim.Native.Nat.{_+_, _*_}
-use native.Mathlib.Omega.{arith}
-use denote.Ref.{now}
-use borrow.Author.Needs.{needs}
+use Rattle.lists.specs.Kit.{ap, ap₂, _∙_, Bool, _+_, _*_, arith, now, needs}
 use Rattle.algebra.specs.Group.{XorGroup, sel}
 use Rattle.algebra.specs.Sum.{others}
 use Rattle.block.specs.Group.{blocks}

@@ -1,10 +1,5 @@
 -- The loop's invariant: the entries of the first k parties are written, and the sum has them.
-use mathlib.Core.Path.{_≡_, ap, _∙_}
-use mathlib.Core.List.{List}
-use Prim.Native.Nat.{ℕ, _+_, _*_, _-_, _≤_}
-use native.Mathlib.Omega.{arith}
-use denote.Ref.{now}
-use borrow.Author.Needs.{needs}
+use Rattle.lists.specs.Kit.{_≡_, ap, _∙_, List, ℕ, _+_, _-_, _*_, _≤_, arith, now, needs}
 use Rattle.lists.specs.Over.{Written, written-zero, written-turn, written-end}
 use Rattle.algebra.specs.Sum.{others}
 use Rattle.block.specs.Group.{blocks}

@@ -1,6 +1,4 @@
-use mathlib.Core.Path.{ap, _∙_}
-use denote.Ref.{now}
-use borrow.Author.Needs.{needs}
+use Rattle.lists.specs.Kit.{ap, _∙_, now, needs}
 use Rattle.algebra.specs.Group.{XorGroup}
 use Rattle.block.specs.declared.Block.{Block}
 use Rattle.block.specs.Block.{bytesOf}

@@ -1,10 +1,4 @@
-use mathlib.Core.Path.{sym, ap, _∙_}
-use mathlib.Core.Logic.{_≢_}
-use Prim.Native.Nat.{_+_, _*_, _-_, _≤_}
-use native.Mathlib.Omega.{arith}
-use lib.ListN.{replicate}
-use denote.Ref.{now}
-use borrow.Author.Needs.{needs}
+use Rattle.lists.specs.Kit.{sym, ap, _∙_, _≢_, _+_, _-_, _*_, _≤_, arith, replicate, now, needs}
 use Rattle.lists.specs.Over.{in-chunks}
 use Rattle.block.specs.Group.{blocks}
 use Rattle.rounds.specs.Loops.{sel-own, sel-other, row-own, row-other}

@@ -1,10 +1,5 @@
-use mathlib.Core.Path.{_≡_, ap, ap₂, _∙_}
-use mathlib.Core.Bool.{Bool, not, Bool·beq}
-use Prim.Native.Nat.{ℕ, _+_, _*_, _≤_}
-use native.Mathlib.Omega.{arith}
-use lib.ListN.{length, getD}
-use denote.Ref.{now}
-use borrow.Author.Needs.{needs}
+use Rattle.lists.specs.Kit.{_≡_, ap, ap₂, _∙_, Bool, not, ℕ, _+_, _*_, _≤_, arith, length, getD, now, needs}
+use mathlib.Core.Bool.{Bool·beq}
 use Rattle.algebra.specs.Group.{addb, odd}
 use Rattle.share.specs.Record.{bitAt}
 use Rattle.share.specs.Share.{shareAt}

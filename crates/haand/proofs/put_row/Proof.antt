@@ -1,10 +1,5 @@
-use mathlib.Core.Path.{ap, _∙_}
-use mathlib.Core.List.{List, _++_}
-use Prim.Native.Nat.{ℕ, _+_, _-_, _*_}
-use native.Mathlib.Omega.{arith}
-use lib.ListN.{length, length-drop}
-use denote.Ref.{now}
-use borrow.Author.Needs.{needs}
+use Rattle.lists.specs.Kit.{ap, _∙_, List, _++_, ℕ, _+_, _-_, _*_, arith, length, now, needs}
+use lib.ListN.{length-drop}
 use Rattle.lists.specs.Over.{cat, over-full}
 use Rattle.lists.specs.Sect.{get-rest}
 use Rattle.algebra.specs.Group.{XorGroup}

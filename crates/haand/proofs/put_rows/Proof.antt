@@ -1,13 +1,7 @@
 -- The loop's invariant: the rows of the first p positions are written.
-use mathlib.Core.Path.{_≡_, refl, sym, ap, subst}
-use mathlib.Core.List.{List}
-use Prim.Native.Nat.{ℕ, _+_, _-_, _*_, _≤_}
+use Rattle.lists.specs.Kit.{_≡_, refl, sym, ap, subst, List, ℕ, _+_, _-_, _*_, _≤_, arith, length, now, needs}
 use native.Mathlib.Nat.{zero-mul}
-use native.Mathlib.Omega.{arith}
-use lib.ListN.{length}
-use denote.Ref.{now}
 use borrow.Rule.Slice.PartMut.{putMid}
-use borrow.Author.Needs.{needs}
 use Rattle.lists.specs.Over.{Written, written-zero, written-turn, written-end, in-chunks, next-chunk}
 use Rattle.plan.specs.PlanLaws.{leaky-most}
 use Rattle.engine.specs.declared.Frame.{Frame}

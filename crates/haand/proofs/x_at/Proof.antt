@@ -1,7 +1,4 @@
-use mathlib.Core.Path.{ap}
-use Prim.Native.Nat.{_*_}
-use native.Mathlib.Omega.{arith}
-use borrow.Author.Needs.{needs}
+use Rattle.lists.specs.Kit.{ap, _*_, arith, needs}
 use Rattle.haand.specs.GivenLaws.{at-most}
 use Rattle.haand.proofs.x_at.Statement.{statement}
 use Rattle.haand.proofs.x_at.Tie as tie

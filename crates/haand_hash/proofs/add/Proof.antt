@@ -1,10 +1,5 @@
 -- The loop's invariant: the first j Blocks stand in front, each plus d.
-use mathlib.Core.Path.{ap, _∙_}
-use mathlib.Core.List.{List}
-use Prim.Native.Nat.{ℕ, _+_, _*_, _-_, _≤_}
-use native.Mathlib.Omega.{arith}
-use denote.Ref.{now}
-use borrow.Author.Needs.{needs}
+use Rattle.lists.specs.Kit.{ap, _∙_, List, ℕ, _+_, _-_, _*_, _≤_, arith, now, needs}
 use Rattle.lists.specs.Over.{Written, written-zero, written-turn, written-end}
 use Rattle.algebra.specs.Group.{XorGroup}
 use Rattle.block.specs.declared.Block.{Block}

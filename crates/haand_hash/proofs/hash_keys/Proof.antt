@@ -1,12 +1,5 @@
-use mathlib.Core.Path.{_≡_, sym, ap, _∙_}
-use mathlib.Core.Bool.{true}
-use mathlib.Core.List.{List, _++_}
-use Prim.Native.Nat.{ℕ, _+_, _*_, _-_, _≤_}
-use native.Mathlib.Omega.{arith}
-use lib.ListN.{length, drop, replicate}
+use Rattle.lists.specs.Kit.{_≡_, sym, ap, _∙_, List, _++_, true, ℕ, _+_, _-_, _*_, _≤_, arith, length, drop, replicate, now, needs}
 use lib.Seq.{length-take-le}
-use denote.Ref.{now}
-use borrow.Author.Needs.{needs}
 use Rattle.lists.specs.Over.{length-cat}
 use Rattle.lists.specs.Sect.{put, length-get, length-put}
 use Rattle.algebra.specs.Group.{XorGroup}

@@ -1,12 +1,5 @@
-use mathlib.Core.Path.{_≡_, sym}
-use mathlib.Core.Bool.{false}
-use mathlib.Core.List.{_++_}
-use Prim.Native.Nat.{ℕ, _+_, _*_, _-_, _≤_}
-use native.Mathlib.Omega.{arith}
-use lib.ListN.{length, drop, replicate}
+use Rattle.lists.specs.Kit.{_≡_, sym, _++_, false, ℕ, _+_, _-_, _*_, _≤_, arith, length, drop, replicate, now, needs}
 use lib.Seq.{length-take-le}
-use denote.Ref.{now}
-use borrow.Author.Needs.{needs}
 use Rattle.block.specs.declared.Block.{Block}
 use Rattle.share.specs.Record.{recordLen}
 use Rattle.haand_hash.specs.Window.{partOf}

@@ -1,8 +1,4 @@
-use Prim.Native.Nat.{_*_, _+_, _≤_}
-use native.Mathlib.Omega.{arith}
-use lib.ListN.{length}
-use denote.Ref.{now}
-use mathlib.Core.Path.{_∙_, ap}
+use Rattle.lists.specs.Kit.{ap, _∙_, _+_, _*_, _≤_, arith, length, now}
 use Rattle.haand_hash.specs.WindowLaws.{g-read, h-read}
 use Rattle.haand_hash.proofs.hash_of.Statement.{statement}
 use Rattle.haand_hash.proofs.hash_of.Tie as tie

@@ -1,7 +1,4 @@
-use mathlib.Core.Path.{sym, ap, _∙_}
-use mathlib.Core.Bool.{Bool}
-use denote.Ref.{now}
-use borrow.Author.Needs.{needs}
+use Rattle.lists.specs.Kit.{sym, ap, _∙_, Bool, now, needs}
 use Rattle.haand_hash.specs.Window.{partOf}
 use Rattle.haand_hash.proofs.part_of.Statement.{statement}
 use Rattle.haand_hash.proofs.part_of.Tie as tie

@@ -1,5 +1,4 @@
-use Prim.Native.Nat.{_-_}
-use borrow.Author.Needs.{needs}
+use Rattle.lists.specs.Kit.{_-_, needs}
 use borrow.Author.Tests.{lt-ltb, le-ltb}
 use Rattle.haand_hash.proofs.place.Statement.{statement}
 use Rattle.haand_hash.proofs.place.Tie as tie

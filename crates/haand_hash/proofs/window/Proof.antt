@@ -1,7 +1,6 @@
-use Prim.Native.Nat.{_-_, _/_, _≤_}
+use Rattle.lists.specs.Kit.{_-_, _≤_, arith, needs}
+use Prim.Native.Nat.{_/_}
 use native.Mathlib.Nat.{mul-le-mul-right, div-mul-le-self}
-use native.Mathlib.Omega.{arith}
-use borrow.Author.Needs.{needs}
 use Rattle.haand_hash.specs.WindowLaws.{some-fit}
 use Rattle.haand_hash.proofs.window.Statement.{statement}
 use Rattle.haand_hash.proofs.window.Tie as tie

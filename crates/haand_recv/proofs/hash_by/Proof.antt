@@ -1,7 +1,4 @@
-use mathlib.Core.Path.{_∙_}
-use Prim.Native.Nat.{_-_}
-use native.Mathlib.Omega.{arith}
-use borrow.Author.Needs.{needs}
+use Rattle.lists.specs.Kit.{_∙_, _-_, arith, needs}
 use Rattle.lists.specs.Over.{in-chunks}
 use Rattle.algebra.specs.Group.{bits}
 use Rattle.block.specs.Group.{blocks}

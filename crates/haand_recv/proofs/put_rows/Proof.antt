@@ -1,11 +1,5 @@
 -- The loop's invariant: the rows of the first p positions are written.
-use mathlib.Core.Path.{_≡_, refl, ap, ap₂, _∙_}
-use mathlib.Core.List.{List}
-use Prim.Native.Nat.{ℕ, _+_, _-_, _*_, _≤_}
-use native.Mathlib.Omega.{arith}
-use lib.ListN.{length, take, drop}
-use denote.Ref.{now}
-use borrow.Author.Needs.{needs}
+use Rattle.lists.specs.Kit.{_≡_, refl, ap, ap₂, _∙_, List, ℕ, _+_, _-_, _*_, _≤_, arith, length, take, drop, now, needs}
 use Rattle.lists.specs.Over.{Written, written-zero, written-turn, written-end, in-chunks}
 use Rattle.algebra.specs.Group.{addb}
 use Rattle.share.specs.Record.{recordLen, macAt}

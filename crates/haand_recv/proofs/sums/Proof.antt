@@ -1,9 +1,5 @@
 -- The loop's invariant: both sums have the first k parties.
-use mathlib.Core.Path.{_≡_, ap, _∙_}
-use Prim.Native.Nat.{_-_, _≤_}
-use native.Mathlib.Omega.{arith}
-use denote.Ref.{now}
-use borrow.Author.Needs.{needs}
+use Rattle.lists.specs.Kit.{_≡_, ap, _∙_, _-_, _≤_, arith, now, needs}
 use Rattle.algebra.specs.Group.{bits}
 use Rattle.algebra.specs.Sum.{others}
 use Rattle.block.specs.Group.{blocks}

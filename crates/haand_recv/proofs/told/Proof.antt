@@ -1,10 +1,5 @@
 -- The loop's invariant: v has the first k parties.
-use mathlib.Core.Path.{_≡_, ap, ap₂, _∙_}
-use mathlib.Core.Bool.{Bool, _&&_}
-use Prim.Native.Nat.{ℕ, _-_, _≤_}
-use native.Mathlib.Omega.{arith}
-use denote.Ref.{now}
-use borrow.Author.Needs.{needs}
+use Rattle.lists.specs.Kit.{_≡_, ap, ap₂, _∙_, Bool, _&&_, ℕ, _-_, _≤_, arith, now, needs}
 use Rattle.algebra.specs.Group.{bits, addb, sel}
 use Rattle.algebra.specs.Sum.{others}
 use Rattle.share.specs.Record.{bitAt}

@@ -1,11 +1,4 @@
-use mathlib.Core.Path.{ap, ap₂, _∙_}
-use mathlib.Core.Bool.{Bool}
-use mathlib.Core.List.{List}
-use Prim.Native.Nat.{ℕ}
-use native.Mathlib.Omega.{arith}
-use lib.ListN.{length}
-use denote.Ref.{now}
-use borrow.Author.Needs.{needs}
+use Rattle.lists.specs.Kit.{ap, ap₂, _∙_, List, Bool, ℕ, arith, length, now, needs}
 use Rattle.algebra.specs.Group.{bits, addb}
 use Rattle.share.specs.Record.{bitAt}
 use Rattle.share.specs.Share.{shareAt}

@@ -1,10 +1,4 @@
-use mathlib.Core.Path.{_≡_, sym}
-use mathlib.Core.Bool.{true}
-use Prim.Native.Nat.{_-_, _≤_}
-use native.Mathlib.Omega.{arith}
-use borrow.Author.Needs.{needs}
-use lib.ListN.{drop}
-use denote.Ref.{now}
+use Rattle.lists.specs.Kit.{_≡_, sym, true, _-_, _≤_, arith, drop, now, needs}
 use Rattle.message.specs.Format as F
 use Rattle.message.proofs.Laws.{bools-none, bools-turn, bools-stop}
 use Rattle.message.proofs.bools.Statement.{statement}

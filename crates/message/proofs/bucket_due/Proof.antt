@@ -1,6 +1,4 @@
-use native.Mathlib.Omega.{arith}
-use borrow.Author.Needs.{needs}
-use denote.Ref.{now}
+use Rattle.lists.specs.Kit.{arith, now, needs}
 use Rattle.message.proofs.Laws.{due-not, due-both, bucket-head}
 use Rattle.message.proofs.bucket_due.Statement.{statement}
 use Rattle.message.proofs.bucket_due.Tie as tie

@@ -1,4 +1,4 @@
-use mathlib.Core.Path.{_≡_, sym, ap}
+use Rattle.lists.specs.Kit.{_≡_, sym, ap}
 use Rattle.lists.specs.Pick.{pick}
 use Rattle.message.proofs.count_code.Statement.{statement}
 use Rattle.message.proofs.count_code.Tie as tie

@@ -1,8 +1,4 @@
-use Prim.Native.Nat.{_+_, _≤_}
-use native.Mathlib.Omega.{arith}
-use borrow.Author.Needs.{needs}
-use lib.ListN.{length}
-use denote.Ref.{now}
+use Rattle.lists.specs.Kit.{_+_, _≤_, arith, length, now, needs}
 use Rattle.message.proofs.Laws.{bucket-end, first-list, bucket-no, bucket-cut, bucket-yes, bucket-fits}
 use Rattle.message.proofs.dvalue_len.Statement.{statement}
 use Rattle.message.proofs.dvalue_len.Tie as tie

@@ -1,9 +1,4 @@
-use mathlib.Core.Path.{_≡_, sym, ap, _∙_}
-use mathlib.Core.Bool.{true}
-use Prim.Native.Nat.{_<_}
-use lib.ListN.{drop}
-use borrow.Author.Needs.{needs}
-use denote.Ref.{now}
+use Rattle.lists.specs.Kit.{_≡_, sym, ap, _∙_, true, _<_, drop, now, needs}
 use Rattle.message.specs.declared.Kind.{Kind}
 use Rattle.message.specs.Format.{itemLen, innerDue}
 use Rattle.message.proofs.inner_due.Statement.{statement}

@@ -1,6 +1,4 @@
-use mathlib.Core.Path.{sym}
-use native.Mathlib.Omega.{arith}
-use Prim.Native.Nat.{_+_}
+use Rattle.lists.specs.Kit.{sym, _+_, arith}
 use borrow.Author.Tests.{lt-leb}
 use Rattle.message.specs.Read as R
 use Rattle.message.proofs.Laws.{inside-test}

@@ -1,9 +1,4 @@
-use mathlib.Core.Path.{_≡_, ap, _∙_}
-use Prim.Native.Nat.{_-_, _≤_, _<_}
-use native.Mathlib.Omega.{arith}
-use borrow.Author.Needs.{needs}
-use lib.ListN.{drop}
-use denote.Ref.{now}
+use Rattle.lists.specs.Kit.{_≡_, ap, _∙_, _-_, _<_, _≤_, arith, drop, now, needs}
 use Rattle.message.specs.Format.{itemAt, itemLen}
 use Rattle.message.specs.FormatLaws.{decoded}
 use Rattle.message.proofs.Walk.{Walked, walked-start, walked-room, walked-turn, walked-item}

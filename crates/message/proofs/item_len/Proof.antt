@@ -1,7 +1,4 @@
-use mathlib.Core.Path.{sym, ap, _∙_}
-use lib.ListN.{drop}
-use borrow.Author.Needs.{needs}
-use denote.Ref.{now}
+use Rattle.lists.specs.Kit.{sym, ap, _∙_, drop, now, needs}
 use Rattle.message.specs.declared.Kind.{Kind}
 use Rattle.message.specs.Format.{itemLen}
 use Rattle.message.proofs.item_len.Statement.{statement}

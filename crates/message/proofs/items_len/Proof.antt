@@ -1,5 +1,4 @@
-use borrow.Author.Needs.{needs}
-use denote.Ref.{now}
+use Rattle.lists.specs.Kit.{now, needs}
 use Rattle.message.proofs.Laws.{items-end, items-yes, items-no}
 use Rattle.message.proofs.items_len.Statement.{statement}
 use Rattle.message.proofs.items_len.Tie as tie

@@ -1,6 +1,4 @@
-use mathlib.Core.Path.{refl}
-use borrow.Author.Needs.{needs}
-use denote.Ref.{now}
+use Rattle.lists.specs.Kit.{refl, now, needs}
 use Rattle.message.proofs.Laws.{option-end, option-absent, option-bad, option-short, option-present}
 use Rattle.message.proofs.option_len.Statement.{statement}
 use Rattle.message.proofs.option_len.Tie as tie

@@ -1,10 +1,6 @@
-use Prim.Native.Nat.{_+_, _≤_}
-use native.Mathlib.Omega.{arith}
+use Rattle.lists.specs.Kit.{_+_, _≤_, arith, length, now, needs}
 use native.Mathlib.Nat.{add-sub-cancel-left}
-use lib.ListN.{length}
-use borrow.Author.Needs.{needs}
 use borrow.Author.Tests.{leb-true}
-use denote.Ref.{now}
 use Rattle.message.specs.Read as R
 use Rattle.message.proofs.part.Statement.{statement}
 use Rattle.message.proofs.part.Tie as tie

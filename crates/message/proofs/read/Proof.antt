@@ -1,9 +1,4 @@
-use mathlib.Core.Path.{_≡_, _∙_}
-use Prim.Native.Nat.{_+_, _-_, _≤_}
-use native.Mathlib.Omega.{arith}
-use borrow.Author.Needs.{needs}
-use lib.ListN.{length}
-use denote.Ref.{now}
+use Rattle.lists.specs.Kit.{_≡_, _∙_, _+_, _-_, _≤_, arith, length, now, needs}
 use Rattle.message.specs.Format.{innersDue}
 use Rattle.message.specs.FormatLaws.{decodes-short}
 use Rattle.message.proofs.Walk.{Walked, walked-start, walked-room, walked-turn, walked-stop, inners-none, inners-turn, read-bad, read-end}

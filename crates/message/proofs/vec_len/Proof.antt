@@ -1,7 +1,5 @@
-use Prim.Native.Nat.{_+_, _*_, _<_, _^_}
-use native.Mathlib.Omega.{arith}
-use borrow.Author.Needs.{needs}
-use denote.Ref.{now}
+use Rattle.lists.specs.Kit.{_+_, _*_, _<_, arith, now, needs}
+use Prim.Native.Nat.{_^_}
 use Rattle.message.proofs.Laws.{vec-short, vec-over, vec-room, vec-whole}
 use Rattle.message.proofs.vec_len.Statement.{statement}
 use Rattle.message.proofs.vec_len.Tie as tie

@@ -1,9 +1,7 @@
-use mathlib.Core.Path.{_≡_, sym, ap, _∙_}
-use Prim.Native.Nat.{_≤_}
+use Rattle.lists.specs.Kit.{_≡_, sym, ap, _∙_, _≤_, needs}
 use Rattle.engine.specs.Step.{replyOf}
 use Rattle.nuzsdike.specs.Interface.{packedOf, NO-PARTY}
 use Rattle.nuzsdike.specs.Narrow.{named}
-use borrow.Author.Needs.{needs}
 use Rattle.nuzsdike.proofs.answer.Statement.{statement}
 use Rattle.nuzsdike.proofs.answer.Tie as tie
 use Rattle.nuzsdike.proofs.answer.Reads as reads

@@ -1,7 +1,5 @@
-use native.Mathlib.Omega.{arith}
-use mathlib.Core.Path.{refl}
+use Rattle.lists.specs.Kit.{refl, arith, needs}
 use Rattle.nuzsdike.specs.Interface.{sessionAt}
-use borrow.Author.Needs.{needs}
 use Rattle.nuzsdike.proofs.load.Statement.{statement}
 use Rattle.nuzsdike.proofs.load.Tie as tie
 use Rattle.nuzsdike.proofs.load.Reads as reads

@@ -1,8 +1,6 @@
-use native.Mathlib.Omega.{arith}
-use mathlib.Core.Path.{_≡_, refl, sym, _∙_}
+use Rattle.lists.specs.Kit.{_≡_, refl, sym, _∙_, arith, needs}
 use Rattle.nuzsdike.specs.Interface.{bucketOf}
 use Rattle.nuzsdike.specs.InterfaceLaws.{bucket-small}
-use borrow.Author.Needs.{needs}
 use Rattle.nuzsdike.proofs.nuzsdike_bucket_size.Statement.{statement}
 use Rattle.nuzsdike.proofs.nuzsdike_bucket_size.Tie as tie
 use Rattle.nuzsdike.proofs.nuzsdike_bucket_size.Reads as reads

@@ -1,8 +1,7 @@
-use denote.Ref.{now}
+use Rattle.lists.specs.Kit.{now, needs}
 use Rattle.engine.specs.Step.{replyOf}
 use Rattle.rounds.specs.Combine.{args}
 use Rattle.nuzsdike.specs.InterfaceLaws.{combines, combine-named}
-use borrow.Author.Needs.{needs}
 use Rattle.nuzsdike.proofs.nuzsdike_combine.Statement.{statement}
 use Rattle.nuzsdike.proofs.nuzsdike_combine.Tie as tie
 use Rattle.nuzsdike.proofs.nuzsdike_combine.Reads as reads

@@ -1,9 +1,6 @@
-use mathlib.Core.Path.{_≡_, sym, ap, _∙_}
-use lib.ListN.{getD}
-use denote.Ref.{now}
+use Rattle.lists.specs.Kit.{_≡_, sym, ap, _∙_, getD, now, needs}
 use Rattle.lists.specs.Pick.{pick}
 use Rattle.nuzsdike.specs.InterfaceLaws.{due-short, due-is}
-use borrow.Author.Needs.{needs}
 use Rattle.nuzsdike.proofs.nuzsdike_due.Statement.{statement}
 use Rattle.nuzsdike.proofs.nuzsdike_due.Tie as tie
 use Rattle.nuzsdike.proofs.nuzsdike_due.Reads as reads

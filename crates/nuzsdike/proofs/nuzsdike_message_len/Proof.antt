@@ -1,9 +1,8 @@
-use mathlib.Core.Path.{_≡_, refl, sym, ap, ap₂, _∙_}
+use Rattle.lists.specs.Kit.{_≡_, refl, sym, ap, ap₂, _∙_, needs}
 use Rattle.lists.specs.Pick.{pick}
 use Rattle.plan.specs.Plan.{isRound, msgLen}
 use Rattle.plan.specs.PlanLaws.{in-range-true}
 use Rattle.nuzsdike.specs.InterfaceLaws.{message-is}
-use borrow.Author.Needs.{needs}
 use Rattle.nuzsdike.proofs.nuzsdike_message_len.Statement.{statement}
 use Rattle.nuzsdike.proofs.nuzsdike_message_len.Tie as tie
 use Rattle.nuzsdike.proofs.nuzsdike_message_len.Reads as reads

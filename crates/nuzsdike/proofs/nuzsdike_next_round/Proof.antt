@@ -1,8 +1,6 @@
-use native.Mathlib.Omega.{arith}
-use mathlib.Core.Path.{_≡_, refl, sym, _∙_}
+use Rattle.lists.specs.Kit.{_≡_, refl, sym, _∙_, arith, needs}
 use Rattle.nuzsdike.specs.Interface.{roundAfter}
 use Rattle.nuzsdike.specs.InterfaceLaws.{writes-small}
-use borrow.Author.Needs.{needs}
 use Rattle.nuzsdike.proofs.nuzsdike_next_round.Statement.{statement}
 use Rattle.nuzsdike.proofs.nuzsdike_next_round.Tie as tie
 use Rattle.nuzsdike.proofs.nuzsdike_next_round.Reads as reads

@@ -1,10 +1,7 @@
-use mathlib.Core.Path.{ap}
+use Rattle.lists.specs.Kit.{ap, arith, now, needs}
 use Rattle.engine.specs.Step.{replyOf}
-use native.Mathlib.Omega.{arith}
-use denote.Ref.{now}
 use Rattle.opening.specs.Given.{args}
 use Rattle.nuzsdike.specs.InterfaceLaws.{opens-not, opens, opens-refused, opened-narrow}
-use borrow.Author.Needs.{needs}
 use Rattle.nuzsdike.proofs.nuzsdike_open.Statement.{statement}
 use Rattle.nuzsdike.proofs.nuzsdike_open.Tie as tie
 use Rattle.nuzsdike.proofs.nuzsdike_open.Reads as reads

@@ -1,8 +1,6 @@
-use mathlib.Core.Path.{_≡_, refl, sym, _∙_}
+use Rattle.lists.specs.Kit.{_≡_, refl, sym, _∙_, arith, needs}
 use Rattle.plan.specs.PlanLaws.{parties-true}
 use Rattle.nuzsdike.specs.Interface.{recordBytes}
-use native.Mathlib.Omega.{arith}
-use borrow.Author.Needs.{needs}
 use Rattle.nuzsdike.proofs.nuzsdike_record_len.Statement.{statement}
 use Rattle.nuzsdike.proofs.nuzsdike_record_len.Tie as tie
 use Rattle.nuzsdike.proofs.nuzsdike_record_len.Reads as reads

@@ -1,6 +1,4 @@
-use mathlib.Core.Path.{_≡_, sym, ap, _∙_, subst}
-use Prim.Native.Nat.{_≤_}
-use denote.Ref.{now}
+use Rattle.lists.specs.Kit.{_≡_, sym, ap, subst, _∙_, _≤_, now, needs}
 use Rattle.engine.specs.declared.Session.{Session}
 use Rattle.engine.specs.Step.{Reply, replyOf, Outcome, roundSpec}
 use Rattle.engine.specs.Plain.{protocolOf}
@@ -9,7 +7,6 @@ use Rattle.session.specs.Given.{lent}
 use Rattle.nuzsdike.specs.Interface.{NO-PARTY}
 use Rattle.nuzsdike.specs.Narrow.{Narrow, named}
 use Rattle.nuzsdike.specs.InterfaceLaws.{rounds, rounds-not, round-narrow, round-named}
-use borrow.Author.Needs.{needs}
 use Rattle.nuzsdike.proofs.nuzsdike_round.Statement.{statement}
 use Rattle.nuzsdike.proofs.nuzsdike_round.Tie as tie
 use Rattle.nuzsdike.proofs.nuzsdike_round.Reads as reads

@@ -1,9 +1,5 @@
-use mathlib.Core.Path.{_≡_, ap, _∙_}
-use mathlib.Core.List.{List}
-use Prim.Native.Nat.{ℕ}
-use lib.ListN.{getD}
+use Rattle.lists.specs.Kit.{_≡_, ap, _∙_, List, ℕ, getD, needs}
 use Rattle.nuzsdike.specs.InterfaceLaws.{name-is, name-none}
-use borrow.Author.Needs.{needs}
 use Rattle.nuzsdike.proofs.nuzsdike_round_name.Statement.{statement}
 use Rattle.nuzsdike.proofs.nuzsdike_round_name.Tie as tie
 use Rattle.nuzsdike.proofs.nuzsdike_round_name.Reads as reads

@@ -1,6 +1,5 @@
-use mathlib.Core.Path.{refl}
+use Rattle.lists.specs.Kit.{refl, needs}
 use Rattle.nuzsdike.specs.Interface.{packedOf}
-use borrow.Author.Needs.{needs}
 use Rattle.nuzsdike.proofs.packed.Statement.{statement}
 use Rattle.nuzsdike.proofs.packed.Tie as tie
 use Rattle.nuzsdike.proofs.packed.Reads as reads

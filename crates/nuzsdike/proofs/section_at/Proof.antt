@@ -1,6 +1,5 @@
-use mathlib.Core.Path.{_≡_, refl, sym, ap, _∙_}
+use Rattle.lists.specs.Kit.{_≡_, refl, sym, ap, _∙_, needs}
 use Rattle.plan.specs.PlanLaws.{in-range-true}
-use borrow.Author.Needs.{needs}
 use Rattle.nuzsdike.proofs.section_at.Statement.{statement}
 use Rattle.nuzsdike.proofs.section_at.Tie as tie
 use Rattle.nuzsdike.proofs.section_at.Reads as reads

@@ -1,7 +1,6 @@
-use denote.Ref.{now}
+use Rattle.lists.specs.Kit.{now, needs}
 use Rattle.lists.specs.Over.{sets-all}
 use Rattle.nuzsdike.specs.Interface.{numbersOf}
-use borrow.Author.Needs.{needs}
 use Rattle.nuzsdike.proofs.store.Statement.{statement}
 use Rattle.nuzsdike.proofs.store.Tie as tie
 use Rattle.nuzsdike.proofs.store.Reads as reads

@@ -1,6 +1,5 @@
-use mathlib.Core.Path.{refl}
+use Rattle.lists.specs.Kit.{refl, needs}
 use Rattle.opening.specs.Given.{buffers?}
-use borrow.Author.Needs.{needs}
 use Rattle.opening.proofs.buffers_due.Statement.{statement}
 use Rattle.opening.proofs.buffers_due.Tie as tie
 

@@ -1,9 +1,6 @@
-use mathlib.Core.Path.{_≡_, refl, ap}
-use Prim.Native.Nat.{_*_}
-use native.Mathlib.Omega.{arith}
+use Rattle.lists.specs.Kit.{_≡_, refl, ap, _*_, arith, needs}
 use Rattle.share.specs.Record.{recordLen}
 use Rattle.opening.specs.Given.{bytesOf}
-use borrow.Author.Needs.{needs}
 use Rattle.opening.proofs.bytes_fault.Statement.{statement}
 use Rattle.opening.proofs.bytes_fault.Tie as tie
 

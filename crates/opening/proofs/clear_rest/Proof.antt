@@ -1,11 +1,6 @@
-use mathlib.Core.Path.{_≡_}
-use Prim.Native.Nat.{ℕ, _≤_}
-use native.Mathlib.Omega.{arith}
-use denote.Ref.{now}
-use lib.ListN.{length}
+use Rattle.lists.specs.Kit.{_≡_, ℕ, _≤_, arith, length, now, needs}
 use Rattle.engine.specs.Step.{frame}
 use Rattle.opening.specs.FilledLaws.{clears, empty-within}
-use borrow.Author.Needs.{needs}
 use Rattle.opening.proofs.clear_rest.Statement.{statement}
 use Rattle.opening.proofs.clear_rest.Tie as tie
 

@@ -1,6 +1,5 @@
-use mathlib.Core.Path.{_≡_}
+use Rattle.lists.specs.Kit.{_≡_, needs}
 use Rattle.opening.specs.OpeningLaws.{tested}
-use borrow.Author.Needs.{needs}
 use Rattle.opening.proofs.lengths_fault.Statement.{statement}
 use Rattle.opening.proofs.lengths_fault.Tie as tie
 

@@ -1,6 +1,5 @@
-use mathlib.Core.Path.{refl}
+use Rattle.lists.specs.Kit.{refl, needs}
 use Rattle.opening.specs.Given.{lists?}
-use borrow.Author.Needs.{needs}
 use Rattle.opening.proofs.lists_due.Statement.{statement}
 use Rattle.opening.proofs.lists_due.Tie as tie
 

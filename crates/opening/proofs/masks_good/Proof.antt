@@ -1,10 +1,5 @@
-use mathlib.Core.Path.{_≡_, refl, sym, ap, _∙_}
+use Rattle.lists.specs.Kit.{_≡_, refl, sym, ap, _∙_, _+_, _-_, _*_, _≤_, arith, length, getD, now, needs}
 use mathlib.Core.Logic.{⊎-elim}
-use Prim.Native.Nat.{_+_, _-_, _*_, _≤_}
-use native.Mathlib.Omega.{arith}
-use borrow.Author.Needs.{needs}
-use denote.Ref.{now}
-use lib.ListN.{length, getD}
 use Rattle.lists.specs.All.{allOf, all-zero}
 use Rattle.lists.specs.Over.{in-chunks}
 use Rattle.plan.specs.Plan.{leaky}

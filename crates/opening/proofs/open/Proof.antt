@@ -1,11 +1,9 @@
-use mathlib.Core.Path.{_≡_}
-use denote.Ref.{now}
+use Rattle.lists.specs.Kit.{_≡_, now, needs}
 use Rattle.engine.specs.Step.{replyOf}
 use Rattle.rounds.specs.Opening.{Args}
 use Rattle.opening.specs.Given.{args, lens}
 use Rattle.opening.specs.OpeningLaws.{Due, refuses, due}
 use Rattle.opening.specs.FilledLaws.{seeds-given, lists-given, out-given, left}
-use borrow.Author.Needs.{needs}
 use Rattle.opening.proofs.open.Statement.{statement}
 use Rattle.opening.proofs.open.Tie as tie
 

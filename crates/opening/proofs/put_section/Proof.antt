@@ -1,13 +1,8 @@
-use mathlib.Core.Path.{_≡_, ap, _∙_}
-use mathlib.Core.List.{List}
-use Prim.Native.Nat.{ℕ, _+_, _-_, _≤_}
-use native.Mathlib.Omega.{arith}
-use denote.Ref.{now}
-use lib.ListN.{length, take, drop, length-take, length-drop}
+use Rattle.lists.specs.Kit.{_≡_, ap, _∙_, List, ℕ, _+_, _-_, _≤_, arith, length, take, drop, now, needs}
+use lib.ListN.{length-take, length-drop}
 use Rattle.lists.specs.Sect.{put}
 use Rattle.fill.specs.Copied.{copied}
 use Rattle.area.specs.SectionLaws.{section-ends, puts-section}
-use borrow.Author.Needs.{needs}
 use Rattle.opening.proofs.put_section.Statement.{statement}
 use Rattle.opening.proofs.put_section.Tie as tie
 

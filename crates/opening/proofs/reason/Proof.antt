@@ -1,10 +1,8 @@
-use mathlib.Core.Path.{_≡_, sym, ap, _∙_}
-use mathlib.Core.Bool.{Bool}
+use Rattle.lists.specs.Kit.{_≡_, sym, ap, _∙_, Bool, needs}
 use Rattle.engine.specs.Step.{frame}
 use Rattle.rounds.specs.Opening.{lengthsFault}
 use Rattle.opening.specs.Given.{buffers?}
 use Rattle.opening.specs.OpeningLaws.{or-left, or-right, due-of, asked-of}
-use borrow.Author.Needs.{needs}
 use Rattle.opening.proofs.reason.Statement.{statement}
 use Rattle.opening.proofs.reason.Tie as tie
 

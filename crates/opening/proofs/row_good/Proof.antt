@@ -1,9 +1,4 @@
-use mathlib.Core.Path.{_≡_, refl, sym, ap, _∙_}
-use Prim.Native.Nat.{_+_, _-_, _≤_}
-use native.Mathlib.Omega.{arith}
-use borrow.Author.Needs.{needs}
-use denote.Ref.{now}
-use lib.ListN.{length, getD}
+use Rattle.lists.specs.Kit.{_≡_, refl, sym, ap, _∙_, _+_, _-_, _≤_, arith, length, getD, now, needs}
 use lib.Dec.{leb}
 use Rattle.lists.specs.All.{allOf, all-zero}
 use Rattle.opening.specs.OpeningLaws.{all-more}

@@ -1,11 +1,6 @@
 -- `permutation::below` meets its contract: after t turns the first t entries are below the length.
-use mathlib.Core.Path.{sym}
-use Prim.Native.Nat.{ℕ, _-_, _≤_, _<_}
-use native.Mathlib.Omega.{arith}
+use Rattle.lists.specs.Kit.{sym, ℕ, _-_, _<_, _≤_, arith, length, getD, now, needs}
 use borrow.Author.Count.{below-more}
-use borrow.Author.Needs.{needs}
-use lib.ListN.{length, getD}
-use denote.Ref.{now}
 use Rattle.permutation.specs.PermutationLaws.{high-stops, low-end}
 use Rattle.permutation.proofs.below.Statement.{statement}
 use Rattle.permutation.proofs.below.Tie as tie

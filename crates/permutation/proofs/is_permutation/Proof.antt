@@ -1,11 +1,6 @@
 -- `permutation::is_permutation` meets its contract: no number below `base` stands twice.
-use mathlib.Core.Path.{sym, _∙_}
-use Prim.Native.Nat.{_-_, _≤_}
-use native.Mathlib.Omega.{arith}
-use borrow.Author.Needs.{needs}
+use Rattle.lists.specs.Kit.{sym, _∙_, _-_, _≤_, arith, length, now, needs}
 use borrow.Author.Tests.{not-true, not-false}
-use lib.ListN.{length}
-use denote.Ref.{now}
 use Rattle.permutation.specs.PermutationLaws.{Done, done-zero, not-low, window-bad, window-next, windows-end}
 use Rattle.permutation.proofs.is_permutation.Statement.{statement}
 use Rattle.permutation.proofs.is_permutation.Tie as tie

@@ -1,11 +1,7 @@
 -- `permutation::mark` meets its contract: at turn t the first t entries are good, and their numbers among the 16,384 are marked.
-use mathlib.Core.Path.{_≡_, refl, sym, ap, _∙_, subst}
+use Rattle.lists.specs.Kit.{_≡_, refl, sym, ap, subst, _∙_, _+_, _-_, _≤_, arith, length, now, needs}
 use mathlib.Core.Logic.{⊎-elim}
-use Prim.Native.Nat.{_+_, _-_, _≤_}
-use native.Mathlib.Omega.{arith}
-use borrow.Author.Needs.{needs}
-use lib.ListN.{length, length-set}
-use denote.Ref.{now}
+use lib.ListN.{length-set}
 use Rattle.permutation.specs.PermutationLaws.{Marked, marked-zero, marked-turn, marked-past, marked-end, seen-stops}
 use Rattle.permutation.proofs.mark.Statement.{statement}
 use Rattle.permutation.proofs.mark.Tie as tie

@@ -1,7 +1,5 @@
 -- `plan::bits_count` meets its contract.
-use mathlib.Core.Path.{refl}
-use native.Mathlib.Omega.{arith}
-use borrow.Author.Needs.{needs}
+use Rattle.lists.specs.Kit.{refl, arith, needs}
 use Rattle.plan.specs.Plan.{bitsCount}
 use Rattle.plan.specs.PlanLaws.{leaky-most}
 use Rattle.plan.proofs.bits_count.Statement.{statement}

@@ -1,6 +1,5 @@
 -- `plan::bucket_size` meets its contract.
-use mathlib.Core.Path.{refl}
-use native.Mathlib.Omega.{arith}
+use Rattle.lists.specs.Kit.{refl, arith}
 use borrow.Author.Tests.{le-leb, lt-leb}
 use Rattle.plan.specs.Plan.{bucketSize}
 use Rattle.plan.proofs.bucket_size.Statement.{statement}

@@ -1,7 +1,6 @@
 -- `plan::count_due` meets its contract.
-use mathlib.Core.Path.{refl, sym}
+use Rattle.lists.specs.Kit.{refl, sym, needs}
 use mathlib.Core.Logic.{⊎-elim, inl, inr}
-use borrow.Author.Needs.{needs}
 use Rattle.plan.specs.Plan.{countDue}
 use Rattle.plan.specs.PlanLaws.{Rest, count-rest}
 use Rattle.plan.proofs.count_due.Statement.{statement}

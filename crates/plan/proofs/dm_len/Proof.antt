@@ -1,6 +1,5 @@
 -- `plan::dm_len` meets its contract.
-use mathlib.Core.Path.{refl}
-use borrow.Author.Needs.{needs}
+use Rattle.lists.specs.Kit.{refl, needs}
 use Rattle.plan.specs.Plan.{dmLen}
 use Rattle.plan.proofs.dm_len.Statement.{statement}
 use Rattle.plan.proofs.dm_len.Tie as tie

@@ -1,6 +1,5 @@
 -- `plan::in_range` meets its contract.
-use mathlib.Core.Path.{refl}
-use borrow.Author.Needs.{needs}
+use Rattle.lists.specs.Kit.{refl, needs}
 use Rattle.plan.specs.Plan.{inRange}
 use Rattle.plan.proofs.in_range.Statement.{statement}
 use Rattle.plan.proofs.in_range.Tie as tie

@@ -1,6 +1,5 @@
 -- `plan::is_round` meets its contract.
-use mathlib.Core.Path.{refl}
-use borrow.Author.Needs.{needs}
+use Rattle.lists.specs.Kit.{refl, needs}
 use Rattle.plan.specs.Plan.{isRound}
 use Rattle.plan.proofs.is_round.Statement.{statement}
 use Rattle.plan.proofs.is_round.Tie as tie

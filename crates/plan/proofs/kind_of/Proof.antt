@@ -1,8 +1,6 @@
 -- `plan::kind_of` meets its contract.
-use mathlib.Core.Path.{refl, sym}
+use Rattle.lists.specs.Kit.{refl, sym, arith, needs}
 use mathlib.Core.Logic.{⊎-elim, inl, inr}
-use native.Mathlib.Omega.{arith}
-use borrow.Author.Needs.{needs}
 use Rattle.plan.specs.Plan.{kindOf}
 use Rattle.plan.specs.PlanLaws.{bucket-low, Rest, kind-rest}
 use Rattle.plan.proofs.kind_of.Statement.{statement}

@@ -1,7 +1,5 @@
 -- `plan::leaky` meets its contract.
-use mathlib.Core.Path.{refl}
-use native.Mathlib.Omega.{arith}
-use borrow.Author.Needs.{needs}
+use Rattle.lists.specs.Kit.{refl, arith, needs}
 use Rattle.plan.specs.Plan.{leaky}
 use Rattle.plan.specs.PlanLaws.{leaky-most}
 use Rattle.plan.proofs.leaky.Statement.{statement}

@@ -1,9 +1,6 @@
 -- `plan::list_len` meets its contract.
-use mathlib.Core.Path.{refl, subst}
-use Prim.Native.Nat.{_+_, _-_, _*_, _≤_}
-use native.Mathlib.Omega.{arith}
+use Rattle.lists.specs.Kit.{refl, subst, _+_, _-_, _*_, _≤_, arith, needs}
 use native.Mathlib.Nat.{mul-le-mul}
-use borrow.Author.Needs.{needs}
 use Rattle.plan.specs.Plan.{listLen, dmLen, Listed}
 use Rattle.plan.proofs.list_len.Statement.{statement}
 use Rattle.plan.proofs.list_len.Tie as tie

@@ -1,8 +1,6 @@
 -- `plan::masks_len` meets its contract.
-use mathlib.Core.Path.{refl, sym, _∙_}
-use native.Mathlib.Omega.{arith}
+use Rattle.lists.specs.Kit.{refl, sym, _∙_, arith, needs}
 use native.Mathlib.Nat.{mul-le-mul}
-use borrow.Author.Needs.{needs}
 use Rattle.plan.specs.Plan.{masksLen, InRange}
 use Rattle.plan.specs.PlanLaws.{in-range-true, leaky-most}
 use Rattle.plan.proofs.masks_len.Statement.{statement}

@@ -1,6 +1,5 @@
 -- `plan::msg_len` meets its contract.
-use mathlib.Core.Path.{refl}
-use borrow.Author.Needs.{needs}
+use Rattle.lists.specs.Kit.{refl, needs}
 use Rattle.plan.specs.Plan.{msgLen}
 use Rattle.plan.specs.PlanLaws.{listed}
 use Rattle.plan.proofs.msg_len.Statement.{statement}

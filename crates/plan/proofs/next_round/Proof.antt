@@ -1,10 +1,7 @@
 -- `plan::next_round` meets its contract.
-use mathlib.Core.Path.{refl, sym, ap, _∙_}
-use mathlib.Core.Bool.{_&&_}
-use native.Mathlib.Omega.{arith}
+use Rattle.lists.specs.Kit.{refl, sym, ap, _∙_, _&&_, arith, needs}
 use lib.Dec.{eqb}
 use Rattle.lists.specs.Pick.{tests}
-use borrow.Author.Needs.{needs}
 use borrow.Author.Tests.{lt-leb}
 use Rattle.plan.specs.Plan.{nextRound}
 use Rattle.plan.proofs.next_round.Statement.{statement}

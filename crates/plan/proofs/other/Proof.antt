@@ -1,7 +1,6 @@
 -- `plan::other` meets its contract.
-use native.Mathlib.Omega.{arith}
+use Rattle.lists.specs.Kit.{arith, needs}
 use Rattle.lists.specs.Pick.{tests}
-use borrow.Author.Needs.{needs}
 use Rattle.plan.specs.Plan.{other}
 use Rattle.plan.proofs.other.Statement.{statement}
 use Rattle.plan.proofs.other.Tie as tie

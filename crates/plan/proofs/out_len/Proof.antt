@@ -1,9 +1,6 @@
 -- `plan::out_len` meets its contract.
-use mathlib.Core.Path.{refl, sym, ap, _∙_}
-use Prim.Native.Nat.{_-_, _≤_}
-use native.Mathlib.Omega.{arith}
+use Rattle.lists.specs.Kit.{refl, sym, ap, _∙_, _-_, _≤_, arith, needs}
 use native.Mathlib.Nat.{mul-le-mul}
-use borrow.Author.Needs.{needs}
 use borrow.Author.Tests.{ne-eqb}
 use Rattle.plan.specs.Plan.{outLen, InRange}
 use Rattle.plan.specs.PlanLaws.{in-range-true, msg-most}

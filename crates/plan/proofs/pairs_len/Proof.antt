@@ -1,7 +1,5 @@
 -- `plan::pairs_len` meets its contract.
-use mathlib.Core.Path.{refl, sym, _∙_}
-use native.Mathlib.Omega.{arith}
-use borrow.Author.Needs.{needs}
+use Rattle.lists.specs.Kit.{refl, sym, _∙_, arith, needs}
 use Rattle.plan.specs.Plan.{pairsLen}
 use Rattle.plan.specs.PlanLaws.{parties-true}
 use Rattle.plan.proofs.pairs_len.Statement.{statement}

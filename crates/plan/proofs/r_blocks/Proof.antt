@@ -1,7 +1,5 @@
 -- `plan::r_blocks` meets its contract.
-use mathlib.Core.Path.{refl}
-use native.Mathlib.Omega.{arith}
-use borrow.Author.Needs.{needs}
+use Rattle.lists.specs.Kit.{refl, arith, needs}
 use Rattle.plan.specs.Plan.{rBlocks}
 use Rattle.plan.specs.PlanLaws.{bits-most}
 use Rattle.plan.proofs.r_blocks.Statement.{statement}

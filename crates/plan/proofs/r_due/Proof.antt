@@ -1,6 +1,5 @@
 -- `plan::r_due` meets its contract.
-use mathlib.Core.Path.{refl, sym, _∙_}
-use borrow.Author.Needs.{needs}
+use Rattle.lists.specs.Kit.{refl, sym, _∙_, needs}
 use borrow.Author.Tests.{ne-eqb}
 use Rattle.plan.specs.Plan.{rDue, InRange}
 use Rattle.plan.specs.PlanLaws.{in-range-true}

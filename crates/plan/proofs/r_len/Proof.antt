@@ -1,7 +1,5 @@
 -- `plan::r_len` meets its contract.
-use mathlib.Core.Path.{refl}
-use native.Mathlib.Omega.{arith}
-use borrow.Author.Needs.{needs}
+use Rattle.lists.specs.Kit.{refl, arith, needs}
 use Rattle.plan.specs.Plan.{rLen}
 use Rattle.plan.specs.PlanLaws.{r-blocks-most}
 use Rattle.plan.proofs.r_len.Statement.{statement}

@@ -1,8 +1,6 @@
 -- `plan::round_name` meets its contract.
-use mathlib.Core.Path.{refl}
-use native.Mathlib.Omega.{arith}
+use Rattle.lists.specs.Kit.{refl, arith, needs}
 use Rattle.lists.specs.Pick.{tests}
-use borrow.Author.Needs.{needs}
 use Rattle.plan.specs.Names.{ascii, padded, names, roundName}
 use Rattle.plan.proofs.round_name.Statement.{statement}
 use Rattle.plan.proofs.round_name.Tie as tie

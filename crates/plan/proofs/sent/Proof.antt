@@ -1,9 +1,6 @@
 -- `plan::sent` meets its contract.
-use mathlib.Core.Path.{refl, sym, _∙_}
-use Prim.Native.Nat.{_-_, _≤_}
-use native.Mathlib.Omega.{arith}
+use Rattle.lists.specs.Kit.{refl, sym, _∙_, _-_, _≤_, arith, needs}
 use native.Mathlib.Nat.{mul-le-mul}
-use borrow.Author.Needs.{needs}
 use Rattle.plan.specs.Plan.{sent, InRange}
 use Rattle.plan.specs.PlanLaws.{in-range-true, sent-most}
 use Rattle.plan.proofs.sent.Statement.{statement}

@@ -1,9 +1,6 @@
 -- `plan::sent_to_one` meets its contract: at turn k the sum is that of rounds 1 to k.
-use mathlib.Core.Path.{_≡_, refl, sym, ap, _∙_}
+use Rattle.lists.specs.Kit.{_≡_, refl, sym, ap, _∙_, ℕ, _+_, _-_, _≤_, arith, needs}
 use mathlib.Core.Logic.{⊎-elim}
-use Prim.Native.Nat.{ℕ, _+_, _-_, _≤_}
-use native.Mathlib.Omega.{arith}
-use borrow.Author.Needs.{needs}
 use Rattle.plan.specs.Plan.{sentUpTo}
 use Rattle.plan.specs.PlanLaws.{sent-with, sent-without, sent-most, msg-most}
 use Rattle.plan.proofs.sent_to_one.Statement.{statement}

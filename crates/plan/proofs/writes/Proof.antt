@@ -1,8 +1,6 @@
 -- `plan::writes` meets its contract.
-use mathlib.Core.Path.{refl, sym, ap, _∙_}
-use mathlib.Core.Bool.{_||_}
+use Rattle.lists.specs.Kit.{refl, sym, ap, _∙_, _||_, needs}
 use lib.Dec.{eqb}
-use borrow.Author.Needs.{needs}
 use Rattle.plan.specs.Plan.{writes}
 use Rattle.plan.proofs.writes.Statement.{statement}
 use Rattle.plan.proofs.writes.Tie as tie

@@ -1,11 +1,6 @@
 -- The loop's invariant: the words of the first j strings have the chosen digits added.
-use mathlib.Core.Path.{ap₂}
-use Prim.Native.Nat.{_+_, _*_, _-_, _≤_}
-use native.Mathlib.Omega.{arith}
+use Rattle.lists.specs.Kit.{ap₂, _+_, _-_, _*_, _≤_, arith, length, now, needs}
 use lib.Bits.{bitXor, bitAnd}
-use lib.ListN.{length}
-use denote.Ref.{now}
-use borrow.Author.Needs.{needs}
 use Rattle.lists.specs.Over.{in-record}
 use Rattle.rbits.specs.Tables.{maskedAt}
 use Rattle.rbits.specs.LoopLaws.{Filled, filled-zero, filled-turn, filled-get, filled-end}

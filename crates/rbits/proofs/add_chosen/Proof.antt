@@ -1,9 +1,6 @@
 -- The loop's invariant: the sums of the first j strings have what is chosen added.
-use Prim.Native.Nat.{_*_, _-_, _≤_}
-use native.Mathlib.Omega.{arith}
+use Rattle.lists.specs.Kit.{_-_, _*_, _≤_, arith, now, needs}
 use lib.ListN.{length-set}
-use denote.Ref.{now}
-use borrow.Author.Needs.{needs}
 use Rattle.lists.specs.Over.{Written, written-zero, written-end}
 use Rattle.rbits.specs.Chosen.{wordsOf}
 use Rattle.rbits.specs.Tables.{addedAt}

@@ -1,10 +1,5 @@
 -- The loop's invariant: each string's word has the chosen bits of the first g groups.
-use mathlib.Core.Path.{_≡_, refl, _∙_}
-use Prim.Native.Nat.{_+_, _*_, _-_, _<_}
-use native.Mathlib.Omega.{arith}
-use lib.ListN.{length}
-use denote.Ref.{now}
-use borrow.Author.Needs.{needs}
+use Rattle.lists.specs.Kit.{_≡_, refl, _∙_, _+_, _-_, _*_, _<_, arith, length, now, needs}
 use Rattle.lists.specs.Over.{tab}
 use Rattle.rbits.specs.BitLaws.{masked, masked-none, masked-turn, masked-end}
 use Rattle.rbits.proofs.bit_sums.Statement.{statement}

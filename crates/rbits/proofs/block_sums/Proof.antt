@@ -1,10 +1,5 @@
 -- The loop's invariant: the sums have the first g groups of 64 records.
-use mathlib.Core.Path.{_≡_, refl, _∙_}
-use Prim.Native.Nat.{_+_, _*_, _-_, _<_}
-use native.Mathlib.Omega.{arith}
-use lib.ListN.{length}
-use denote.Ref.{now}
-use borrow.Author.Needs.{needs}
+use Rattle.lists.specs.Kit.{_≡_, refl, _∙_, _+_, _-_, _*_, _<_, arith, length, now, needs}
 use Rattle.rbits.specs.Chosen.{wordsOf}
 use Rattle.rbits.specs.ChosenLaws.{groups, groups-none, groups-turn, groups-all, words-ext}
 use Rattle.rbits.proofs.block_sums.Statement.{statement}

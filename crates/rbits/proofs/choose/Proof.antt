@@ -1,9 +1,7 @@
 -- The loop's invariant: a and b are the sums of the first k entries.
-use mathlib.Core.Path.{_≡_, refl, ap, _∙_}
-use Prim.Native.Nat.{_+_, _*_, _-_, _/_, _^_, _≤_, _<_}
-use native.Mathlib.Omega.{arith}
+use Rattle.lists.specs.Kit.{_≡_, refl, ap, _∙_, _+_, _-_, _*_, _<_, _≤_, arith, now}
+use Prim.Native.Nat.{_/_, _^_}
 use lib.Bits.{bitAnd, mask-lt}
-use denote.Ref.{now}
 use Rattle.algebra.specs.Group.{numbers}
 use Rattle.algebra.specs.Sum.{sum}
 use Rattle.rbits.specs.Tables.{entry, lookup}

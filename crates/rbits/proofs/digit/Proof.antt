@@ -1,10 +1,5 @@
 -- A record's bit lies within; past the last record it is 0.
-use mathlib.Core.Path.{_∙_}
-use Prim.Native.Nat.{_+_, _*_, _≤_}
-use native.Mathlib.Omega.{arith}
-use lib.ListN.{length, getD}
-use denote.Ref.{now}
-use borrow.Author.Needs.{needs}
+use Rattle.lists.specs.Kit.{_∙_, _+_, _*_, _≤_, arith, length, getD, now, needs}
 use borrow.Author.Tests.{lt-ltb, le-ltb}
 use Rattle.lists.specs.Over.{in-record}
 use Rattle.rbits.specs.Tables.{recordBit}

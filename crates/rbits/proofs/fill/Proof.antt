@@ -1,10 +1,5 @@
 -- The loop's invariant: the first k tables are written.
-use mathlib.Core.Path.{_≡_, _∙_}
-use mathlib.Core.List.{List}
-use Prim.Native.Nat.{ℕ, _+_, _*_, _-_, _≤_}
-use native.Mathlib.Omega.{arith}
-use denote.Ref.{now}
-use borrow.Author.Needs.{needs}
+use Rattle.lists.specs.Kit.{_≡_, _∙_, List, ℕ, _+_, _-_, _*_, _≤_, arith, now, needs}
 use Rattle.lists.specs.Over.{Written, written-zero, written-turn, written-end}
 use Rattle.rbits.specs.Tables.{recordWord, sums, tables}
 use Rattle.rbits.specs.TableLaws.{sums4-at, length-sums}

@@ -1,9 +1,6 @@
 -- The loop's invariant: w has the first e bits.
-use mathlib.Core.Path.{_≡_, refl, ap, _∙_}
-use Prim.Native.Nat.{_+_, _*_, _-_, _%_, _^_, _≤_}
-use native.Mathlib.Omega.{arith}
-use denote.Ref.{now}
-use borrow.Author.Needs.{needs}
+use Rattle.lists.specs.Kit.{_≡_, refl, ap, _∙_, _+_, _-_, _*_, _≤_, arith, now, needs}
+use Prim.Native.Nat.{_%_, _^_}
 use Rattle.rbits.specs.Tables.{recordBit, packed}
 use Rattle.rbits.specs.BitLaws.{packed-fits, packed-turn}
 use Rattle.rbits.proofs.pack.Statement.{statement}

@@ -1,11 +1,6 @@
 -- The loop's invariant: the bits of the first j strings are written.
-use mathlib.Core.Path.{_≡_, refl}
-use Prim.Native.Nat.{_-_, _≤_}
-use native.Mathlib.Omega.{arith}
-use lib.ListN.{length, getD}
+use Rattle.lists.specs.Kit.{_≡_, refl, _-_, _≤_, arith, length, getD, now, needs}
 use lib.Count.{ones}
-use denote.Ref.{now}
-use borrow.Author.Needs.{needs}
 use Rattle.algebra.specs.Group.{odd, num}
 use Rattle.rbits.specs.LoopLaws.{Filled, filled-zero, filled-turn, filled-end}
 use Rattle.rbits.specs.DigitLaws.{num-mod}

@@ -1,7 +1,5 @@
-use native.Mathlib.Omega.{arith}
+use Rattle.lists.specs.Kit.{arith, now, needs}
 use lib.ListN.{length-set}
-use denote.Ref.{now}
-use borrow.Author.Needs.{needs}
 use Rattle.lists.specs.Over.{sets-all}
 use Rattle.rbits.specs.Tables.{sums, sums4}
 use Rattle.rbits.proofs.put_sums.Statement.{statement}

@@ -1,8 +1,5 @@
 -- The loop's invariant: the words of the first j strings are written.
-use Prim.Native.Nat.{_+_, _*_, _-_, _≤_}
-use native.Mathlib.Omega.{arith}
-use lib.ListN.{length}
-use denote.Ref.{now}
+use Rattle.lists.specs.Kit.{_+_, _-_, _*_, _≤_, arith, length, now}
 use Rattle.lists.specs.Over.{in-record}
 use Rattle.rbits.specs.Tables.{rWord, rWords}
 use Rattle.rbits.specs.LoopLaws.{Filled, filled-zero, filled-turn, filled-end}

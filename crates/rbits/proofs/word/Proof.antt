@@ -1,9 +1,5 @@
 -- A record's word lies within; past the last record it is 0.
-use mathlib.Core.Path.{_∙_}
-use Prim.Native.Nat.{_+_, _*_, _≤_}
-use native.Mathlib.Omega.{arith}
-use lib.ListN.{length}
-use denote.Ref.{now}
+use Rattle.lists.specs.Kit.{_∙_, _+_, _*_, _≤_, arith, length, now}
 use borrow.Author.Tests.{lt-ltb, le-ltb}
 use Rattle.lists.specs.Over.{in-record}
 use Rattle.rbits.specs.Tables.{recordWord}

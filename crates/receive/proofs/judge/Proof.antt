@@ -1,7 +1,5 @@
 -- An arm for each round that has a content check.
-use mathlib.Core.Path.{refl}
-use native.Mathlib.Omega.{arith}
-use denote.Ref.{now}
+use Rattle.lists.specs.Kit.{refl, arith, now}
 use Rattle.plan.specs.Plan.{leaky, kindOf, countDue}
 use Rattle.engine.specs.Step.{frame}
 use Rattle.rounds.specs.Mail.{letter}

@@ -1,9 +1,8 @@
-use native.Mathlib.Omega.{arith}
+use Rattle.lists.specs.Kit.{arith, needs}
 use Rattle.engine.specs.Step.{frame}
 use Rattle.rounds.specs.Area.{KEY-SUMS}
 use Rattle.receive.specs.WorkLaws.{size-key-sums, lent-length}
 use Rattle.receive.specs.MailLaws.{finds-told}
-use borrow.Author.Needs.{needs}
 use Rattle.receive.proofs.judge_abits.Statement.{statement}
 use Rattle.receive.proofs.judge_abits.Tie as tie
 

@@ -1,9 +1,8 @@
-use native.Mathlib.Omega.{arith}
+use Rattle.lists.specs.Kit.{arith, needs}
 use Rattle.engine.specs.Step.{frame}
 use Rattle.rounds.specs.Area.{BITS, SHARE-COMMS, DMS}
 use Rattle.receive.specs.WorkLaws.{in-range, size-bits, size-share-comms, size-dms, lent-length}
 use Rattle.receive.specs.MailLaws.{finds-told}
-use borrow.Author.Needs.{needs}
 use Rattle.receive.proofs.judge_dibi.Statement.{statement}
 use Rattle.receive.proofs.judge_dibi.Tie as tie
 

@@ -1,8 +1,7 @@
-use native.Mathlib.Omega.{arith}
+use Rattle.lists.specs.Kit.{arith, needs}
 use Rattle.engine.specs.Step.{frame}
 use Rattle.rounds.specs.Area.{BITS, PERM}
 use Rattle.receive.specs.WorkLaws.{size-bits, size-perm, lent-length}
-use borrow.Author.Needs.{needs}
 use Rattle.receive.proofs.judge_dvalues.Statement.{statement}
 use Rattle.receive.proofs.judge_dvalues.Tie as tie
 

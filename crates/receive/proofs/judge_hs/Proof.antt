@@ -1,8 +1,7 @@
-use native.Mathlib.Omega.{arith}
+use Rattle.lists.specs.Kit.{arith, needs}
 use Rattle.engine.specs.Step.{frame}
 use Rattle.rounds.specs.Area.{HS, H-COMMS}
 use Rattle.receive.specs.WorkLaws.{size-hs, size-h-comms, lent-length}
-use borrow.Author.Needs.{needs}
 use Rattle.receive.proofs.judge_hs.Statement.{statement}
 use Rattle.receive.proofs.judge_hs.Tie as tie
 

@@ -1,13 +1,9 @@
-use mathlib.Core.Path.{subst}
-use mathlib.Core.List.{List}
-use Prim.Native.Nat.{ℕ}
-use denote.Ref.{now}
+use Rattle.lists.specs.Kit.{subst, List, ℕ, now, needs}
 use Rattle.engine.specs.Step.{frame}
 use Rattle.rounds.specs.Mail.{letter}
 use Rattle.rounds.specs.FaultLaws.{Finds}
 use Rattle.rounds.specs.Toss.{opening}
 use Rattle.receive.specs.WorkLaws.{lent-length}
-use borrow.Author.Needs.{needs}
 use Rattle.receive.proofs.judge_seeds.Statement.{statement}
 use Rattle.receive.proofs.judge_seeds.Tie as tie
 

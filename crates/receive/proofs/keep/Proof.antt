@@ -1,7 +1,5 @@
 -- An arm for each round of which something is kept.
-use mathlib.Core.Path.{refl}
-use native.Mathlib.Omega.{arith}
-use denote.Ref.{now}
+use Rattle.lists.specs.Kit.{refl, arith, now, needs}
 use Rattle.plan.specs.Plan.{leaky, kindOf, countDue}
 use Rattle.engine.specs.Step.{frame}
 use Rattle.rounds.specs.Mail.{letter}
@@ -9,7 +7,6 @@ use Rattle.rounds.specs.DmLaws.{checked}
 use Rattle.rounds.specs.Table.{judge, kept}
 use Rattle.rounds.specs.Area.{sizes, sizeOf}
 use Rattle.receive.specs.MailLaws.{received-at, arrived-at, clean-at, kept-at, kept-none}
-use borrow.Author.Needs.{needs}
 use Rattle.receive.proofs.keep.Statement.{statement}
 use Rattle.receive.proofs.keep.Tie as tie
 

@@ -1,7 +1,6 @@
 use Rattle.rounds.specs.Mail.{letter}
-use denote.Ref.{now}
+use Rattle.lists.specs.Kit.{now, needs}
 use Rattle.receive.specs.WorkLaws.{both-kept}
-use borrow.Author.Needs.{needs}
 use Rattle.receive.proofs.keep_flaand.Statement.{statement}
 use Rattle.receive.proofs.keep_flaand.Tie as tie
 

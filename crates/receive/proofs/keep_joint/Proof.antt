@@ -1,16 +1,10 @@
-use mathlib.Core.Path.{_≡_, ap, sym, _∙_}
-use mathlib.Core.List.{List}
-use Prim.Native.Nat.{ℕ, _+_, _-_}
-use native.Mathlib.Omega.{arith}
-use lib.ListN.{length, take, drop}
-use denote.Ref.{now}
+use Rattle.lists.specs.Kit.{_≡_, sym, ap, _∙_, List, ℕ, _+_, _-_, arith, length, take, drop, now, needs}
 use Rattle.fill.specs.Copied.{copied}
 use Rattle.engine.specs.Step.{frame}
 use Rattle.rounds.specs.Area.{SEED, JOINT}
 use Rattle.rounds.specs.Mail.{letter}
 use Rattle.rounds.specs.Toss.{jointSeed}
 use Rattle.receive.specs.WorkLaws.{size-seed, size-joint, lent-length, ends, part-length, put-back, length-joint}
-use borrow.Author.Needs.{needs}
 use Rattle.receive.proofs.keep_joint.Statement.{statement}
 use Rattle.receive.proofs.keep_joint.Tie as tie
 

@@ -1,6 +1,5 @@
 -- The section is lent from where it starts to where it ends.
-use native.Mathlib.Omega.{arith}
-use borrow.Author.Needs.{needs}
+use Rattle.lists.specs.Kit.{arith, needs}
 use Rattle.receive.specs.WorkLaws.{ends, part-length, put-back}
 use Rattle.receive.proofs.keep_told.Statement.{statement}
 use Rattle.receive.proofs.keep_told.Tie as tie

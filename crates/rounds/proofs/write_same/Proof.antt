@@ -1,11 +1,6 @@
 -- The loop's invariant: the stretches of the first q other parties are written.
-use mathlib.Core.List.{List, _++_}
-use Prim.Native.Nat.{ℕ, _+_, _-_, _*_, _≤_}
+use Rattle.lists.specs.Kit.{List, _++_, ℕ, _+_, _-_, _*_, _≤_, arith, length, now, needs}
 use native.Mathlib.Nat.{zero-mul}
-use native.Mathlib.Omega.{arith}
-use lib.ListN.{length}
-use denote.Ref.{now}
-use borrow.Author.Needs.{needs}
 use Rattle.lists.specs.Over.{Written, in-chunks, length-take-drop}
 use Rattle.block.specs.Block.{le8}
 use Rattle.engine.specs.Area.{toOthers}

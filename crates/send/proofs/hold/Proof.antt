@@ -1,5 +1,4 @@
-use denote.Ref.{now}
-use borrow.Author.Needs.{needs}
+use Rattle.lists.specs.Kit.{now, needs}
 use Rattle.engine.specs.Step.{frame, Loan}
 use Rattle.send.specs.SendLaws.{strings-lent, perm-lent, held-none, held-sums, held-leaky, held-comms, held-perm, held-triples}
 use Rattle.send.proofs.hold.Statement.{statement}

@@ -1,9 +1,4 @@
-use mathlib.Core.Path.{_≡_, sym, ap, _∙_}
-use Prim.Native.Nat.{_+_, _*_, _≤_}
-use native.Mathlib.Omega.{arith}
-use lib.ListN.{length, getD}
-use denote.Ref.{now}
-use borrow.Author.Needs.{needs}
+use Rattle.lists.specs.Kit.{_≡_, sym, ap, _∙_, _+_, _*_, _≤_, arith, length, getD, now, needs}
 use Rattle.lists.specs.Over.{cat}
 use Rattle.engine.specs.Step.{frame}
 use Rattle.rounds.specs.Area.{PERM, sizeOf, keep}

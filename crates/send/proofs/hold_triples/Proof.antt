@@ -1,6 +1,4 @@
-use mathlib.Core.Path.{ap, _∙_}
-use denote.Ref.{now}
-use borrow.Author.Needs.{needs}
+use Rattle.lists.specs.Kit.{ap, _∙_, now, needs}
 use Rattle.engine.specs.Step.{frame}
 use Rattle.rounds.specs.Area.{BITS, ZS, ES, PERM, DS, TRIPLES, at, keep}
 use Rattle.rounds.specs.Buckets.{tripleRows}

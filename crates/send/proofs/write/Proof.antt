@@ -1,8 +1,4 @@
-use mathlib.Core.Path.{_≡_, refl}
-use Prim.Native.Nat.{ℕ, _-_, _*_}
-use lib.ListN.{length}
-use denote.Ref.{now}
-use borrow.Author.Needs.{needs}
+use Rattle.lists.specs.Kit.{_≡_, refl, ℕ, _-_, _*_, length, now, needs}
 use Rattle.plan.specs.Plan.{msgLen}
 use Rattle.engine.specs.Step.{Loan}
 use Rattle.rounds.specs.Area.{SEED, PAIRS, BITS, HS}

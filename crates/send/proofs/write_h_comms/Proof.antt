@@ -1,11 +1,5 @@
-use mathlib.Core.Path.{_≡_, refl, ap, ap₂, _∙_}
-use mathlib.Core.List.{List, _++_}
-use Prim.Native.Nat.{ℕ, _+_, _*_, _≤_}
+use Rattle.lists.specs.Kit.{_≡_, refl, ap, ap₂, _∙_, List, _++_, ℕ, _+_, _*_, _≤_, arith, length, now, needs}
 use native.Mathlib.Nat.{mul-le-mul}
-use native.Mathlib.Omega.{arith}
-use lib.ListN.{length}
-use denote.Ref.{now}
-use borrow.Author.Needs.{needs}
 use Rattle.lists.specs.Over.{in-chunks, length-take-drop}
 use Rattle.lists.specs.Rows.{chunk}
 use Rattle.block.specs.Block.{le8}

@@ -1,11 +1,9 @@
-use mathlib.Core.Path.{_≡_, refl, sym, _∙_, subst}
-use denote.Ref.{now}
+use Rattle.lists.specs.Kit.{_≡_, refl, sym, subst, _∙_, now, needs}
 use Rattle.engine.specs.Step.{frame, mask}
 use Rattle.rounds.specs.Mail.{letter}
 use Rattle.rounds.specs.FaultLaws.{Finds}
 use Rattle.admit.specs.AdmitLaws.{round-one, round-low}
 use Rattle.session.specs.SessionLaws.{echo-received, check-echo, check-held, check-plain}
-use borrow.Author.Needs.{needs}
 use Rattle.session.proofs.content.Statement.{statement}
 use Rattle.session.proofs.content.Tie as tie
 use Rattle.session.proofs.content.Reads as reads

@@ -1,12 +1,6 @@
-use mathlib.Core.Path.{_≡_, sym, ap, _∙_, subst}
-use mathlib.Core.List.{List, []}
-use Prim.Native.Nat.{ℕ, _≤_}
-use native.Mathlib.Omega.{arith}
-use lib.ListN.{length, replicate}
+use Rattle.lists.specs.Kit.{_≡_, sym, ap, subst, _∙_, List, [], ℕ, _≤_, arith, length, replicate, now, needs}
 use lib.Seq.{length-take-le}
 use borrow.Author.Tests.{eq-eqb}
-use borrow.Author.Needs.{needs}
-use denote.Ref.{now}
 use Rattle.lists.specs.Pick.{pick}
 use Rattle.plan.specs.Plan.{kindOf}
 use Rattle.engine.specs.Step.{frame, faultOf}

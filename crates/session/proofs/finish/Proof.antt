@@ -1,9 +1,7 @@
-use mathlib.Core.Path.{_≡_, sym, _∙_}
-use denote.Ref.{now}
+use Rattle.lists.specs.Kit.{_≡_, sym, _∙_, now, needs}
 use Rattle.engine.specs.Step.{frame}
 use Rattle.rounds.specs.Mail.{letter}
 use Rattle.session.specs.SessionLaws.{last-received, results-masked}
-use borrow.Author.Needs.{needs}
 use Rattle.session.proofs.finish.Statement.{statement}
 use Rattle.session.proofs.finish.Tie as tie
 use Rattle.session.proofs.finish.Reads as reads

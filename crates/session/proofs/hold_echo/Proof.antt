@@ -1,8 +1,5 @@
-use mathlib.Core.Path.{_≡_, ap, _∙_}
-use mathlib.Core.List.{List}
-use Prim.Native.Nat.{ℕ}
+use Rattle.lists.specs.Kit.{_≡_, ap, _∙_, List, ℕ, now, needs}
 use lib.Dec.{eqb}
-use denote.Ref.{now}
 use Rattle.lists.specs.Pick.{pick}
 use Rattle.engine.specs.Step.{frame, mask}
 use Rattle.rounds.specs.Mail.{letter}
@@ -12,7 +9,6 @@ use Rattle.broadcast.specs.BroadcastLaws.{waits-found}
 use Rattle.rounds.specs.Table as Table
 use Rattle.rounds.specs.Table.{table}
 use Rattle.session.specs.HeldLaws.{names-party, held-is, hashes-kept}
-use borrow.Author.Needs.{needs}
 use Rattle.session.proofs.hold_echo.Statement.{statement}
 use Rattle.session.proofs.hold_echo.Tie as tie
 use Rattle.session.proofs.hold_echo.Reads as reads

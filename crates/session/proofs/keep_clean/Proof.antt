@@ -1,7 +1,5 @@
-use mathlib.Core.Path.{_≡_, sym, _∙_}
-use denote.Ref.{now}
+use Rattle.lists.specs.Kit.{_≡_, sym, _∙_, now, needs}
 use Rattle.session.specs.SessionLaws.{zero-takes, other-leaves}
-use borrow.Author.Needs.{needs}
 use Rattle.session.proofs.keep_clean.Statement.{statement}
 use Rattle.session.proofs.keep_clean.Tie as tie
 use Rattle.session.proofs.keep_clean.Reads as reads

@@ -1,8 +1,6 @@
-use mathlib.Core.Path.{_≡_, sym, _∙_}
-use denote.Ref.{now}
+use Rattle.lists.specs.Kit.{_≡_, sym, _∙_, now, needs}
 use Rattle.admit.specs.AdmitLaws.{echo-is}
 use Rattle.session.specs.SessionLaws.{plain-takes, echo-leaves}
-use borrow.Author.Needs.{needs}
 use Rattle.session.proofs.keep_received.Statement.{statement}
 use Rattle.session.proofs.keep_received.Tie as tie
 use Rattle.session.proofs.keep_received.Reads as reads

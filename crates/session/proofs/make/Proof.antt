@@ -1,14 +1,10 @@
-use mathlib.Core.Path.{sym, ap, _∙_, subst}
-use mathlib.Core.List.{List}
-use Prim.Native.Nat.{ℕ}
-use denote.Ref.{now}
+use Rattle.lists.specs.Kit.{sym, ap, subst, _∙_, List, ℕ, now, needs}
 use Rattle.engine.specs.Step.{frame}
 use Rattle.engine.specs.Area.{toOthers}
 use Rattle.rounds.specs.Table as Table
 use Rattle.session.specs.Given.{loan}
 use Rattle.send.specs.Held.{Held}
 use Rattle.send.specs.SendLaws.{held-for}
-use borrow.Author.Needs.{needs}
 use Rattle.session.proofs.make.Statement.{statement}
 use Rattle.session.proofs.make.Tie as tie
 use Rattle.session.proofs.make.Reads as reads

@@ -1,10 +1,5 @@
-use mathlib.Core.Path.{_≡_, sym, ap, _∙_}
-use mathlib.Core.List.{List}
-use Prim.Native.Nat.{ℕ, _≤_}
-use native.Mathlib.Omega.{arith}
-use lib.ListN.{length, take}
+use Rattle.lists.specs.Kit.{_≡_, sym, ap, _∙_, List, ℕ, _≤_, arith, length, take, now, needs}
 use lib.Seq.{length-take-le}
-use denote.Ref.{now}
 use Rattle.plan.specs.Plan.{kindOf}
 use Rattle.engine.specs.Step.{replyOf, mask, faultOf}
 use Rattle.engine.specs.Plain.{checkOf}
@@ -15,7 +10,6 @@ use Rattle.session.specs.Given.{lent}
 use Rattle.engine.specs.StepLaws.{or-zero}
 use Rattle.session.specs.CallLaws.{call-refused, call-faulted, call-accepted}
 use Rattle.admit.specs.AdmitLaws.{received, lists-heard, used-any, length-used, reason-zero, round-is, round-low, parts-any}
-use borrow.Author.Needs.{needs}
 use Rattle.session.proofs.round.Statement.{statement}
 use Rattle.session.proofs.round.Tie as tie
 use Rattle.session.proofs.round.Reads as reads

@@ -1,9 +1,4 @@
-use mathlib.Core.Path.{_≡_, sym, ap, ap₂, _∙_, subst}
-use mathlib.Core.Bool.{true}
-use mathlib.Core.List.{List}
-use Prim.Native.Nat.{ℕ, _-_, _*_, _<_}
-use native.Mathlib.Omega.{arith}
-use denote.Ref.{now}
+use Rattle.lists.specs.Kit.{_≡_, sym, ap, ap₂, subst, _∙_, List, true, ℕ, _-_, _*_, _<_, arith, now, needs}
 use Rattle.plan.specs.Plan.{nextRound, msgLen}
 use Rattle.engine.specs.Step.{Fault, frame, mask}
 use Rattle.engine.specs.Area.{toOthers}
@@ -16,7 +11,6 @@ use Rattle.send.specs.SendLaws.{plain-round}
 use Rattle.session.specs.Given.{Let, loan}
 use Rattle.session.specs.SessionLaws.{next-low, next-high, next-plain, out-last, out-echo, out-made, lent-made, check-plain}
 use Rattle.session.specs.SessionLaws.{keep-last, keep-held, keep-made, write-last, write-held, write-made}
-use borrow.Author.Needs.{needs}
 use Rattle.session.proofs.step.Statement.{statement}
 use Rattle.session.proofs.step.Tie as tie
 use Rattle.session.proofs.step.Reads as reads

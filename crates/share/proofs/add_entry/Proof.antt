@@ -1,5 +1,4 @@
-use mathlib.Core.Path.{_∙_, ap, ap₂}
-use borrow.Author.Needs.{needs}
+use Rattle.lists.specs.Kit.{ap, ap₂, _∙_, needs}
 use Rattle.algebra.specs.Group.{XorGroup, sel}
 use Rattle.block.specs.Group.{blocks}
 use Rattle.share.specs.Share.{entryBytes}

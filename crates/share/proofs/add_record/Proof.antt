@@ -1,10 +1,6 @@
-use mathlib.Core.Path.{refl, ap, ap₂, _∙_}
-use mathlib.Core.Bool.{Bool, not, _&&_, Bool·beq}
-use Prim.Native.Nat.{_+_, _-_, _≤_}
-use native.Mathlib.Omega.{arith}
+use Rattle.lists.specs.Kit.{refl, ap, ap₂, _∙_, Bool, not, _&&_, _+_, _-_, _≤_, arith, now, needs}
+use mathlib.Core.Bool.{Bool·beq}
 use lib.ListN.{length-set}
-use denote.Ref.{now}
-use borrow.Author.Needs.{needs}
 use Rattle.algebra.specs.Group.{XorGroup, sel, num}
 use Rattle.share.specs.Share.{shareAt, shares, entryOf, recordOf}
 use Rattle.share.specs.ShareLaws.{length-entryOf}

@@ -1,5 +1,4 @@
-use mathlib.Core.Path.{sym}
-use borrow.Author.Needs.{needs}
+use Rattle.lists.specs.Kit.{sym, needs}
 use Rattle.share.proofs.check_records.Statement.{statement}
 use Rattle.share.proofs.check_records.Tie as tie
 

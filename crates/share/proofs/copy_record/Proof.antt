@@ -1,9 +1,5 @@
-use mathlib.Core.Path.{_≡_, refl, ap, ap₂, _∙_}
-use Prim.Native.Nat.{_+_, _-_, _≤_}
-use native.Mathlib.Omega.{arith}
+use Rattle.lists.specs.Kit.{_≡_, refl, ap, ap₂, _∙_, _+_, _-_, _≤_, arith, now, needs}
 use lib.ListN.{length-set}
-use denote.Ref.{now}
-use borrow.Author.Needs.{needs}
 use Rattle.algebra.specs.Group.{num}
 use Rattle.share.specs.Share.{shareAt, entryBytes, entryOf, recordOf}
 use Rattle.share.specs.ShareLaws.{length-entryOf}

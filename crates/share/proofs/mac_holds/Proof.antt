@@ -1,6 +1,4 @@
-use mathlib.Core.Path.{ap, ap₂, _∙_}
-use mathlib.Core.Bool.{Bool}
-use borrow.Author.Needs.{needs}
+use Rattle.lists.specs.Kit.{ap, ap₂, _∙_, Bool, needs}
 use Rattle.algebra.specs.Group.{XorGroup, sel}
 use Rattle.block.specs.Block.{eqBlock}
 use Rattle.block.specs.Group.{blocks}

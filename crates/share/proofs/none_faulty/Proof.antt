@@ -1,11 +1,5 @@
-use mathlib.Core.Path.{_≡_, refl, ap, _∙_, subst}
-use mathlib.Core.Bool.{_&&_}
-use Prim.Native.Nat.{_+_, _-_, _*_, _≤_}
-use native.Mathlib.Omega.{arith}
-use lib.ListN.{length}
+use Rattle.lists.specs.Kit.{_≡_, refl, ap, subst, _∙_, _&&_, _+_, _-_, _*_, _≤_, arith, length, now, needs}
 use lib.Dec.{leb}
-use denote.Ref.{now}
-use borrow.Author.Needs.{needs}
 use Rattle.lists.specs.Over.{in-record}
 use Rattle.share.specs.Record.{recordLen}
 use Rattle.share.specs.Seen.{ored, Seen, passes, seen-none, seen-turn, seen-all}

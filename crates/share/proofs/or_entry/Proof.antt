@@ -1,11 +1,6 @@
-use mathlib.Core.Path.{_≡_, refl, ap, _∙_}
-use mathlib.Core.List.{List, _++_}
-use Prim.Native.Nat.{ℕ, _+_, _-_, _≤_, _<_}
-use native.Mathlib.Omega.{arith}
-use lib.ListN.{length, getD, drop, length-set}
+use Rattle.lists.specs.Kit.{_≡_, refl, ap, _∙_, List, _++_, ℕ, _+_, _-_, _<_, _≤_, arith, length, getD, drop, now, needs}
+use lib.ListN.{length-set}
 use lib.Bits.{bitOr}
-use denote.Ref.{now}
-use borrow.Author.Needs.{needs}
 use Rattle.lists.specs.Over.{tab, length-tab, tab-zero, tab-turn, tab-end, over-get}
 use Rattle.share.specs.Seen.{ored}
 use Rattle.share.proofs.or_entry.Statement.{statement}

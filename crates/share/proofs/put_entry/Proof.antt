@@ -1,11 +1,7 @@
-use mathlib.Core.Path.{_∙_}
-use mathlib.Core.List.{_++_}
-use native.Mathlib.Omega.{arith}
-use denote.Ref.{now}
+use Rattle.lists.specs.Kit.{_∙_, _++_, arith, now, needs}
 use Rattle.lists.specs.Over.{over-put, over-full}
 use Rattle.block.specs.Block.{bytesOf}
 use Rattle.block.specs.Trip.{length-bytesOf}
-use borrow.Author.Needs.{needs}
 use Rattle.share.proofs.put_entry.Statement.{statement}
 use Rattle.share.proofs.put_entry.Tie as tie
 

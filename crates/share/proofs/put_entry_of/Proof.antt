@@ -1,6 +1,4 @@
-use mathlib.Core.Path.{_∙_, ap₂}
-use mathlib.Core.List.{_++_}
-use borrow.Author.Needs.{needs}
+use Rattle.lists.specs.Kit.{ap₂, _∙_, _++_, needs}
 use Rattle.algebra.specs.Sum.{neq}
 use Rattle.block.specs.declared.Block.{Block}
 use Rattle.block.specs.Block.{bytesOf}

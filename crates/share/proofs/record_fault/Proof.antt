@@ -1,6 +1,4 @@
-use mathlib.Core.Path.{sym, _∙_}
-use denote.Ref.{now}
-use borrow.Author.Needs.{needs}
+use Rattle.lists.specs.Kit.{sym, _∙_, now, needs}
 use Rattle.share.specs.RecordLaws.{fault-bit, fault-own, fault-none}
 use Rattle.share.proofs.record_fault.Statement.{statement}
 use Rattle.share.proofs.record_fault.Tie as tie

@@ -1,7 +1,5 @@
-use mathlib.Core.Path.{ap₂, _∙_}
-use mathlib.Core.Bool.{Bool, not, Bool·beq}
-use borrow.Author.Needs.{needs}
-use denote.Ref.{now}
+use Rattle.lists.specs.Kit.{ap₂, _∙_, Bool, not, now, needs}
+use mathlib.Core.Bool.{Bool·beq}
 use Rattle.share.specs.Record.{bitAt}
 use Rattle.share.specs.Share.{shareAt, shares}
 use Rattle.share.specs.ShareLaws.{xor-bits}

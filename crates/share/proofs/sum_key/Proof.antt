@@ -1,5 +1,4 @@
-use mathlib.Core.Path.{ap₂, _∙_}
-use borrow.Author.Needs.{needs}
+use Rattle.lists.specs.Kit.{ap₂, _∙_, needs}
 use Rattle.algebra.specs.Group.{XorGroup}
 use Rattle.block.specs.Group.{blocks}
 use Rattle.share.specs.Share.{shareAt, shares}

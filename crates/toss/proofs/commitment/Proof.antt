@@ -1,12 +1,9 @@
-use mathlib.Core.Path.{_≡_, sym, ap, _∙_}
+use Rattle.lists.specs.Kit.{_≡_, sym, ap, _∙_, replicate, now, needs}
 use Prim.Native.Nat.{_/_, _%_}
-use lib.ListN.{replicate}
-use denote.Ref.{now}
 use Rattle.fill.specs.Copied.{copied}
 use Rattle.blake3.specs.Tree.{bytes, digest, hash}
 use Rattle.rounds.specs.Toss as Toss
 use Rattle.rounds.specs.TossLaws.{numbered, length-numbered}
-use borrow.Author.Needs.{needs}
 use Rattle.toss.proofs.commitment.Statement.{statement}
 use Rattle.toss.proofs.commitment.Tie as tie
 

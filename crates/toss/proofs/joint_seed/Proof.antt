@@ -1,10 +1,6 @@
-use mathlib.Core.Path.{_≡_}
-use Prim.Native.Nat.{ℕ, _-_, _≤_}
-use native.Mathlib.Omega.{arith}
-use denote.Ref.{now}
+use Rattle.lists.specs.Kit.{_≡_, ℕ, _-_, _≤_, arith, now, needs}
 use Rattle.rounds.specs.Mail.{letter}
 use Rattle.rounds.specs.TossLaws.{Tossed, tossed-zero, tossed-turn, tossed-end}
-use borrow.Author.Needs.{needs}
 use Rattle.toss.proofs.joint_seed.Statement.{statement}
 use Rattle.toss.proofs.joint_seed.Tie as tie
 

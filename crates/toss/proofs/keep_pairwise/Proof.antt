@@ -1,9 +1,4 @@
-use mathlib.Core.Path.{_≡_, refl, sym, ap, _∙_}
-use mathlib.Core.List.{List}
-use Prim.Native.Nat.{ℕ, _+_, _-_, _*_, _<_, _≤_}
-use native.Mathlib.Omega.{arith}
-use lib.ListN.{length, take, drop}
-use denote.Ref.{now}
+use Rattle.lists.specs.Kit.{_≡_, refl, sym, ap, _∙_, List, ℕ, _+_, _-_, _*_, _<_, _≤_, arith, length, take, drop, now, needs}
 use Rattle.lists.specs.Over.{in-chunks}
 use Rattle.fill.specs.Copied.{copied}
 use Rattle.engine.specs.Step.{frame}
@@ -12,7 +7,6 @@ use Rattle.rounds.specs.Area.{PAIRS, PAIRWISE, sizeOf, workLen, at, keep}
 use Rattle.rounds.specs.Mail.{letter}
 use Rattle.rounds.specs.RowsLaws.{Laid, laid-zero, laid-turn, laid-end}
 use Rattle.rounds.specs.TossLaws.{pairRow, pair-rows, pairwise-size, pairs-before, pairwise-inside, pairs-there, length-pairs}
-use borrow.Author.Needs.{needs}
 use Rattle.toss.proofs.keep_pairwise.Statement.{statement}
 use Rattle.toss.proofs.keep_pairwise.Tie as tie
 

@@ -1,9 +1,4 @@
-use mathlib.Core.Path.{_≡_, ap, _∙_}
-use mathlib.Core.List.{List}
-use Prim.Native.Nat.{ℕ, _+_, _-_, _*_, _≤_}
-use native.Mathlib.Omega.{arith}
-use lib.ListN.{length, take, drop, replicate}
-use denote.Ref.{now}
+use Rattle.lists.specs.Kit.{_≡_, ap, _∙_, List, ℕ, _+_, _-_, _*_, _≤_, arith, length, take, drop, replicate, now, needs}
 use Rattle.lists.specs.Pick.{pick}
 use Rattle.lists.specs.Over.{Written}
 use Rattle.fill.specs.Copied.{copied}
@@ -11,7 +6,6 @@ use Rattle.algebra.specs.Sum.{neq}
 use Rattle.rounds.specs.Mail.{letter}
 use Rattle.rounds.specs.Toss.{told, toldRows}
 use Rattle.rounds.specs.RowsLaws.{even-zero, even-turn, even-end, rows-cat}
-use borrow.Author.Needs.{needs}
 use Rattle.toss.proofs.keep_told.Statement.{statement}
 use Rattle.toss.proofs.keep_told.Tie as tie
 

@@ -1,14 +1,10 @@
-use mathlib.Core.Path.{_≡_, sym, ap, _∙_}
-use Prim.Native.Nat.{ℕ, _-_, _≤_}
-use native.Mathlib.Omega.{arith}
-use denote.Ref.{now}
+use Rattle.lists.specs.Kit.{_≡_, sym, ap, _∙_, ℕ, _-_, _≤_, arith, now, needs}
 use Rattle.engine.specs.Step.{scan}
 use Rattle.engine.specs.StepLaws.{scan-turn}
 use Rattle.rounds.specs.Mail.{letter}
 use Rattle.rounds.specs.FaultLaws.{faultAt, clean-zero, finds-first, finds-none}
 use Rattle.rounds.specs.Toss.{opening}
 use Rattle.rounds.specs.TossLaws.{openFault}
-use borrow.Author.Needs.{needs}
 use Rattle.toss.proofs.open.Statement.{statement}
 use Rattle.toss.proofs.open.Tie as tie
 

@@ -1,9 +1,4 @@
-use mathlib.Core.Path.{_≡_, sym, ap, _∙_}
-use mathlib.Core.Bool.{Bool}
-use Prim.Native.Nat.{ℕ}
-use native.Mathlib.Omega.{arith}
-use lib.ListN.{length}
-use denote.Ref.{now}
+use Rattle.lists.specs.Kit.{_≡_, sym, ap, _∙_, Bool, ℕ, arith, length, now, needs}
 use Rattle.lists.specs.Pick.{pick}
 use Rattle.blake3.specs.Tree.{bytes}
 use Rattle.rounds.specs.Mail.{letter}
@@ -11,7 +6,6 @@ use Rattle.rounds.specs.MailLaws.{letter-fits, letter-long}
 use Rattle.rounds.specs.FaultLaws.{faultAt, fault-own, fault-other}
 use Rattle.rounds.specs.Toss as Toss
 use Rattle.rounds.specs.TossLaws.{openFault, open-of}
-use borrow.Author.Needs.{needs}
 use Rattle.toss.proofs.open_fault.Statement.{statement}
 use Rattle.toss.proofs.open_fault.Tie as tie
 

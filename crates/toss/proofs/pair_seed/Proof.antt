@@ -1,8 +1,5 @@
-use mathlib.Core.Path.{_≡_, sym, ap, ap₂, _∙_}
-use native.Mathlib.Omega.{arith}
-use Prim.Native.Nat.{_+_, _-_, _*_}
-use lib.ListN.{length, take, drop, replicate, length-take, length-drop}
-use denote.Ref.{now}
+use Rattle.lists.specs.Kit.{_≡_, sym, ap, ap₂, _∙_, _+_, _-_, _*_, arith, length, take, drop, replicate, now, needs}
+use lib.ListN.{length-take, length-drop}
 use Rattle.lists.specs.Pick.{pick}
 use Rattle.fill.specs.Copied.{copied}
 use Rattle.lists.specs.Rows.{chunk}
@@ -12,7 +9,6 @@ use Rattle.rounds.specs.Mail.{letter}
 use Rattle.rounds.specs.MailLaws.{neq-same, letter-fits, letter-long}
 use Rattle.rounds.specs.RowsLaws.{row-part}
 use Rattle.rounds.specs.Toss.{told}
-use borrow.Author.Needs.{needs}
 use Rattle.toss.proofs.pair_seed.Statement.{statement}
 use Rattle.toss.proofs.pair_seed.Tie as tie
 

@@ -1,12 +1,7 @@
-use mathlib.Core.Path.{refl, ap}
-use mathlib.Core.List.{List}
-use Prim.Native.Nat.{ℕ, _+_}
-use native.Mathlib.Omega.{arith}
-use denote.Ref.{now}
+use Rattle.lists.specs.Kit.{refl, ap, List, ℕ, _+_, arith, now, needs}
 use Rattle.blake3.specs.Tree.{bytes}
 use Rattle.blake3.specs.ByteLaws.{length-bytes}
 use Rattle.encode.specs.Stretch.{stretch-count, stretch-turn, stretch-end}
-use borrow.Author.Needs.{needs}
 use Rattle.toss.proofs.put_commitment.Statement.{statement}
 use Rattle.toss.proofs.put_commitment.Tie as tie
 

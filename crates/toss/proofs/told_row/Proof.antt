@@ -1,15 +1,11 @@
-use mathlib.Core.Path.{_≡_, sym, ap, _∙_}
-use Prim.Native.Nat.{_≤_}
-use native.Mathlib.Omega.{arith}
-use lib.ListN.{length, take, drop, replicate, length-take, length-drop}
-use denote.Ref.{now}
+use Rattle.lists.specs.Kit.{_≡_, sym, ap, _∙_, _≤_, arith, length, take, drop, replicate, now, needs}
+use lib.ListN.{length-take, length-drop}
 use Rattle.lists.specs.Pick.{pick}
 use Rattle.fill.specs.Copied.{copied}
 use Rattle.algebra.specs.Sum.{neq-true}
 use Rattle.rounds.specs.Mail.{letter}
 use Rattle.rounds.specs.Toss.{told}
 use Rattle.rounds.specs.MailLaws.{neq-same, letter-fits, letter-long}
-use borrow.Author.Needs.{needs}
 use Rattle.toss.proofs.told_row.Statement.{statement}
 use Rattle.toss.proofs.told_row.Tie as tie
 

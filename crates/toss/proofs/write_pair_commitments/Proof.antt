@@ -1,8 +1,4 @@
-use mathlib.Core.Path.{_≡_, ap, _∙_}
-use Prim.Native.Nat.{_+_, _-_, _*_, _<_, _≤_}
-use native.Mathlib.Omega.{arith}
-use lib.ListN.{length}
-use denote.Ref.{now}
+use Rattle.lists.specs.Kit.{_≡_, ap, _∙_, _+_, _-_, _*_, _<_, _≤_, arith, length, now, needs}
 use Rattle.lists.specs.Rows.{chunk}
 use Rattle.blake3.specs.Tree.{bytes}
 use Rattle.plan.specs.Plan.{other}
@@ -11,7 +7,6 @@ use Rattle.rounds.specs.Toss.{commitment, commMsg}
 use Rattle.rounds.specs.TossLaws.{comm-put}
 use Rattle.rounds.specs.RowsLaws.{row-part}
 use Rattle.rounds.specs.OthersLaws.{Sent, sent-zero, sent-turn, sent-end}
-use borrow.Author.Needs.{needs}
 use Rattle.toss.proofs.write_pair_commitments.Statement.{statement}
 use Rattle.toss.proofs.write_pair_commitments.Tie as tie
 

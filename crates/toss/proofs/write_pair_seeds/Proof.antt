@@ -1,8 +1,4 @@
-use mathlib.Core.Path.{_≡_, sym, ap, _∙_}
-use Prim.Native.Nat.{_+_, _-_, _*_, _<_, _≤_}
-use native.Mathlib.Omega.{arith}
-use lib.ListN.{length}
-use denote.Ref.{now}
+use Rattle.lists.specs.Kit.{_≡_, sym, ap, _∙_, _+_, _-_, _*_, _<_, _≤_, arith, length, now, needs}
 use Rattle.lists.specs.Rows.{chunk, length-chunk}
 use Rattle.plan.specs.Plan.{other}
 use Rattle.plan.specs.PlanLaws.{other-below}
@@ -11,7 +7,6 @@ use Rattle.rounds.specs.Toss.{verMsg}
 use Rattle.rounds.specs.TossLaws.{ver-put}
 use Rattle.rounds.specs.RowsLaws.{length-row, row-part}
 use Rattle.rounds.specs.OthersLaws.{Sent, sent-zero, sent-turn, sent-end}
-use borrow.Author.Needs.{needs}
 use Rattle.toss.proofs.write_pair_seeds.Statement.{statement}
 use Rattle.toss.proofs.write_pair_seeds.Tie as tie
 

@@ -1,12 +1,7 @@
-use mathlib.Core.Path.{_≡_, ap, _∙_}
-use Prim.Native.Nat.{_+_, _-_, _*_, _≤_}
-use native.Mathlib.Omega.{arith}
-use lib.ListN.{length}
-use denote.Ref.{now}
+use Rattle.lists.specs.Kit.{_≡_, ap, _∙_, _+_, _-_, _*_, _≤_, arith, length, now, needs}
 use Rattle.rounds.specs.Toss.{verMsg}
 use Rattle.rounds.specs.TossLaws.{ver-put}
 use Rattle.rounds.specs.OthersLaws.{Sent, sent-zero, sent-turn, sent-end}
-use borrow.Author.Needs.{needs}
 use Rattle.toss.proofs.write_seed.Statement.{statement}
 use Rattle.toss.proofs.write_seed.Tie as tie
 

@@ -1,9 +1,5 @@
-use mathlib.Core.Path.{ap}
-use Prim.Native.Nat.{_+_, _-_, _*_, _≤_}
-use native.Mathlib.Omega.{arith}
-use lib.ListN.{length, replicate, length-append}
-use borrow.Author.Needs.{needs}
-use denote.Ref.{now}
+use Rattle.lists.specs.Kit.{ap, _+_, _-_, _*_, _≤_, arith, length, replicate, now, needs}
+use lib.ListN.{length-append}
 use Rattle.block.specs.Block.{Small}
 use Rattle.share.specs.Record.{recordLen}
 use Rattle.share.specs.Share.{recordOf}

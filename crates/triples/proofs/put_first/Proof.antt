@@ -1,9 +1,4 @@
-use mathlib.Core.Path.{ap, _∙_}
-use Prim.Native.Nat.{_+_, _*_, _≤_}
-use native.Mathlib.Omega.{arith}
-use lib.ListN.{length}
-use borrow.Author.Needs.{needs}
-use denote.Ref.{now}
+use Rattle.lists.specs.Kit.{ap, _∙_, _+_, _*_, _≤_, arith, length, now, needs}
 use Rattle.lists.specs.Over.{length-take-drop}
 use Rattle.share.specs.Record.{recordLen}
 use Rattle.share.specs.Share.{shareAt, recordOf}

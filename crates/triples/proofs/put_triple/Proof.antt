@@ -1,10 +1,5 @@
 -- The loop's invariant: pair holds the first e + 1 leaky ANDs combined.
-use mathlib.Core.Path.{_≡_, sym, ap, _∙_, subst}
-use Prim.Native.Nat.{ℕ, _+_, _-_, _*_, _<_, _≤_}
-use native.Mathlib.Omega.{arith}
-use lib.ListN.{length, getD}
-use borrow.Author.Needs.{needs}
-use denote.Ref.{now}
+use Rattle.lists.specs.Kit.{_≡_, sym, ap, subst, _∙_, ℕ, _+_, _-_, _*_, _<_, _≤_, arith, length, getD, now, needs}
 use Rattle.lists.specs.Bytes.{Bytes}
 use Rattle.algebra.specs.Group.{odd}
 use Rattle.block.specs.Block.{Small}

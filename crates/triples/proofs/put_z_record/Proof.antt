@@ -1,10 +1,6 @@
 -- The loop's invariant: the entries of the first k parties are written.
-use mathlib.Core.Path.{refl, ap, ap₂, _∙_}
-use Prim.Native.Nat.{ℕ, _+_, _-_, _*_, _<_, _≤_}
-use native.Mathlib.Omega.{arith}
-use lib.ListN.{length, getD, length-set}
-use borrow.Author.Needs.{needs}
-use denote.Ref.{now}
+use Rattle.lists.specs.Kit.{refl, ap, ap₂, _∙_, ℕ, _+_, _-_, _*_, _<_, _≤_, arith, length, getD, now, needs}
+use lib.ListN.{length-set}
 use Rattle.algebra.specs.Group.{XorGroup, sel, odd, num}
 use Rattle.block.specs.Group.{blocks}
 use Rattle.share.specs.Record.{recordLen, macAt, keyAt}

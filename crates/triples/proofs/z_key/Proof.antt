@@ -1,10 +1,4 @@
-use mathlib.Core.Path.{ap, ap₂, _∙_}
-use mathlib.Core.Bool.{Bool}
-use Prim.Native.Nat.{_+_, _*_, _<_}
-use native.Mathlib.Omega.{arith}
-use lib.ListN.{length, getD}
-use borrow.Author.Needs.{needs}
-use denote.Ref.{now}
+use Rattle.lists.specs.Kit.{ap, ap₂, _∙_, Bool, _+_, _*_, _<_, arith, length, getD, now, needs}
 use Rattle.algebra.specs.Group.{XorGroup, sel, odd}
 use Rattle.block.specs.Group.{blocks}
 use Rattle.triples.proofs.z_key.Statement.{statement}

@@ -1,10 +1,5 @@
-use mathlib.Core.Path.{sym, ap, ap₂, _∙_}
-use mathlib.Core.List.{_++_}
-use Prim.Native.Nat.{_-_, _≤_}
-use native.Mathlib.Omega.{arith}
-use lib.ListN.{replicate}
+use Rattle.lists.specs.Kit.{sym, ap, ap₂, _∙_, _++_, _-_, _≤_, arith, replicate, needs}
 use lib.Seq.{length-take-le}
-use borrow.Author.Needs.{needs}
 use Rattle.lists.specs.Over.{drop-replicate}
 use Rattle.triples.proofs.z_record.Statement.{statement}
 use Rattle.triples.proofs.z_record.Tie as tie

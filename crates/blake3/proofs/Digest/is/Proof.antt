@@ -1,9 +1,6 @@
-use mathlib.Core.Path.{ap₂, _∙_}
-use mathlib.Core.Bool.{_&&_}
-use native.Mathlib.Omega.{arith}
+use Rattle.lists.specs.Kit.{ap₂, _∙_, _&&_, arith, needs}
 use Rattle.block.specs.Block.{eqBlock}
 use Rattle.blake3.specs.ByteLaws.{same-halves}
-use borrow.Author.Needs.{needs}
 use Rattle.blake3.proofs.Digest.is.Statement.{statement}
 use Rattle.blake3.proofs.Digest.is.Tie as tie
 

@@ -1,12 +1,9 @@
-use mathlib.Core.Path.{ap, _∙_}
-use mathlib.Core.List.{_++_}
-use native.Mathlib.Omega.{arith}
+use Rattle.lists.specs.Kit.{ap, _∙_, _++_, arith, needs}
 use Rattle.lists.specs.Over.{over-put, over-full}
 use Rattle.block.specs.Block.{blockAt, bytesOf}
 use Rattle.block.specs.Trip.{length-bytesOf}
 use Rattle.blake3.specs.Tree.{bytes}
 use Rattle.blake3.specs.ByteLaws.{halves}
-use borrow.Author.Needs.{needs}
 use Rattle.blake3.proofs.Digest.store.Statement.{statement}
 use Rattle.blake3.proofs.Digest.store.Tie as tie
 

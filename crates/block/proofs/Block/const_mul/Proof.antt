@@ -1,6 +1,5 @@
-use native.Mathlib.Omega.{arith}
+use Rattle.lists.specs.Kit.{arith, needs}
 use Rattle.block.proofs.Laws.{mul-bit, const-mul}
-use borrow.Author.Needs.{needs}
 use Rattle.block.proofs.Block.const_mul.Statement.{statement}
 use Rattle.block.proofs.Block.const_mul.Tie as tie
 
