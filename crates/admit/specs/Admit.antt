@@ -2,7 +2,7 @@
 use mathlib.Core.Bool.{Bool, true, _&&_}
 use mathlib.Core.List.{List, _++_}
 use Prim.Native.Nat.{ℕ}
-use lib.ListN.{drop, replicate}
+use lib.ListN.{getD, drop, replicate}
 use lib.Dec.{eqb}
 use Rattle.lists.specs.Pick.{pick}
 use Rattle.lists.specs.Over.{tab}
@@ -11,7 +11,9 @@ use Rattle.message.specs.declared.Kind.{Kind}
 use Rattle.message.specs.Format as Format
 use Rattle.plan.specs.Plan.{outLen}
 use Rattle.engine.specs.Step.{Lent, Loan, frame, gone, part, inside}
+use Rattle.engine.specs.declared.Frame.{Frame}
 use Rattle.rounds.specs.Area.{workLen}
+use Rattle.rounds.specs.declared.Mail.{Mail}
 
 -- the r Blocks and the permutation
 abbrev pub loan : List ℕ → List ℕ → Loan
@@ -38,6 +40,13 @@ kindFault kind count q k = pick (gone q k) 14 (Format.formOf kind count (part q 
 unfoldable pub usedAt : ℕ → Kind → Lent → ℕ → ℕ
 usedAt i kind q k = pick (neq i k) (pick (gone q k) 0 (Format.listLen kind (part q k))) 0
 
--- those of n parties, in eight numbers
-unfoldable pub usedOf : ℕ → ℕ → Kind → Lent → List ℕ
-usedOf n i kind q = tab n (usedAt i kind q) ++ drop n (replicate 8 0)
+-- a number for each of n parties, in eight
+abbrev pub eight : ℕ → (ℕ → ℕ) → List ℕ
+eight n g = tab n g ++ drop n (replicate 8 0)
+
+abbrev pub noMail : Mail
+noMail = record { starts = replicate 8 0; lens = replicate 8 0 }
+
+-- where the lists lie: each from its message's start on
+unfoldable pub mailOf : Frame → Kind → Lent → Mail
+mailOf f kind q = record { starts = eight (f .n) (λ k. getD (q .starts) k 0); lens = eight (f .n) (usedAt (f .i) kind q) }

@@ -1,18 +1,17 @@
--- The order of the rounds and the lengths as the table has them are those of the plan; what follows for a call that is not refused.
+-- The lengths and forms as the table has them are those of the plan; what follows for a call that is not refused.
 use mathlib.Core.Path.{_≡_, refl, sym, ap, ap₂, _∙_, subst, fun-ext}
 use mathlib.Core.Logic.{_≢_}
 use mathlib.Core.Bool.{Bool, true, false, not, _&&_, _||_}
 use mathlib.Core.List.{List, [], _++_}
 use Prim.Native.Nat.{ℕ, zero, suc, _+_, _-_, _*_, _<_, _≤_}
-use native.Mathlib.Numerals.{add-one}
 use native.Mathlib.Omega.{arith}
-use lib.ListN.{length, getD, take, drop, set, replicate, length-take}
-use lib.Seq.{take-at, take-take}
+use lib.ListN.{length, getD, take, drop, set, replicate, length-take, List·getD-append}
+use lib.Seq.{take-take}
 use lib.Dec.{ltb, leb, eqb}
-use borrow.Author.Tests.{ltb-true, leb-true, leb-false, le-leb, lt-leb, eqb-true, eqb-false, eq-eqb, ne-eqb}
-use Rattle.lists.specs.Pick.{pick, pick-else}
-use Rattle.lists.specs.All.{allOf, of-all, all-turn, all-false, all-ext, true-false}
-use Rattle.lists.specs.Over.{tab, length-tab, length-over, getD-tab, tab-zero, tab-step}
+use borrow.Author.Tests.{ltb-true, leb-true, eqb-true, eqb-false, eq-eqb, ne-eqb}
+use Rattle.lists.specs.Pick.{pick, pick-else, by-eq}
+use Rattle.lists.specs.All.{allOf, of-all, all-turn, all-false, all-ext, true-false, and-first, and-second, and-false, not-false}
+use Rattle.lists.specs.Over.{tab, length-tab, getD-tab, tab-zero, tab-step}
 use Rattle.algebra.specs.Sum.{neq-true}
 use Rattle.message.specs.declared.Kind.{Kind}
 use Rattle.message.specs.declared.Kind.the-variants.{Options}
@@ -22,88 +21,36 @@ use Rattle.message.specs.PrefixLaws.{list-form}
 use Rattle.message.specs.Read as Read
 use Rattle.permutation.specs.Permutation.{isPerm}
 use Rattle.plan.specs.Plan as Plan
-use Rattle.plan.specs.Plan.{echo?, nextRound, kindOf, countDue, msgLen, outLen, leaky, rLen, InRange}
-use Rattle.plan.specs.PlanLaws.{no-echo, Rest, kind-rest, count-rest, out-len-last, out-len}
+use Rattle.plan.specs.Plan.{echo?, isRound, nextRound, kindOf, countDue, msgLen, outLen, leaky, rLen, InRange}
+use Rattle.plan.specs.PlanLaws.{Rest, kind-rest, count-rest, out-len-last, out-len}
 use Rattle.engine.specs.declared.Frame.{Frame}
 use Rattle.engine.specs.declared.Session.{Session}
-use Rattle.engine.specs.Step.{Lent, Loan, frame, mask, gone, part, heard, inside, partsIn, sizes, reasonOf, orElse, scan, byParty, formFault}
+use Rattle.engine.specs.Step.{Lent, Loan, frame, mask, gone, part, heard, inside, partsIn, lengthsDue, reasonOf, orElse, scan, byParty, formFault}
 use Rattle.engine.specs.StepLaws.{other-is, mask-ext}
 use Rattle.engine.specs.Area.{mem}
-use Rattle.engine.specs.Plain.{isEcho, nextOf, isRound, lenOf, outLenOf, lentOf, formOf, listOf, ruleOf, protocolOf}
-use Rattle.rounds.specs.Area.{workLen}
-use Rattle.rounds.specs.Mail as Mail
+use Rattle.engine.specs.Order.{echoIn, roundIn}
+use Rattle.engine.specs.Plain.{lenOf, outLenOf, lentOf, formAt, listAt, ruleOf, protocolOf}
+use Rattle.rounds.specs.Area as Area
+use Rattle.rounds.specs.Area.{workLen, sizeOf}
+use Rattle.rounds.specs.declared.Mail.{Mail}
+use Rattle.rounds.specs.Mail.{letter}
 use Rattle.rounds.specs.RowsLaws.{other-neq}
 use Rattle.rounds.specs.MailLaws.{neq-same}
 use Rattle.rounds.specs.FaultLaws.{Finds}
 use Rattle.rounds.specs.Echo.{echo}
 use Rattle.rounds.specs.EchoLaws.{Received}
 use Rattle.rounds.specs.Table.{table, noLoan, lent, fine}
-use Rattle.area.specs.AreaLaws.{work-any}
-use Rattle.haand.specs.Given.{Ranges}
-use Rattle.admit.specs.Admit.{loan, given, lengthsFit, fits, kindFault, usedAt, usedOf}
-
-and-first : (a b : Bool) → (a && b) ≡ true → a ≡ true
-and-first true b h = refl
-and-first false b h = h
-
-and-second : (a b : Bool) → (a && b) ≡ true → b ≡ true
-and-second true b h = h
-and-second false b h = absurd (true-false (sym h))
-
-and-false : (a : Bool) → (a && false) ≡ false
-and-false true = refl
-and-false false = refl
-
-not-false : (b : Bool) → not b ≡ false → b ≡ true
-not-false true e = refl
-not-false false e = sym e
-
-by-eq : (C : Type 0) (k a : ℕ) → (k ≡ a → C) → (k ≢ a → C) → C
-by-eq C k a hit miss = go (eqb k a) refl
-  where
-    go : (b : Bool) → eqb k a ≡ b → C
-    go true e = hit (eqb-true k a e)
-    go false e = miss (eqb-false k a e)
+use Rattle.area.specs.Given.{Ranged}
+use Rattle.admit.specs.Admit.{loan, given, lengthsFit, fits, kindFault, usedAt, eight, mailOf}
 
 -- ---- the order of the rounds
-pub echo-is : (k : ℕ) → isEcho table k ≡ echo? k
-unfolding isEcho mem echo?
-echo-is k = go (eqb k 2) (eqb k 7) (eqb k 9) (eqb k 11) (eqb k 13) (eqb k 16) (eqb k 18) (eqb k 20)
-  where
-    go : (a b c d e f g h : Bool)
-        → pick a true (pick b true (pick c true (pick d true (pick e true (pick f true (pick g true (pick h true false)))))))
-        ≡ (a || b || c || d || e || f || g || h)
-    go true b c d e f g h = refl
-    go false true c d e f g h = refl
-    go false false true d e f g h = refl
-    go false false false true e f g h = refl
-    go false false false false true f g h = refl
-    go false false false false false true g h = refl
-    go false false false false false false true h = refl
-    go false false false false false false false true = refl
-    go false false false false false false false false = refl
-
-pub round-is : (n k : ℕ) → isRound table (eqb n 2) k ≡ Plan.isRound n k
-unfolding isRound Plan.isRound
-round-is n k = ap (λ b. leb 1 k && leb k 22 && not (eqb n 2 && b)) (echo-is k)
-
-pub next-is : (n k : ℕ) → k ≤ 22 → nextOf table (eqb n 2) k ≡ nextRound n k
-unfolding nextOf nextRound
-next-is n k h = by-eq _ k 22
-    (λ e. rw (eq-eqb k 22 e, le-leb 22 k (omega arith)) refl)
-    (λ e. rw (ne-eqb k 22 e, lt-leb 22 k (omega arith), echo-is (suc k), add-one k) (more k (eqb n 2 && echo? (suc k))))
-  where
-    more : (k : ℕ) (b : Bool) → pick b (suc (suc k)) (suc k) ≡ pick b (k + 2) (suc k)
-    more k true = omega arith
-    more k false = refl
-
 -- an echo is none of the plain rounds
 module _ (k : ℕ) (e : echo? k ≡ true) where
   not-plain : (a : ℕ) → echo? a ≡ false → k ≢ a
   not-plain a h q = true-false (sym e ∙ ap echo? q ∙ h)
 
   pub echo-rest : Rest k
-  unfolding echo?
+  unfolding echoIn mem
   echo-rest = record {
     not1 = not-plain 1 refl;
     not3 = not-plain 3 refl;
@@ -134,25 +81,25 @@ echo-len-is n l k e = sym (ap₂ (Plan.listLen n) (echo-count k e n l) (echo-kin
 
 pub len-is : (n l k : ℕ) → lenOf table n l k ≡ msgLen n l k
 unfolding lenOf echo
-len-is n l k = ap (λ b. pick b (msgLen n 1 2) (msgLen n l k)) (echo-is k) ∙ go (echo? k) refl
+len-is n l k = go (echo? k) refl
   where
     go : (b : Bool) → echo? k ≡ b → pick b (msgLen n 1 2) (msgLen n l k) ≡ msgLen n l k
     go true e = echo-len-is n l k e
     go false e = refl
 
-pub round-low : (n k : ℕ) → Plan.isRound n k ≡ true → k ≤ 22
-unfolding Plan.isRound
+pub round-low : (n k : ℕ) → isRound n k ≡ true → k ≤ 22
+unfolding roundIn
 round-low n k h = leb-true k 22 (and-second (leb 1 k) (leb k 22) (and-first (leb 1 k && leb k 22) (not (eqb n 2 && echo? k)) h))
 
-pub round-one : (n k : ℕ) → Plan.isRound n k ≡ true → 1 ≤ k
-unfolding Plan.isRound
+pub round-one : (n k : ℕ) → isRound n k ≡ true → 1 ≤ k
+unfolding roundIn
 round-one n k h = leb-true 1 k (and-first (leb 1 k) (leb k 22) (and-first (leb 1 k && leb k 22) (not (eqb n 2 && echo? k)) h))
 
-pub out-len-is : (n l i k : ℕ) → InRange n l → Plan.isRound n k ≡ true → outLenOf table k (frame n l i) ≡ outLen n l k
+pub out-len-is : (n l i k : ℕ) → InRange n l → isRound n k ≡ true → outLenOf table k (frame n l i) ≡ outLen n l k
 unfolding outLenOf
 out-len-is n l i k r h = by-eq _ k 22
     (λ e. rw (e) (sym (out-len-last n l r)))
-    (λ e. rw (ne-eqb k 22 e) (ap (λ m. (n - 1) * m) (len-is n l (nextOf table (eqb n 2) k) ∙ ap (msgLen n l) (next-is n k (omega (arith, low))))
+    (λ e. rw (ne-eqb k 22 e) (ap (λ m. (n - 1) * m) (len-is n l (nextRound n k))
     ∙ sym (out-len n l r k (omega (arith, low)) (ap (λ b. eqb k 0 || b) h ∙ or-true (eqb k 0)))))
   where
     or-true : (b : Bool) → (b || true) ≡ true
@@ -167,29 +114,10 @@ lent-none : (k n l : ℕ) (q : Loan) → k ≢ 6 → k ≢ 21 → lent k n l q �
 unfolding lent
 lent-none k n l q a b = rw (ne-eqb k 6 a, ne-eqb k 21 b) refl
 
-next-past : (n k : ℕ) → 22 ≤ k → nextRound n k ≡ 0
-unfolding nextRound
-next-past n k h = rw (le-leb 22 k h) refl
-
-of-next : (two : Bool) (k : ℕ) → k ≢ 22 → isEcho table (suc k) ≡ false → nextOf table two k ≡ suc k
-unfolding nextOf
-of-next two k ne e = rw (ne-eqb k 22 ne, e, and-false two) refl
-
-pub lent-is : (k n l : ℕ) (q : Loan) → lentOf table k n l q ≡ lent (nextRound n k) n l q
-unfolding lentOf
-lent-is k n l q = go (leb k 22) refl
-  where
-    go : (b : Bool) → leb k 22 ≡ b → lent (nextOf table (eqb n 2) k) n l q ≡ lent (nextRound n k) n l q
-    go true h = ap (λ j. lent j n l q) (next-is n k (leb-true k 22 h))
-    go false h =
-        let hi : 22 < k = omega (arith, leb-false k 22 h) in
-        let e : isEcho table (suc k) ≡ false = echo-is (suc k) ∙ no-echo (suc k) (omega arith) in
-        rw (of-next (eqb n 2) k (omega arith) e, next-past n k (omega arith))
-        (lent-none (suc k) n l q (omega arith) (omega arith) ∙ sym (lent-none 0 n l q (omega arith) (omega arith)))
-
 -- by the round that is written
 module _ (j n l : ℕ) (r perm : List ℕ) where
-  pub lent-six : j ≡ 6 → (x : ℕ) (b : Bool) → b ≡ (eqb (length r) (rLen l) && eqb (length perm) 0) → x ≡ pick b 0 17 → x ≡ lent j n l (loan r perm)
+  pub lent-six : j ≡ 6 → (x : ℕ) (b : Bool) → b ≡ (eqb (length r) (rLen l) && eqb (length perm) 0) → x ≡ pick b 0 17
+      → x ≡ lent j n l (loan r perm)
   unfolding lent
   lent-six e x b h w = rw (e) (w ∙ ap (λ c. pick c 0 17) h)
 
@@ -203,26 +131,29 @@ module _ (j n l : ℕ) (r perm : List ℕ) where
   unfolding lent
   lent-perm e h x b i w = rw (e, h) (w ∙ ap (λ c. pick c 0 18) i)
 
-  pub lent-rest : j ≢ 6 → j ≢ 21 → (x : ℕ) (b : Bool) → b ≡ (eqb (length r) 0 && eqb (length perm) 0) → x ≡ pick b 0 17 → x ≡ lent j n l (loan r perm)
+  pub lent-rest : j ≢ 6 → j ≢ 21 → (x : ℕ) (b : Bool) → b ≡ (eqb (length r) 0 && eqb (length perm) 0) → x ≡ pick b 0 17
+      → x ≡ lent j n l (loan r perm)
   unfolding noLoan
   lent-rest a c x b h w = w ∙ ap (λ d. pick d 0 17) h ∙ sym (lent-none j n l (loan r perm) a c)
 
 pub lent-of : (k n l j x : ℕ) (q : Loan) → j ≡ nextRound n k → x ≡ lent j n l q → x ≡ lentOf table k n l q
-lent-of k n l j x q e h = h ∙ ap (λ m. lent m n l q) e ∙ sym (lent-is k n l q)
+unfolding lentOf
+lent-of k n l j x q e h = h ∙ ap (λ m. lent m n l q) e
 
 -- ---- the form of one message
-pub form-is : (k n l i : ℕ) (m : List ℕ) → formOf table k (frame n l i) m ≡ Format.formOf (kindOf l k) (countDue n l k) m
-unfolding formOf echo
-form-is k n l i m = ap (λ b. pick b (Format.formOf Options n m) (Format.formOf (kindOf l k) (countDue n l k) m)) (echo-is k) ∙ go (echo? k) refl
+pub form-is : (k n l i : ℕ) (m : List ℕ) → formAt table k (frame n l i) m ≡ Format.formOf (kindOf l k) (countDue n l k) m
+unfolding formAt echo
+form-is k n l i m = go (echo? k) refl
   where
-    go : (b : Bool) → echo? k ≡ b → pick b (Format.formOf Options n m) (Format.formOf (kindOf l k) (countDue n l k) m) ≡ Format.formOf (kindOf l k) (countDue n l k) m
+    go : (b : Bool) → echo? k ≡ b
+        → pick b (Format.formOf Options n m) (Format.formOf (kindOf l k) (countDue n l k) m) ≡ Format.formOf (kindOf l k) (countDue n l k) m
     go true e = sym (ap₂ (λ K c. Format.formOf K c m) (echo-kind k e l) (echo-count k e n l))
     go false e = refl
 
 -- the list in one message
-list-is : (k n l i : ℕ) (m : List ℕ) → listOf table k (frame n l i) m ≡ Format.listOf (kindOf l k) m
-unfolding listOf echo
-list-is k n l i m = ap (λ b. pick b (Format.listOf Options m) (Format.listOf (kindOf l k) m)) (echo-is k) ∙ go (echo? k) refl
+list-is : (k n l i : ℕ) (m : List ℕ) → listAt table k (frame n l i) m ≡ Format.listOf (kindOf l k) m
+unfolding listAt echo
+list-is k n l i m = go (echo? k) refl
   where
     go : (b : Bool) → echo? k ≡ b → pick b (Format.listOf Options m) (Format.listOf (kindOf l k) m) ≡ Format.listOf (kindOf l k) m
     go true e = ap (λ K. Format.listOf K m) (sym (echo-kind k e l))
@@ -233,23 +164,26 @@ unfolding formFault kindFault
 fault-is k n l i q j = ap (pick (gone q j) 14) (form-is k n l i (part q j))
 
 -- the part of the incoming buffer that holds party k's message
-pub part-letter : (q : Lent) (k : ℕ) → part q k ≡ Mail.letter (q .incoming) (q .starts) (q .lens) k
-unfolding part Mail.letter
-part-letter q k = refl
+pub part-is : (q : Lent) (k : ℕ) → part q k ≡ Read.partOf (getD (q .starts) k 0) (getD (q .lens) k 0) (q .incoming)
+unfolding part Read.partOf
+part-is q k = refl
 
 -- what is lent besides, and the outgoing buffer, play no part in it
 module _ (incoming starts lens missing r perm out : List ℕ) where
-  pub parts-any : (f : Frame) → partsIn f (given incoming starts lens missing [] [] []) ≡ partsIn f (given incoming starts lens missing r perm out)
+  pub parts-any : (f : Frame)
+      → partsIn f (given incoming starts lens missing [] [] []) ≡ partsIn f (given incoming starts lens missing r perm out)
   unfolding partsIn gone inside
   parts-any f = refl
 
-  pub fault-any : (K : Kind) (c j : ℕ) → kindFault K c (given incoming starts lens missing [] [] []) j ≡ kindFault K c (given incoming starts lens missing r perm out) j
+  pub fault-any : (K : Kind) (c j : ℕ)
+      → kindFault K c (given incoming starts lens missing [] [] []) j ≡ kindFault K c (given incoming starts lens missing r perm out) j
   unfolding kindFault gone part
   fault-any K c j = refl
 
-  pub used-any : (n i : ℕ) (K : Kind) → usedOf n i K (given incoming starts lens missing [] [] []) ≡ usedOf n i K (given incoming starts lens missing r perm out)
-  unfolding usedOf usedAt gone part
-  used-any n i K = refl
+  pub mail-any : (f : Frame) (K : Kind)
+      → mailOf f K (given incoming starts lens missing [] [] []) ≡ mailOf f K (given incoming starts lens missing r perm out)
+  unfolding mailOf usedAt gone part
+  mail-any f K = refl
 
 -- ---- the parts lie inside
 module _ (n l i : ℕ) (q : Lent) where
@@ -278,12 +212,13 @@ module _ (i : ℕ) (q : Lent) (k : ℕ) where
   unfolding fits gone
   fits-gone ne h = rw (neq-true i k (λ e. ne (sym e)), ne-eqb _ _ h) refl
 
-  pub fits-there : k ≢ i → getD (q .missing) k 0 ≡ 0 → (x : Bool) → x ≡ Read.inside (length (q .incoming)) (getD (q .starts) k 0) (getD (q .lens) k 0)
+  pub fits-there : k ≢ i → getD (q .missing) k 0 ≡ 0 → (x : Bool)
+      → x ≡ Read.inside (length (q .incoming)) (getD (q .starts) k 0) (getD (q .lens) k 0)
       → x ≡ fits i q k
   unfolding fits gone inside Read.inside
   fits-there ne h x e = rw (neq-true i k (λ e. ne (sym e)), eq-eqb _ _ h) e
 
-  -- what `letter` asks for
+  -- what `part` asks for
   pub fits-inside : k ≢ i → getD (q .missing) k 0 ≡ 0 → fits i q k ≡ true → getD (q .starts) k 0 + getD (q .lens) k 0 ≤ length (q .incoming)
   unfolding fits gone inside
   fits-inside ne h e =
@@ -296,10 +231,11 @@ module _ (i : ℕ) (q : Lent) (k : ℕ) where
   unfolding kindFault gone
   fault-gone K c h = rw (ne-eqb _ _ h) refl
 
-  pub fault-there : (K : Kind) (c : ℕ) → getD (q .missing) k 0 ≡ 0 → (x : ℕ) → x ≡ Format.formOf K c (Mail.letter (q .incoming) (q .starts) (q .lens) k)
+  pub fault-there : (K : Kind) (c : ℕ) → getD (q .missing) k 0 ≡ 0 → (x : ℕ)
+      → x ≡ Format.formOf K c (Read.partOf (getD (q .starts) k 0) (getD (q .lens) k 0) (q .incoming))
       → x ≡ kindFault K c q k
   unfolding kindFault gone
-  fault-there K c h x e = rw (eq-eqb _ _ h) (e ∙ ap (Format.formOf K c) (sym (part-letter q k)))
+  fault-there K c h x e = rw (eq-eqb _ _ h) (e ∙ ap (Format.formOf K c) (sym (part-is q k)))
 
   module _ (K : Kind) where
     pub used-own : k ≡ i → 0 ≡ usedAt i K q k
@@ -310,35 +246,29 @@ module _ (i : ℕ) (q : Lent) (k : ℕ) where
     unfolding usedAt gone
     used-gone ne h = rw (neq-true i k (λ e. ne (sym e)), ne-eqb _ _ h) refl
 
-    pub used-there : k ≢ i → getD (q .missing) k 0 ≡ 0 → (x : ℕ) → x ≡ Format.listLen K (Mail.letter (q .incoming) (q .starts) (q .lens) k)
+    pub used-there : k ≢ i → getD (q .missing) k 0 ≡ 0 → (x : ℕ)
+        → x ≡ Format.listLen K (Read.partOf (getD (q .starts) k 0) (getD (q .lens) k 0) (q .incoming))
         → x ≡ usedAt i K q k
     unfolding usedAt gone
-    used-there ne h x e = rw (neq-true i k (λ e. ne (sym e)), eq-eqb _ _ h) (e ∙ ap (Format.listLen K) (sym (part-letter q k)))
+    used-there ne h x e = rw (neq-true i k (λ e. ne (sym e)), eq-eqb _ _ h) (e ∙ ap (Format.listLen K) (sym (part-is q k)))
 
--- ---- the lengths of the lists, one after another in eight numbers
-module _ (i : ℕ) (K : Kind) (q : Lent) where
-  pub used-none : replicate 8 0 ≡ tab 0 (usedAt i K q) ++ drop 0 (replicate 8 0)
-  used-none = tab-zero (usedAt i K q) (replicate 8 0)
+-- ---- a number for each party, one after another in eight
+module _ (g : ℕ → ℕ) where
+  pub eight-none : replicate 8 0 ≡ eight 0 g
+  eight-none = tab-zero g (replicate 8 0)
 
-  pub used-turn : (j : ℕ) (d : List ℕ) (x : ℕ) → j < 8 → d ≡ tab j (usedAt i K q) ++ drop j (replicate 8 0) → x ≡ usedAt i K q j
-      → set d j x ≡ tab (j + 1) (usedAt i K q) ++ drop (j + 1) (replicate 8 0)
-  used-turn j d x h e ex = ap₂ (λ (y : List ℕ) v. set y j v) e ex ∙ tab-step j (usedAt i K q) (replicate 8 0) h
+  pub eight-turn : (j : ℕ) (d : List ℕ) (x : ℕ) → j < 8 → d ≡ eight j g → x ≡ g j → set d j x ≡ eight (j + 1) g
+  eight-turn j d x h e ex = ap₂ (λ (y : List ℕ) v. set y j v) e ex ∙ tab-step j g (replicate 8 0) h
 
-  pub used-end : (n j : ℕ) (d : List ℕ) → d ≡ tab j (usedAt i K q) ++ drop j (replicate 8 0) → j ≡ n → d ≡ usedOf n i K q
-  unfolding usedOf
-  used-end n j d e h = e ∙ ap (λ m. tab m (usedAt i K q) ++ drop m (replicate 8 0)) h
+  pub eight-end : (n j : ℕ) (d : List ℕ) → d ≡ eight j g → j ≡ n → d ≡ eight n g
+  eight-end n j d e h = e ∙ ap (λ m. eight m g) h
 
-  pub length-used : (n : ℕ) → n ≤ 8 → length (usedOf n i K q) ≡ 8
-  unfolding usedOf
-  length-used n h = length-over (tab n (usedAt i K q)) (replicate 8 0) n (length-tab n (usedAt i K q)) h
-
-  -- the first n of them
-  used-first : (n : ℕ) → take n (usedOf n i K q) ≡ tab n (usedAt i K q)
-  unfolding usedOf
-  used-first n = take-at (tab n (usedAt i K q)) _ n (length-tab n (usedAt i K q))
+  eight-at : (n j : ℕ) → j < n → getD (eight n g) j 0 ≡ g j
+  eight-at n j h = List·getD-append (tab n g) _ 0 j (omega (arith, length-tab n g)) ∙ getD-tab n j g 0 h
 
 -- the loop's answer
-module _ (incoming starts lens missing : List ℕ) (n i l k : ℕ) (K : Kind) (c : ℕ) (kind-is : K ≡ kindOf l k) (count-is : c ≡ countDue n l k) where
+module _ (incoming starts lens missing : List ℕ) (n i l k : ℕ) (K : Kind) (c : ℕ) (kind-is : K ≡ kindOf l k)
+    (count-is : c ≡ countDue n l k) where
   faults-are : (r perm out : List ℕ) → kindFault K c (given incoming starts lens missing [] [] [])
       ≡ formFault (ruleOf table k) (frame n l i) (given incoming starts lens missing r perm out)
   faults-are r perm out = fun-ext (λ j.
@@ -347,7 +277,8 @@ module _ (incoming starts lens missing : List ℕ) (n i l k : ℕ) (K : Kind) (c
       ∙ sym (fault-is k n l i (given incoming starts lens missing r perm out) j))
 
   pub form-found : (x p : ℕ) → Finds x p (byParty (frame n l i) (kindFault K c (given incoming starts lens missing [] [] [])))
-      → (r perm out : List ℕ) → Finds x p (byParty (frame n l i) (formFault (ruleOf table k) (frame n l i) (given incoming starts lens missing r perm out)))
+      → (r perm out : List ℕ)
+      → Finds x p (byParty (frame n l i) (formFault (ruleOf table k) (frame n l i) (given incoming starts lens missing r perm out)))
   form-found x p h r perm out = subst (λ (g : ℕ → ℕ). Finds x p (byParty (frame n l i) g)) (faults-are r perm out) h
 
 -- ---- what follows where no message has a fault of form
@@ -373,69 +304,68 @@ by-clear : (f : Frame) (c : ℕ → ℕ) → byParty f c .code ≡ 0 → (j : �
 unfolding byParty
 by-clear f c h j l ne = sym (ap (λ b. pick b (c j) 0) (other-is f j l ne)) ∙ scan-clear (f .n) _ h j l
 
-module _ (n i l k : ℕ) (q : Lent) (z : byParty (frame n l i) (formFault (ruleOf table k) (frame n l i) q) .code ≡ 0) where
-  clean : (j : ℕ) → j < n → i ≢ j → (gone q j ≡ false) × (formOf table k (frame n l i) (part q j) ≡ 0)
+module _ (f : Frame) (k : ℕ) (q : Lent) (z : byParty f (formFault (ruleOf table k) f q) .code ≡ 0) where
+  abbrev K : Kind
+  K = kindOf (f .l) k
+
+  abbrev mail : Mail
+  mail = mailOf f K q
+
+  clean : (j : ℕ) → j < f .n → f .i ≢ j → (gone q j ≡ false) × (formAt table k f (part q j) ≡ 0)
   unfolding formFault
   clean j h ne =
-      pick-else (gone q j) 14 (formOf table k (frame n l i) (part q j)) 0 (λ e. omega arith)
-      (by-clear (frame n l i) (formFault (ruleOf table k) (frame n l i) q) z j h ne)
+      pick-else (gone q j) 14 (formAt table k f (part q j)) 0 (λ e. omega arith)
+      (by-clear f (formFault (ruleOf table k) f q) z j h ne)
 
-  pub none-gone : (j : ℕ) → j < n → i ≢ j → gone q j ≡ false
+  pub none-gone : (j : ℕ) → j < f .n → f .i ≢ j → gone q j ≡ false
   none-gone j h ne = clean j h ne .0
 
-  -- the bytes of the lists
-  abbrev used : List ℕ
-  used = tab n (usedAt i (kindOf l k) q)
+  start-is : (j : ℕ) → j < f .n → getD (mail .starts) j 0 ≡ getD (q .starts) j 0
+  unfolding mailOf
+  start-is j h = eight-at (λ k. getD (q .starts) k 0) (f .n) j h
 
-  used-is : (j : ℕ) → j < n → i ≢ j → getD used j 0 ≡ Format.listLen (kindOf l k) (part q j)
-  unfolding usedAt
+  -- the bytes of the lists
+  used-is : (j : ℕ) → j < f .n → f .i ≢ j → getD (mail .lens) j 0 ≡ Format.listLen K (part q j)
+  unfolding mailOf usedAt
   used-is j h ne =
-      getD-tab n j (usedAt i (kindOf l k) q) 0 h
-      ∙ ap₂ (λ a b. pick a (pick b 0 (Format.listLen (kindOf l k) (part q j))) 0) (neq-true i j ne) (none-gone j h ne)
+      eight-at (usedAt (f .i) K q) (f .n) j h
+      ∙ ap₂ (λ a b. pick a (pick b 0 (Format.listLen K (part q j))) 0) (neq-true (f .i) j ne) (none-gone j h ne)
 
   -- a list is no longer than its message
-  used-le : (j : ℕ) → j < n → i ≢ j → getD used j 0 ≤ getD (q .lens) j 0
+  used-le : (j : ℕ) → j < f .n → f .i ≢ j → getD (mail .lens) j 0 ≤ getD (q .lens) j 0
   unfolding part
   used-le j h ne =
-      omega (arith, used-is j h ne, list-le (kindOf l k) (part q j), length-take (getD (q .lens) j 0) (drop (getD (q .starts) j 0) (q .incoming)))
+      omega (arith, used-is j h ne, list-le K (part q j), length-take (getD (q .lens) j 0) (drop (getD (q .starts) j 0) (q .incoming)))
 
   -- "Reading hands back the part of the incoming buffer that holds one list"
-  used-letter : (j : ℕ) → j < n → i ≢ j → Mail.letter (q .incoming) (q .starts) used j ≡ Format.listOf (kindOf l k) (part q j)
-  unfolding Mail.letter Format.listOf part
+  used-letter : (j : ℕ) → j < f .n → f .i ≢ j → letter (q .incoming) mail j ≡ Format.listOf K (part q j)
+  unfolding letter Format.listOf part
   used-letter j h ne =
       let d : List ℕ = drop (getD (q .starts) j 0) (q .incoming) in
       let e = used-is j h ne in
-      ap (λ v. take v d) e ∙ sym (take-take (Format.listLen (kindOf l k) (part q j)) (getD (q .lens) j 0) d (omega (arith, e, used-le j h ne)))
+      ap₂ (λ v s. take v (drop s (q .incoming))) e (start-is j h)
+      ∙ sym (take-take (Format.listLen K (part q j)) (getD (q .lens) j 0) d (omega (arith, e, used-le j h ne)))
 
-  used-inside : partsIn (frame n l i) q ≡ true → (j : ℕ) → j < n → i ≢ j → getD (q .starts) j 0 + getD used j 0 ≤ length (q .incoming)
-  used-inside p j h ne = omega (arith, parts-inside n l i q p j h ne (none-gone j h ne), used-le j h ne)
+  used-inside : partsIn f q ≡ true → (j : ℕ) → j < f .n → f .i ≢ j → getD (mail .starts) j 0 + getD (mail .lens) j 0 ≤ length (q .incoming)
+  used-inside p j h ne = omega (arith, start-is j h, parts-inside (f .n) (f .l) (f .i) q p j h ne (none-gone j h ne), used-le j h ne)
 
-  used-formed : (j : ℕ) → j < n → i ≢ j → Format.formOf (kindOf l k) (countDue n l k) (Mail.letter (q .incoming) (q .starts) used j) ≡ 0
+  used-formed : (j : ℕ) → j < f .n → f .i ≢ j → Format.formOf K (countDue (f .n) (f .l) k) (letter (q .incoming) mail j) ≡ 0
   used-formed j h ne =
-      ap (Format.formOf (kindOf l k) (countDue n l k)) (used-letter j h ne)
-      ∙ list-form (kindOf l k) (countDue n l k) (part q j) (sym (form-is k n l i (part q j)) ∙ clean j h ne .1)
+      ap (Format.formOf K (countDue (f .n) (f .l) k)) (used-letter j h ne)
+      ∙ list-form K (countDue (f .n) (f .l) k) (part q j) (sym (form-is k (f .n) (f .l) (f .i) (part q j)) ∙ clean j h ne .1)
 
-  -- what a round is lent: the starts, and of u, which the reader handed back, the first n
-  module _ (u : List ℕ) (e : u ≡ usedOf n i (kindOf l k) q) where
-    first-is : take n u ≡ used
-    first-is = ap (take n) e ∙ used-first i (kindOf l k) q n
+  -- what a round is lent
+  pub received : f .n ≤ 8 → partsIn f q ≡ true
+      → Received (kindOf (f .l) k) (countDue (f .n) (f .l) k) f (q .incoming) (mailOf f (kindOf (f .l) k) q)
+  received e p = record { arrived = record { eight = e; inside = used-inside p; long = λ j h ne. omega arith }; formed-is = used-formed }
 
-    pub received : length (q .starts) ≡ n → partsIn (frame n l i) q ≡ true
-        → Received (kindOf l k) (countDue n l k) n i (q .incoming) (q .starts) (take n u)
-    received a p = subst (Received (kindOf l k) (countDue n l k) n i (q .incoming) (q .starts)) (sym first-is) (record {
-      arrived = record { starts-n = a; lens-n = length-tab n (usedAt i (kindOf l k) q); inside = used-inside p; long = λ j h ne. omega arith };
-      formed-is = used-formed;
-    })
-
-    -- they are the lists that the definition speaks of
-    pub lists-heard : mask (frame n l i) (Mail.letter (q .incoming) (q .starts) (take n u)) ≡ mask (frame n l i) (heard (ruleOf table k) (frame n l i) q)
-    unfolding heard
-    lists-heard =
-        ap (λ (x : List ℕ). mask (frame n l i) (Mail.letter (q .incoming) (q .starts) x)) first-is
-        ∙ mask-ext (frame n l i) _ _ (λ j h ne. used-letter j h ne ∙ sym (list-is k n l i (part q j)))
+  -- they are the lists that the definition speaks of
+  pub lists-heard : mask f (letter (q .incoming) (mailOf f (kindOf (f .l) k) q)) ≡ mask f (heard (ruleOf table k) f q)
+  unfolding heard
+  lists-heard = mask-ext f _ _ (λ j h ne. used-letter j h ne ∙ sym (list-is k (f .n) (f .l) (f .i) (part q j)))
 
 -- ---- a call that is not refused
-fine-ranges : (f : Frame) → fine f ≡ true → Ranges (f .n) (f .i) (f .l)
+fine-ranges : (f : Frame) → fine f ≡ true → Ranged f
 unfolding fine
 fine-ranges f h =
     let a = leb 2 (f .n) in
@@ -446,22 +376,26 @@ fine-ranges f h =
     let h3 = and-first (a && b && c) _ h4 in
     let h2 = and-first (a && b) _ h3 in
     record {
-      two = leb-true _ _ (and-first a b h2);
-      eight = leb-true _ _ (and-second a b h2);
       own = ltb-true _ _ (and-second (a && b) c h3);
-      one = leb-true _ _ (and-second (a && b && c) d h4);
-      most = leb-true _ _ (and-second (a && b && c && d) _ h);
+      range = record {
+        two = leb-true _ _ (and-first a b h2);
+        eight = leb-true _ _ (and-second a b h2);
+        one = leb-true _ _ (and-second (a && b && c) d h4);
+        most = leb-true _ _ (and-second (a && b && c && d) _ h);
+      };
     }
 
-pub in-range-of : (n i l : ℕ) → Ranges n i l → InRange n l
-in-range-of n i l r = record { two = r .two; eight = r .eight; one = r .one; most = r .most }
-
 module _ (s : Session) (h : protocolOf table .alive s ≡ true) where
-  pub alive-ranges : Ranges (s .party .n) (s .party .i) (s .party .l)
+  pub alive-ranges : Ranged (s .party)
   alive-ranges = fine-ranges (s .party) (and-first (fine (s .party)) _ h)
 
-  pub alive-round : Plan.isRound (s .party .n) (s .due) ≡ true
-  alive-round = sym (round-is (s .party .n) (s .due)) ∙ and-second (fine (s .party)) _ h
+  pub alive-round : isRound (s .party .n) (s .due) ≡ true
+  alive-round = and-second (fine (s .party)) _ h
+
+-- every party's work area is laid out the same
+work-any : (f : Frame) → workLen f ≡ workLen (frame (f .n) (f .l) 0)
+unfolding workLen sizeOf Area.sizes
+work-any f = refl
 
 -- the whole work area
 pub work-is : (f : Frame) → protocolOf table .workLen f ≡ workLen f
@@ -471,9 +405,9 @@ work-is f = refl
 -- all that a call without a reason is sure of
 pub record Admitted (s : Session) (k : ℕ) (q : Lent) (w : List ℕ) : Type 0 where
   pub alive-is : protocolOf table .alive s ≡ true
-  pub ranges : Ranges (s .party .n) (s .party .i) (s .party .l)
+  pub ranges : Ranged (s .party)
   pub due-is : k ≡ s .due
-  pub round-holds : isRound table (eqb (s .party .n) 2) k ≡ true
+  pub round-holds : isRound (s .party .n) k ≡ true
   pub work-whole : length w ≡ workLen (s .party)
   pub out-whole : length (q .out) ≡ outLenOf table k (s .party)
   pub starts-n : length (q .starts) ≡ s .party .n
@@ -483,12 +417,12 @@ pub record Admitted (s : Session) (k : ℕ) (q : Lent) (w : List ℕ) : Type 0 w
   pub lent-fits : lentOf table k (s .party .n) (s .party .l) (q .loan) ≡ 0
 
 pub reason-zero : (s : Session) (k : ℕ) (q : Lent) (w : List ℕ) → reasonOf (protocolOf table) s k q w ≡ 0 → Admitted s k q w
-unfolding reasonOf sizes
+unfolding reasonOf lengthsDue
 reason-zero s k q w h = record {
   alive-is = al;
   ranges = alive-ranges s al;
   due-is = du;
-  round-holds = ap (isRound table (eqb (s .party .n) 2)) du ∙ and-second (fine (s .party)) _ al;
+  round-holds = ap (isRound (s .party .n)) du ∙ and-second (fine (s .party)) _ al;
   work-whole = eqb-true _ _ (and-first a b s2) ∙ work-is (s .party);
   out-whole = eqb-true _ _ (and-second a b s2);
   starts-n = eqb-true _ _ (and-second (a && b) c s3);
@@ -565,20 +499,24 @@ module _ (s : Session) (k : ℕ) (q : Lent) (w : List ℕ) where
 
     module _ (du : k ≡ s .due) where
       abbrev fit : Bool
-      fit = lengthsFit (s .party .n) (s .party .l) k (length w) (length (q .out)) (length (q .starts)) (length (q .lens)) (length (q .missing))
+      fit =
+          lengthsFit (s .party .n) (s .party .l) k (length w) (length (q .out)) (length (q .starts)) (length (q .lens))
+          (length (q .missing))
 
-      sizes-are : sizes (protocolOf table .workLen (s .party)) (outLenOf table k (s .party)) (s .party) q w ≡ (fit && partsIn (s .party) q)
-      unfolding sizes lengthsFit
-      sizes-are =
-          ap₂ (λ x y. eqb (length w) x && eqb (length (q .out)) y && eqb (length (q .starts)) (s .party .n) && eqb (length (q .lens)) (s .party .n)
-          && eqb (length (q .missing)) (s .party .n) && partsIn (s .party) q)
-          (work-is (s .party) ∙ work-any (s .party .n) (s .party .l) (s .party .i) 0)
-          (out-len-is (s .party .n) (s .party .l) (s .party .i) k (in-range-of _ _ _ (alive-ranges s al)) (ap (Plan.isRound (s .party .n)) du ∙ alive-round s al))
+      lengths-are : lengthsDue (protocolOf table .workLen (s .party)) (outLenOf table k (s .party)) (s .party) q w
+          ≡ (fit && partsIn (s .party) q)
+      unfolding lengthsDue lengthsFit
+      lengths-are =
+          ap₂ (λ x y. eqb (length w) x && eqb (length (q .out)) y && eqb (length (q .starts)) (s .party .n)
+          && eqb (length (q .lens)) (s .party .n) && eqb (length (q .missing)) (s .party .n) && partsIn (s .party) q)
+          (work-is (s .party) ∙ work-any (s .party))
+          (out-len-is (s .party .n) (s .party .l) (s .party .i) k (alive-ranges s al .range)
+          (ap (isRound (s .party .n)) du ∙ alive-round s al))
 
       left : (b : Bool) → (fit && partsIn (s .party) q) ≡ b
           → reasonOf (protocolOf table) s k q w ≡ pick (not b) 17 (lentOf table k (s .party .n) (s .party .l) (q .loan))
       unfolding reasonOf
-      left b e = rw (al, eq-eqb k (s .due) du, sizes-are, e) refl
+      left b e = rw (al, eq-eqb k (s .due) du, lengths-are, e) refl
 
       pub reason-lengths : fit ≡ false → 17 ≡ reasonOf (protocolOf table) s k q w
       reason-lengths h = sym (left false (ap (λ b. b && partsIn (s .party) q) h))

@@ -14,11 +14,13 @@ ghost use Rattle.engine.specs.Plain.{protocolOf, ruleOf, lentOf};
 ghost use Rattle.rounds.specs.FaultLaws.{Finds, faultAt};
 ghost use Rattle.rounds.specs.Table as T;
 ghost use Rattle.rounds.specs.Table.{table};
-ghost use Rattle.haand.specs.Given.{Ranges};
-ghost use Rattle.admit.specs.Admit.{loan, given, lengthsFit, fits, kindFault, usedAt, usedOf};
+ghost use Rattle.area.specs.Given.{Ranged};
+ghost use Rattle.admit.specs.Admit.{loan, given, lengthsFit, fits, kindFault, usedAt, noMail, mailOf};
+use engine::Frame;
 use engine::Session;
 use message::Kind;
 use message::Reading;
+use rounds::Mail;
 
 // ---- 20
 
@@ -212,14 +214,14 @@ fn read_one(
     if mark != 0 {
         return Reading { code: 14, used: 0 };
     }
-    message::read(kind, count, rounds::letter(incoming, starts, lens, k))
+    message::read(kind, count, message::part(incoming, starts[k], lens[k]))
 }
 
-// What is read of all messages: the first fault, its number 0 for none, and then for each party the bytes of its list, from its start on.
+// What is read of all messages: the first fault, its number 0 for none, and then where each party's list lies.
 pub struct Heard {
     pub code: u8,
     pub party: usize,
-    pub used: [usize; 8],
+    pub mail: Mail,
 }
 
 // The first other party whose message is missing, doesn't decode, or has another count than the one due; without one, the lists of all.
@@ -228,21 +230,23 @@ pub fn form(
     starts: &[usize],
     lens: &[usize],
     missing: &[u8],
-    n: usize,
-    i: usize,
-    l: usize,
+    f: Frame,
     k: usize,
 ) -> Heard
-    requires { ⌜ Ranges n i l ⌝ }
-    requires { ⌜ (length (now starts) ≡ n) × (length (now lens) ≡ n) × (length (now missing) ≡ n) ⌝ }
-    requires { ⌜ partsIn (frame n l i) (given (now incoming) (now starts) (now lens) (now missing) [] [] []) ≡ true ⌝ }
-    ensures { λ f. ⌜ (((r perm out : List ℕ) → Finds (f .code) (f .party) (byParty (frame n l i) (formFault (ruleOf table k) (frame n l i)
+    requires { ⌜ Ranged f ⌝ }
+    requires { ⌜ (length (now starts) ≡ f .n) × (length (now lens) ≡ f .n) × (length (now missing) ≡ f .n) ⌝ }
+    requires { ⌜ partsIn f (given (now incoming) (now starts) (now lens) (now missing) [] [] []) ≡ true ⌝ }
+    ensures { λ h. ⌜ (((r perm out : List ℕ) → Finds (h .code) (h .party) (byParty f (formFault (ruleOf table k) f
         (given (now (incoming .entry)) (now (starts .entry)) (now (lens .entry)) (now (missing .entry)) r perm out))))
-        × (f .used ≡ pick (eqb (f .code) 0) (usedOf n i (kindOf l k)
-        (given (now (incoming .entry)) (now (starts .entry)) (now (lens .entry)) (now (missing .entry)) [] [] [])) (replicate 8 0))) ⌝ }
+        × (h .mail ≡ pick (eqb (h .code) 0) (mailOf f (kindOf (f .l) k)
+        (given (now (incoming .entry)) (now (starts .entry)) (now (lens .entry)) (now (missing .entry)) [] [] [])) noMail)) ⌝ }
 {
+    let n = f.n;
+    let i = f.i;
+    let l = f.l;
     let kind = plan::kind_of(l, k);
     let count = plan::count_due(n, l, k);
+    let mut at: [usize; 8] = [0; 8];
     let mut used: [usize; 8] = [0; 8];
     let mut j = 0;
     while j < n {
@@ -254,15 +258,22 @@ pub fn form(
             return Heard {
                 code: code,
                 party: j,
-                used: none,
+                mail: Mail {
+                    starts: none,
+                    lens: none,
+                },
             };
         }
+        at[j] = starts[j];
         used[j] = r.used;
         j = next;
     }
     Heard {
         code: 0,
         party: 0,
-        used: used,
+        mail: Mail {
+            starts: at,
+            lens: used,
+        },
     }
 }

@@ -8,11 +8,12 @@ use native.Mathlib.Nat.{add-zero, add-mul, mul-assoc, le-refl}
 use lib.ListN.{length, getD, take, drop, take-append-drop}
 use lib.Seq.{take-all, take-at, drop-at, drop-drop, getD-take, getD-drop}
 use Rattle.lists.specs.Over.{cat, length-cat, in-chunks}
-use Rattle.lists.specs.Rows.{chunk, chunk-cat, getD-chunk, cat-ext}
+use Rattle.lists.specs.Rows.{chunk, chunk-cat, getD-chunk}
 use Rattle.block.specs.declared.Block.{Block}
 use Rattle.block.specs.Block.{blockAt, bytesOf, le8, Small}
 use Rattle.block.specs.Trip.{length-le8, block-at, block-chunk}
 use Rattle.encode.specs.Encode.{encode}
+pub use Rattle.encode.specs.Coded.{encode-ext}
 use Rattle.engine.specs.declared.Frame.{Frame}
 use Rattle.engine.specs.Area.{get-get}
 use Rattle.rounds.specs.Area.{rows}
@@ -45,11 +46,6 @@ part-in s p q r a m o k h lp lq =
     ∙ ap (drop o) (sym (take-append-drop m (drop a s)) ∙ ap (λ (x : List ℕ). x ++ rest) h ∙ append-assoc p (q ++ r) rest)
     ∙ drop-at p ((q ++ r) ++ rest) o lp ∙ append-assoc q r rest)
     ∙ take-at q (r ++ rest) k lq
-
--- lists of items that are the same, one by one
-pub encode-ext : (c : ℕ) (g h : ℕ → List ℕ) → ((t : ℕ) → t < c → g t ≡ h t) → encode c g ≡ encode c h
-unfolding encode
-encode-ext c g h e = (λ q. le8 c ++ cat-ext c g h e q)
 
 -- the items of a list of c items of s bytes, its count left out: a row of them
 pub items-row : (c s : ℕ) (g : ℕ → List ℕ) → ((t : ℕ) → t < c → length (g t) ≡ s) → take (c * s) (drop 8 (encode c g)) ≡ cat c g

@@ -25,7 +25,8 @@ use Rattle.engine.specs.StepLaws.{scan-none}
 use Rattle.engine.specs.Area.{mem}
 use Rattle.engine.specs.declared.Frame.{Frame}
 use Rattle.engine.specs.Step.{frame}
-use Rattle.engine.specs.Plain.{Echo, Table, isEcho, nextOf, isRound, numberOf, stepsOf}
+use Rattle.engine.specs.Order.{echoIn, roundIn, nextIn}
+use Rattle.engine.specs.Plain.{Echo, Table, numberOf, stepsOf}
 use Rattle.engine.specs.Honest.{EchoLaws, orderTest, courseTest, Lawful}
 use Rattle.rounds.specs.Area.{sizes, sizeOf}
 use Rattle.rounds.specs.Echo.{echoMsg, entryFault, echoFault, echo}
@@ -95,7 +96,8 @@ echo-laws n small = record {
 
 -- ---- the table
 -- a table whose ranges and echoes are these, with an order of its rounds that passes the tests
-pub lawful-by : (T : Table) (n l : ℕ) → InRange n l → T .fine ≡ fine → T .echo ≡ echo → orderTest T ≡ true → ((two : Bool) → courseTest T two ≡ true)
+pub lawful-by : (T : Table) (n l : ℕ) → InRange n l → T .fine ≡ fine → T .echo ≡ echo → orderTest T ≡ true
+    → ((two : Bool) → courseTest T two ≡ true)
     → ((i : ℕ) → T .size (frame n l i) (T .count) ≡ 2) → ((i : ℕ) → T .size (frame n l i) (suc (T .count)) ≡ n * 16) → Lawful T n l
 unfolding fine
 lawful-by T n l I f e order course pending hashes = record {
@@ -109,10 +111,10 @@ lawful-by T n l I f e order course pending hashes = record {
 }
 
 course-ok : (two : Bool) → courseTest table two ≡ true
-unfolding courseTest stepsOf isRound numberOf nextOf isEcho mem allOf
+unfolding courseTest stepsOf roundIn numberOf nextIn echoIn mem allOf
 course-ok true = refl
 course-ok false = refl
 
 pub lawful : (n l : ℕ) → InRange n l → Lawful table n l
-unfolding orderTest isEcho mem allOf sizeOf sizes
+unfolding orderTest echoIn mem allOf sizeOf sizes
 lawful n l I = lawful-by table n l I refl refl refl course-ok (λ i. refl) (λ i. refl)

@@ -20,7 +20,8 @@ use Rattle.engine.specs.Step.{byParty}
 use Rattle.engine.specs.StepLaws.{by-clean}
 use Rattle.rounds.specs.Opening.{Args}
 use Rattle.rounds.specs.Fashare.{d0, d1, dmAt, dmFault, dmFaults, dmRows, dmRow, others1, dibiMsg}
-use Rattle.rounds.specs.DmLaws.{Dues, dm-due, dues-place, dues-in, first-clean}
+use Rattle.rounds.specs.FaultLaws.{first-clean}
+use Rattle.rounds.specs.DmLaws.{Dues, dm-due, dues-place, dues-in}
 use Rattle.alone.specs.Formula as F
 use Rattle.alone.specs.Formula.{Seen}
 use Rattle.alone.specs.Cells.{head-part, length-cells, cell, encode-ext}

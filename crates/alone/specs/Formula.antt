@@ -200,8 +200,8 @@ module _ (S : Seen) where
   unfoldable pub resultShare : ℕ → Share
   resultShare j = Beaver.finish (abc j .tz) (beta j) (abc j .tx) (beaverDOpened j) (beaverEOpened j)
 
-  -- ---- echoes, of what was received for round k: "`hash_vec` .. of every other list received, sent to all but its sender." "The message is
-  -- a list of n options, absent for the box itself and for the receiver."
+  -- ---- echoes, of what was received for round k: "`hash_vec` .. of every other list received, sent to all but its sender." "The message
+  -- is a list of n options, absent for the box itself and for the receiver."
   unfoldable pub echoOf : ℕ → ℕ → List ℕ
   echoOf k r = encode (f .n) (λ j. pick (neq (f .i) j && neq r j) (someItem (hashVec k (m k j))) noneItem)
 

@@ -8,10 +8,9 @@ use lib.ListN.{length, replicate, length-replicate}
 use lib.Dec.{ltb, leb, eqb}
 use borrow.Author.Tests.{ltb-true, ltb-false, leb-true, eqb-true, eqb-false, eq-eqb, ne-eqb}
 use Rattle.lists.specs.Pick.{pick}
-use Rattle.lists.specs.All.{allOf, of-all}
+use Rattle.lists.specs.All.{allOf, of-all, and-both}
 use Rattle.lists.specs.Bytes.{Bytes}
 use Rattle.share.specs.Record.{recordLen}
-use Rattle.message.specs.FormatLaws.{and-first, and-second}
 use Rattle.plan.specs.Plan.{InRange, leaky, bitsCount, msgLen}
 use Rattle.engine.specs.declared.Frame.{Frame}
 use Rattle.engine.specs.Step.{Accepted, Outcome, outcome}
@@ -41,10 +40,6 @@ pub record Taken (a : Args) : Type 0 where
   pub own : a .party .i < a .party .n
   pub lens : Lens a
 
--- the tests of a conjunction
-both : (a b : Bool) → (a && b) ≡ true → (a ≡ true) × (b ≡ true)
-both a b h = (and-first a b h, and-second a b h)
-
 module _ (a : Args) where
   abbrev n : ℕ
   n = a .party .n
@@ -65,8 +60,8 @@ module _ (a : Args) where
       let b : Bool = eqb (length (a .bits)) (bitsCount l * recordLen n) in
       let c : Bool = eqb (length (a .alpha)) (l * recordLen n) in
       let d : Bool = eqb (length (a .beta)) (l * recordLen n) in
-      let w2 = both (b && c) d h in
-      let w1 = both b c (w2 .0) in
+      let w2 = and-both (b && c) d h in
+      let w1 = and-both b c (w2 .0) in
       (eqb-true _ _ (w1 .0), (eqb-true _ _ (w1 .1), eqb-true _ _ (w2 .1)))
 
   abbrev buffers-say : Type 0
@@ -82,11 +77,11 @@ module _ (a : Args) where
       let e : Bool = eqb (length (a .masks)) (n * leaky l) in
       let f : Bool = eqb (length (a .work)) (workLen (a .party)) in
       let g : Bool = eqb (length (a .out)) ((n - 1) * msgLen n l 1) in
-      let w5 = both (b && c && d && e && f) g h in
-      let w4 = both (b && c && d && e) f (w5 .0) in
-      let w3 = both (b && c && d) e (w4 .0) in
-      let w2 = both (b && c) d (w3 .0) in
-      let w1 = both b c (w2 .0) in
+      let w5 = and-both (b && c && d && e && f) g h in
+      let w4 = and-both (b && c && d && e) f (w5 .0) in
+      let w3 = and-both (b && c && d) e (w4 .0) in
+      let w2 = and-both (b && c) d (w3 .0) in
+      let w1 = and-both b c (w2 .0) in
       (eqb-true _ _ (w1 .0), (eqb-true _ _ (w1 .1), (eqb-true _ _ (w2 .1), eqb-true _ _ (w3 .1))))
 
   abbrev parties : Bool
@@ -94,8 +89,8 @@ module _ (a : Args) where
 
   parties-true : parties ≡ true → (2 ≤ n) × ((n ≤ 8) × (a .party .i < n))
   parties-true h =
-      let w2 = both (leb 2 n && leb n 8) (ltb (a .party .i) n) h in
-      let w1 = both (leb 2 n) (leb n 8) (w2 .0) in
+      let w2 = and-both (leb 2 n && leb n 8) (ltb (a .party .i) n) h in
+      let w1 = and-both (leb 2 n) (leb n 8) (w2 .0) in
       (leb-true _ _ (w1 .0), (leb-true _ _ (w1 .1), ltb-true _ _ (w2 .1)))
 
   -- with no reason to refuse

@@ -10,7 +10,7 @@ use lib.ListN.{length, take, drop}
 use lib.Dec.{leb, ltb, eqb}
 use borrow.Author.Tests.{le-leb, eqb-true}
 use Rattle.lists.specs.Pick.{pick, pick-then}
-use Rattle.lists.specs.All.{allOf}
+use Rattle.lists.specs.All.{allOf, and-second}
 use Rattle.lists.specs.Over.{length-tab}
 use Rattle.lists.specs.Rows.{chunk, length-chunk}
 use Rattle.lists.specs.Sect.{length-get}
@@ -19,12 +19,12 @@ use Rattle.block.specs.Trip.{length-bytesOf}
 use Rattle.permutation.specs.Permutation.{isPerm}
 use Rattle.message.specs.declared.Kind.the-variants.{Items, Dms}
 use Rattle.message.specs.Format.{formOf}
-use Rattle.message.specs.FormatLaws.{and-second, fixed}
+use Rattle.message.specs.FormatLaws.{fixed}
 use Rattle.plan.specs.Plan.{kindOf, countDue, leaky}
 use Rattle.engine.specs.Step.{Loan}
 use Rattle.engine.specs.Area.{mem, length-sec}
 use Rattle.engine.specs.Sheet.{staysTest}
-use Rattle.engine.specs.Plain.{isEcho}
+use Rattle.engine.specs.Order.{echoIn}
 use Rattle.engine.specs.Honest.{before, due, plainAfter}
 use Rattle.engine.specs.Alone.{Tale}
 use Rattle.engine.specs.Alone as Alone
@@ -202,7 +202,7 @@ module _ (a : Args) (q : ℕ → Loan) (m : ℕ → ℕ → List ℕ) (I : Given
   )
 
   pub recv-1 : RecvAt 1
-  unfolding plainAfter isEcho staysTest allOf mem since holds kept
+  unfolding plainAfter echoIn staysTest allOf mem since holds kept
   recv-1 past p = fill (due 1) (before 3) COMMS (p .known) refl (fit-comms (p .formed)) refl
 
   pub send-3 : SendAt 3
@@ -213,7 +213,7 @@ module _ (a : Args) (q : ℕ → Loan) (m : ℕ → ℕ → List ℕ) (I : Given
   }
 
   pub recv-3 : RecvAt 3
-  unfolding plainAfter isEcho staysTest allOf mem since holds kept F.jointSeed
+  unfolding plainAfter echoIn staysTest allOf mem since holds kept F.jointSeed
   recv-3 past p =
       fill (due 3) (before 4) JOINT (p .known) refl fit-joint (ap (λ (s : List ℕ). Toss.jointSeed f s (m 3)) (seed-at (p .known)))
 
@@ -225,7 +225,7 @@ module _ (a : Args) (q : ℕ → Loan) (m : ℕ → ℕ → List ℕ) (I : Given
   }
 
   pub recv-4 : RecvAt 4
-  unfolding plainAfter isEcho staysTest allOf mem since holds kept
+  unfolding plainAfter echoIn staysTest allOf mem since holds kept
   recv-4 past p = fill (due 4) (before 5) PAIR-COMMS (p .known) refl (fit-pair-comms (p .formed)) refl
 
   pub send-5 : SendAt 5
@@ -236,7 +236,7 @@ module _ (a : Args) (q : ℕ → Loan) (m : ℕ → ℕ → List ℕ) (I : Given
   }
 
   pub recv-5 : RecvAt 5
-  unfolding plainAfter isEcho staysTest allOf mem since holds kept F.pairwiseSeed F.pairSeed Toss.pairwiseSeeds
+  unfolding plainAfter echoIn staysTest allOf mem since holds kept F.pairwiseSeed F.pairSeed Toss.pairwiseSeeds
   recv-5 past p =
       fill (due 5) (before 6) PAIRWISE (p .known) refl fit-pairwise
       (ap (λ (s : List ℕ). Toss.pairwiseSeeds f s (m 5)) (pairs-at (p .known)))
@@ -254,7 +254,7 @@ module _ (a : Args) (q : ℕ → Loan) (m : ℕ → ℕ → List ℕ) (I : Given
   }
 
   pub recv-6 : RecvAt 6
-  unfolding plainAfter isEcho staysTest allOf mem since kept
+  unfolding plainAfter echoIn staysTest allOf mem since kept
   recv-6 past p = stays (due 6) (before 8) (p .known) refl
 
   -- ---- `fashare`: rounds 8, 10, 12
@@ -276,7 +276,7 @@ module _ (a : Args) (q : ℕ → Loan) (m : ℕ → ℕ → List ℕ) (I : Given
 
   -- round 10, once round 12's messages are made
   tenth : Past 12 → Passed 10
-  unfolding isEcho mem
+  unfolding echoIn mem
   tenth past = past 10 (omega arith) (omega arith) refl
 
   fit-dms : Formed 10 → (w : List ℕ) → Judged 10 w → fits DMS
@@ -291,7 +291,7 @@ module _ (a : Args) (q : ℕ → Loan) (m : ℕ → ℕ → List ℕ) (I : Given
   }
 
   pub recv-8 : RecvAt 8
-  unfolding plainAfter isEcho staysTest allOf mem since holds kept
+  unfolding plainAfter echoIn staysTest allOf mem since holds kept
   recv-8 past p = fill (due 8) (before 10) SHARE-COMMS (p .known) refl (fit-share-comms (p .formed)) refl
 
   pub send-10 : SendAt 10
@@ -302,7 +302,7 @@ module _ (a : Args) (q : ℕ → Loan) (m : ℕ → ℕ → List ℕ) (I : Given
   }
 
   pub recv-10 : RecvAt 10
-  unfolding plainAfter isEcho staysTest allOf mem since holds kept
+  unfolding plainAfter echoIn staysTest allOf mem since holds kept
   recv-10 past p = fill (due 10) (before 12) DMS (p .known) refl (fit-dms (p .formed) (p .work) (p .judged)) refl
 
   pub send-12 : SendAt 12
@@ -316,7 +316,7 @@ module _ (a : Args) (q : ℕ → Loan) (m : ℕ → ℕ → List ℕ) (I : Given
   }
 
   pub recv-12 : RecvAt 12
-  unfolding plainAfter isEcho staysTest allOf mem since kept
+  unfolding plainAfter echoIn staysTest allOf mem since kept
   recv-12 past p = stays (due 12) (before 14) (p .known) refl
 
   -- ---- `fhaand`: round 14
@@ -336,7 +336,7 @@ module _ (a : Args) (q : ℕ → Loan) (m : ℕ → ℕ → List ℕ) (I : Given
   }
 
   pub recv-14 : RecvAt 14
-  unfolding plainAfter isEcho staysTest allOf mem since holds kept
+  unfolding plainAfter echoIn staysTest allOf mem since holds kept
   recv-14 past p =
       fill (due 14) (before 15) ZS (p .known) refl fit-zs
       (ap₂ (λ (s t : List ℕ). Haand.zRows f s t (m 14)) (masks-at (p .known)) (bits-at (p .known)))
@@ -367,7 +367,7 @@ module _ (a : Args) (q : ℕ → Loan) (m : ℕ → ℕ → List ℕ) (I : Given
   }
 
   pub recv-15 : RecvAt 15
-  unfolding plainAfter isEcho staysTest allOf mem since holds kept
+  unfolding plainAfter echoIn staysTest allOf mem since holds kept
   recv-15 past p =
       let K = p .known in
       keep-two (f .n) (f .l) vals (due 15) (before 17) (f .i) (I .own) K HS ES _ _ refl fit-hs fit-es
@@ -387,7 +387,7 @@ module _ (a : Args) (q : ℕ → Loan) (m : ℕ → ℕ → List ℕ) (I : Given
   }
 
   pub recv-17 : RecvAt 17
-  unfolding plainAfter isEcho staysTest allOf mem since holds kept
+  unfolding plainAfter echoIn staysTest allOf mem since holds kept
   recv-17 past p = fill (due 17) (before 19) H-COMMS (p .known) refl (fit-h-comms (p .formed)) refl
 
   pub send-19 : SendAt 19
@@ -398,7 +398,7 @@ module _ (a : Args) (q : ℕ → Loan) (m : ℕ → ℕ → List ℕ) (I : Given
   }
 
   pub recv-19 : RecvAt 19
-  unfolding plainAfter isEcho staysTest allOf mem since kept
+  unfolding plainAfter echoIn staysTest allOf mem since kept
   recv-19 past p = stays (due 19) (before 21) (p .known) refl
 
   -- ---- buckets: round 21
@@ -435,7 +435,7 @@ module _ (a : Args) (q : ℕ → Loan) (m : ℕ → ℕ → List ℕ) (I : Given
   }
 
   pub recv-21 : RecvAt 21
-  unfolding plainAfter isEcho staysTest allOf mem since holds kept
+  unfolding plainAfter echoIn staysTest allOf mem since holds kept
   recv-21 past p =
       let K = p .known in
       let z : LentFor 21 = p .lent (omega arith) in
@@ -444,7 +444,7 @@ module _ (a : Args) (q : ℕ → Loan) (m : ℕ → ℕ → List ℕ) (I : Given
 
   -- ---- `beaver_aand`: round 22
   lent-21 : Past 22 → LentFor 21
-  unfolding isEcho mem
+  unfolding echoIn mem
   lent-21 past = past 21 (omega arith) (omega arith) refl .lent (omega arith)
 
   pub send-22 : SendAt 22

@@ -23,7 +23,8 @@ use Rattle.engine.specs.declared.Session.{Session}
 use Rattle.engine.specs.Step.{frame, Loan, Outcome, other, mask, part, heard}
 use Rattle.engine.specs.World.{Box, sessionOf}
 use Rattle.engine.specs.Area.{toOthers, toOthers-ext, mem, also}
-use Rattle.engine.specs.Plain.{rowsOf, prior, isEcho, numberOf, listOf, digests, protocolOf}
+use Rattle.engine.specs.Order.{echoIn}
+use Rattle.engine.specs.Plain.{rowsOf, prior, isEcho, numberOf, listAt, digests, protocolOf}
 use Rattle.engine.specs.PlainLaws.{chunk-rows}
 use Rattle.engine.specs.Honest.{due, plainAfter}
 use Rattle.engine.specs.Alone.{Tale, wroteFor, sureAt, Lives, State, lives, over, Told, Duties, AsTold, first, all-told}
@@ -63,7 +64,7 @@ module _ (a : Args) (q : ℕ → Loan) (m : ℕ → ℕ → List ℕ) where
 
   module _ (I : Given S) where
     duties : Duties table (f .n) (f .l) (f .i) U m q
-    unfolding isEcho mem allOf plainAfter Found
+    unfolding echoIn mem allOf plainAfter Found
     duties = record {
       lawful = lawful (f .n) (f .l) (I .range);
       own = I .own;
@@ -146,7 +147,7 @@ ByteCalls (c ∷ cs) = Bytes (c .lent .incoming) × ByteCalls cs
 
 -- so is what is received
 received-bytes : (n l i : ℕ) (x : Box) (cs : List Turn) → ByteCalls cs → (k j : ℕ) → Bytes (received table n l i x cs k j)
-unfolding mask heard listOf part Format.listOf echo
+unfolding mask heard listAt part Format.listOf echo
 received-bytes n l i x [] h k j = bytes-nil
 received-bytes n l i x (c ∷ cs) h k j =
     go (taken (answer table n l i x c) && eqb k (c .number)) (received-bytes n l i (turnBox (protocolOf table) x c) cs (h .1) k j)
@@ -218,7 +219,7 @@ module _ (a : Args) (cs : List Turn) where
     pub zeros : box .session .due ≡ 0 → box .work ≡ replicate (length (box .work)) 0
 
   never-echo-zero : isEcho table 0 ≡ false
-  unfolding isEcho mem
+  unfolding echoIn mem
   never-echo-zero = refl
 
   claim : Told table n l i (tale seen) mail loans box → Claim

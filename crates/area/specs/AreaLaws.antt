@@ -8,25 +8,18 @@ use native.Mathlib.Omega.{arith}
 use Rattle.share.specs.Record.{recordLen}
 use Rattle.plan.specs.Plan.{InRange, bucketSize, leaky, bitsCount, dmLen}
 use Rattle.plan.specs.PlanLaws.{leaky-most, bits-most, bucket-high}
-use Rattle.engine.specs.Step.{frame}
+use Rattle.engine.specs.declared.Frame.{Frame}
 use Rattle.engine.specs.Area.{off, Every, every-at}
-use Rattle.rounds.specs.Area.{SECTIONS, leakyLen, sizes, sizeOf, workLen}
-
--- ---- every party's area is laid out the same
-pub size-any : (n l i j s : ℕ) → sizeOf (frame n l i) s ≡ sizeOf (frame n l j) s
-unfolding sizeOf sizes
-size-any n l i j s = refl
-
-pub off-any : (n l i j s : ℕ) → off (sizeOf (frame n l i)) s ≡ off (sizeOf (frame n l j)) s
-unfolding sizeOf sizes
-off-any n l i j s = refl
-
-pub work-any : (n l i j : ℕ) → workLen (frame n l i) ≡ workLen (frame n l j)
-unfolding workLen
-work-any n l i j = off-any n l i j SECTIONS
+use Rattle.rounds.specs.Area.{SECTIONS, leakyLen, sizes, sizeOf}
 
 -- ---- bounds
-module _ (n l : ℕ) (r : InRange n l) where
+module _ (f : Frame) (r : InRange (f .n) (f .l)) where
+  abbrev n : ℕ
+  n = f .n
+
+  abbrev l : ℕ
+  l = f .l
+
   pub by-party : (x : ℕ) {m : ℕ} → x ≤ m → n * x ≤ 8 * m
   by-party x h = mul-le-mul (r .eight) h
 
@@ -53,7 +46,7 @@ module _ (n l : ℕ) (r : InRange n l) where
   abbrev Small : ℕ → Type 0
   Small x = x ≤ 2000000000
 
-  small : Every Small (sizes (frame n l 0))
+  small : Every Small (sizes f)
   unfolding sizes
   small =
       let m = leaky-most l (r .most) in
@@ -131,11 +124,11 @@ module _ (n l : ℕ) (r : InRange n l) where
         ),
       )
 
-  pub size-most : (s : ℕ) → s < SECTIONS → sizeOf (frame n l 0) s ≤ 2000000000
+  pub size-most : (s : ℕ) → s < SECTIONS → sizeOf f s ≤ 2000000000
   unfolding sizeOf sizes
-  size-most s h = every-at Small (sizes (frame n l 0)) 0 small s h
+  size-most s h = every-at Small (sizes f) 0 small s h
 
-  pub off-most : (s : ℕ) → s ≤ SECTIONS → off (sizeOf (frame n l 0)) s ≤ s * 2000000000
+  pub off-most : (s : ℕ) → s ≤ SECTIONS → off (sizeOf f) s ≤ s * 2000000000
   unfolding off
   off-most zero h = omega arith
   off-most (suc s) h = omega (arith, off-most s (omega arith), size-most s h)

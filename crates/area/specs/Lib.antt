@@ -1,3 +1,5 @@
 pub mod AreaLaws
-pub mod SectionLaws
-pub mod Place
+pub mod Given
+pub mod GivenLaws
+pub mod Positions
+pub mod Sizes

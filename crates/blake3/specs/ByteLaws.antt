@@ -22,7 +22,7 @@ use Rattle.block.specs.Trip.{Small, bytesOf-at, length-bytesOf, block-take, blo
 use Rattle.blake3_core.specs.Word.{word, byteOf}
 use Rattle.blake3_core.specs.Compress.{compress, IV}
 use Rattle.blake3_node.specs.Node.{blockWords, after, chunk}
-use Rattle.blake3.specs.Tree.{bytes, digest}
+use Rattle.blake3.specs.Tree.{bytes, digest, hash}
 use Rattle.blake3.specs.TreeLaws.{tree-chunk}
 
 -- ---- bytes of words
@@ -30,6 +30,10 @@ use Rattle.blake3.specs.TreeLaws.{tree-chunk}
 pub length-bytes : (h : List ℕ) → length (bytes h) ≡ 32
 unfolding bytes
 length-bytes h = length-tab 32 (λ k. byteOf (k % 4) (getD h (k / 4) 0))
+
+pub length-hash : (s : List ℕ) → length (hash s) ≡ 32
+unfolding hash
+length-hash s = length-bytes (digest s)
 
 byte : (x : ℕ) → x % 2 ^ 8 < 256
 byte x = omega arith

@@ -12,13 +12,11 @@ use borrow.Author.Tests.{ne-eqb, eqb-true, eqb-false}
 use Rattle.lists.specs.Pick.{pick}
 use Rattle.lists.specs.Rows.{cat-ext}
 use Rattle.engine.specs.declared.Frame.{Frame}
-use Rattle.engine.specs.Step.{Fault, none?, frame, other, mask, orElse, scan, byParty}
+use Rattle.engine.specs.Step.{Fault, none?, other, mask, orElse, scan, byParty}
 use Rattle.engine.specs.StepLaws.{other-cases, or-none, or-first}
 use Rattle.engine.specs.Plain.{rowsOf, waits, waiting, prior, digests, hashes, pending, echoCheck}
-use Rattle.lists.specs.Sect.{get}
-use Rattle.engine.specs.Area.{off, length-sec, mem}
-use Rattle.rounds.specs.Area.{PENDING, HASHES, SECTIONS, sizes, sizeOf, workLen, at}
-use Rattle.area.specs.SectionLaws.{is-section}
+use Rattle.engine.specs.Area.{mem}
+use Rattle.rounds.specs.Area.{PENDING, HASHES, at}
 use Rattle.rounds.specs.Echo.{hashVec, echo, echoFault}
 use Rattle.rounds.specs.EchoLaws.{echoFaults}
 use Rattle.rounds.specs.FaultLaws.{Finds}
@@ -55,23 +53,6 @@ module _ (f : Frame) (m : ℕ → List ℕ) where
 pub hashes-at : (f : Frame) (w : List ℕ) → hashes table f w ≡ at f HASHES w
 unfolding hashes at
 hashes-at f w = refl
-
--- ---- lengths
-pub length-at : (f : Frame) (s : ℕ) (w : List ℕ) → s < SECTIONS → length w ≡ workLen f → length (at f s w) ≡ sizeOf f s
-unfolding at workLen
-length-at f s w h l = length-sec (sizeOf f) SECTIONS w l s h
-
-pub length-part : (n l i s a e : ℕ) (w : List ℕ) → s < SECTIONS → length w ≡ workLen (frame n l i)
-    → a ≡ off (sizeOf (frame n l 0)) s → e ≡ a + sizeOf (frame n l 0) s → length (get a (e - a) w) ≡ sizeOf (frame n l i) s
-length-part n l i s a e w h whole ha he = ap length (is-section n l i s a e ha he w) ∙ length-at (frame n l i) s w h whole
-
-pub pending-size : (f : Frame) → sizeOf f PENDING ≡ 2
-unfolding sizeOf sizes
-pending-size f = refl
-
-pub hashes-size : (f : Frame) → sizeOf f HASHES ≡ f .n * 16
-unfolding sizeOf sizes
-hashes-size f = refl
 
 -- ---- faults
 -- the numbers of a round, compared one by one

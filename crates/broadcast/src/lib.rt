@@ -8,7 +8,7 @@ ghost use lib.ListN.{length};
 ghost use lib.Dec.{eqb};
 ghost use Rattle.lists.specs.Pick.{pick};
 ghost use Rattle.plan.specs.Plan.{kindOf, countDue, msgLen};
-ghost use Rattle.engine.specs.Step.{frame, mask};
+ghost use Rattle.engine.specs.Step.{mask};
 ghost use Rattle.engine.specs.Plain.{waits, digests, echoCheck, hashes, pending};
 ghost use Rattle.engine.specs.Area.{toOthers, mem};
 ghost use Rattle.rounds.specs.Area.{PENDING, HASHES, keep};
@@ -17,33 +17,23 @@ ghost use Rattle.rounds.specs.EchoLaws.{Received};
 ghost use Rattle.rounds.specs.Echo as Echo;
 ghost use Rattle.rounds.specs.FaultLaws.{Finds};
 ghost use Rattle.rounds.specs.Table.{table, faults};
-ghost use Rattle.haand.specs.Given.{Work};
+ghost use Rattle.area.specs.Given.{Work};
+use engine::Frame;
 use message::Kind;
 use rounds::Fault;
-
-const PENDING: usize = 22;
-
-const HASHES: usize = 23;
+use rounds::Mail;
 
 // Keeps the hashes of the lists of round k.
-fn keep_hashes(
-    work: &mut [u8],
-    incoming: &[u8],
-    starts: &[usize],
-    lens: &[usize],
-    n: usize,
-    i: usize,
-    l: usize,
-    k: usize,
-)
-    requires { ⌜ Work n i l (now work) ⌝ }
-    requires { ⌜ Received (kindOf l k) (countDue n l k) n i (now incoming) (now starts) (now lens) ⌝ }
-    ensures { λ _. ⌜ now (work .exit) ≡ keep (frame n l i) HASHES (digests table k (frame n l i)
-        (mask (frame n l i) (letter (now (incoming .entry)) (now (starts .entry)) (now (lens .entry))))) (now (work .entry)) ⌝ }
+fn keep_hashes(work: &mut [u8], incoming: &[u8], mail: Mail, f: Frame, k: usize)
+    requires { ⌜ Work f (now work) ⌝ }
+    requires { ⌜ Received (kindOf (f .l) k) (countDue (f .n) (f .l) k) f (now incoming) mail ⌝ }
+    ensures { λ _. ⌜ now (work .exit) ≡ keep f HASHES (digests table k f
+        (mask f (letter (now (incoming .entry)) mail))) (now (work .entry)) ⌝ }
 {
-    let a = area::section_at(n, l, HASHES);
-    let e = a + area::section_len(n, l, HASHES);
-    echo::keep_hashes(&mut work[a..e], incoming, starts, lens, n, i, l, k);
+    let p = area::place(f, area::HASHES);
+    let a = p.0;
+    let e = p.1;
+    echo::keep_hashes(&mut work[a..e], incoming, mail, f, k);
 }
 
 // The party of a fault in a byte, 0 for none.
@@ -64,13 +54,14 @@ fn put_fault(out: &mut [u8], code: u8, party: usize)
 }
 
 // Keeps a fault.
-fn keep_fault(work: &mut [u8], code: u8, party: usize, n: usize, i: usize, l: usize)
-    requires { ⌜ Work n i l (now work) ⌝ }
-    requires { ⌜ (code ≢ 0 → party < n) ⌝ }
-    ensures { λ _. ⌜ now (work .exit) ≡ keep (frame n l i) PENDING (waits (record { code = code; party = party })) (now (work .entry)) ⌝ }
+fn keep_fault(work: &mut [u8], code: u8, party: usize, f: Frame)
+    requires { ⌜ Work f (now work) ⌝ }
+    requires { ⌜ (code ≢ 0 → party < f .n) ⌝ }
+    ensures { λ _. ⌜ now (work .exit) ≡ keep f PENDING (waits (record { code = code; party = party })) (now (work .entry)) ⌝ }
 {
-    let a = area::section_at(n, l, PENDING);
-    let e = a + area::section_len(n, l, PENDING);
+    let p = area::place(f, area::PENDING);
+    let a = p.0;
+    let e = p.1;
     put_fault(&mut work[a..e], code, party);
 }
 
@@ -80,22 +71,19 @@ pub fn note(
     code: u8,
     party: usize,
     incoming: &[u8],
-    starts: &[usize],
-    lens: &[usize],
-    n: usize,
-    i: usize,
-    l: usize,
+    mail: Mail,
+    f: Frame,
     k: usize,
 )
-    requires { ⌜ Work n i l (now work) ⌝ }
-    requires { ⌜ (code ≢ 0 → party < n) ⌝ }
-    requires { ⌜ Received (kindOf l k) (countDue n l k) n i (now incoming) (now starts) (now lens) ⌝ }
-    ensures { λ _. ⌜ now (work .exit) ≡ keep (frame n l i) PENDING (waits (record { code = code; party = party }))
-        (keep (frame n l i) HASHES (digests table k (frame n l i)
-        (mask (frame n l i) (letter (now (incoming .entry)) (now (starts .entry)) (now (lens .entry))))) (now (work .entry))) ⌝ }
+    requires { ⌜ Work f (now work) ⌝ }
+    requires { ⌜ (code ≢ 0 → party < f .n) ⌝ }
+    requires { ⌜ Received (kindOf (f .l) k) (countDue (f .n) (f .l) k) f (now incoming) mail ⌝ }
+    ensures { λ _. ⌜ now (work .exit) ≡ keep f PENDING (waits (record { code = code; party = party }))
+        (keep f HASHES (digests table k f
+        (mask f (letter (now (incoming .entry)) mail))) (now (work .entry))) ⌝ }
 {
-    keep_hashes(work, incoming, starts, lens, n, i, l, k);
-    keep_fault(work, code, party, n, i, l);
+    keep_hashes(work, incoming, mail, f, k);
+    keep_fault(work, code, party, f);
 }
 
 fn wide(b: u8) -> usize
@@ -121,12 +109,13 @@ fn finds(k: usize, code: u8) -> bool
 }
 
 // The fault that waits for the echo k. A work area may hold anything: what no call left there is no fault.
-fn pending(work: &[u8], n: usize, i: usize, l: usize, k: usize) -> Fault
-    requires { ⌜ Work n i l (now work) ⌝ }
+fn pending(work: &[u8], f: Frame, k: usize) -> Fault
+    requires { ⌜ Work f (now work) ⌝ }
     requires { ⌜ 1 ≤ k ⌝ }
-    ensures { λ r. ⌜ Finds (r .code) (r .party) (pending table k (frame n l i) (now (work .entry))) ⌝ }
+    ensures { λ r. ⌜ Finds (r .code) (r .party) (pending table k f (now (work .entry))) ⌝ }
 {
-    let p = area::section(work, n, i, l, PENDING);
+    let n = f.n;
+    let p = area::section(work, f, area::PENDING);
     let code = p[0];
     let party = wide(p[1]);
     if finds(k - 1, code) & (party < n) {
@@ -139,41 +128,25 @@ fn pending(work: &[u8], n: usize, i: usize, l: usize, k: usize) -> Fault
 }
 
 // The call for the echo k: 3 or 7 with the first sender whose echo has a fault, else the fault that waited.
-pub fn check(
-    work: &[u8],
-    incoming: &[u8],
-    starts: &[usize],
-    lens: &[usize],
-    n: usize,
-    i: usize,
-    l: usize,
-    k: usize,
-) -> Fault
-    requires { ⌜ Work n i l (now work) ⌝ }
+pub fn check(work: &[u8], incoming: &[u8], mail: Mail, f: Frame, k: usize) -> Fault
+    requires { ⌜ Work f (now work) ⌝ }
     requires { ⌜ 1 ≤ k ⌝ }
-    requires { ⌜ Received Kind.Options n n i (now incoming) (now starts) (now lens) ⌝ }
-    ensures { λ r. ⌜ Finds (r .code) (r .party) (echoCheck table k (frame n l i) (now (work .entry))
-        (mask (frame n l i) (letter (now (incoming .entry)) (now (starts .entry)) (now (lens .entry))))) ⌝ }
+    requires { ⌜ Received Kind.Options (f .n) f (now incoming) mail ⌝ }
+    ensures { λ r. ⌜ Finds (r .code) (r .party) (echoCheck table k f (now (work .entry))
+        (mask f (letter (now (incoming .entry)) mail))) ⌝ }
 {
-    let e = echo::check_echoes(
-        area::section(work, n, i, l, HASHES),
-        incoming,
-        starts,
-        lens,
-        n,
-        i,
-    );
+    let e = echo::check_echoes(area::section(work, f, area::HASHES), incoming, mail, f);
     if e.code != 0 {
         return e;
     }
-    pending(work, n, i, l, k)
+    pending(work, f, k)
 }
 
 // The echoes to all others, from the hashes that are kept.
-pub fn write(out: &mut [u8], work: &[u8], n: usize, i: usize, l: usize)
-    requires { ⌜ Work n i l (now work) ⌝ }
-    requires { ⌜ length (now out) ≡ (n - 1) * msgLen n 1 2 ⌝ }
-    ensures { λ _. ⌜ now (out .exit) ≡ toOthers n i (Echo.echoMsg n i (hashes table (frame n l i) (now (work .entry)))) ⌝ }
+pub fn write(out: &mut [u8], work: &[u8], f: Frame)
+    requires { ⌜ Work f (now work) ⌝ }
+    requires { ⌜ length (now out) ≡ (f .n - 1) * msgLen (f .n) 1 2 ⌝ }
+    ensures { λ _. ⌜ now (out .exit) ≡ toOthers (f .n) (f .i) (Echo.echoMsg (f .n) (f .i) (hashes table f (now (work .entry)))) ⌝ }
 {
-    echo::write_echoes(out, area::section(work, n, i, l, HASHES), n, i);
+    echo::write_echoes(out, area::section(work, f, area::HASHES), f);
 }

@@ -1,5 +1,5 @@
--- The ten starred cases of document 01's "Checked by hand", about the definitions that the contracts cite. A row is a test; one theorem says that
--- every row holds.
+-- The ten starred cases of document 01's "Checked by hand", about the definitions that the contracts cite. A row is a test; one theorem
+-- says that every row holds.
 use mathlib.Core.Path.{_≡_, refl}
 use mathlib.Core.Bool.{Bool, true, false, not, _&&_}
 use mathlib.Core.List.{List, [], _∷_, _++_}

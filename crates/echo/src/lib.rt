@@ -14,13 +14,15 @@ ghost use Rattle.plan.specs.Plan.{kindOf, countDue, msgLen};
 ghost use Rattle.engine.specs.Step.{frame, byParty};
 ghost use Rattle.engine.specs.Area.{toOthers};
 ghost use Rattle.engine.specs.Plain.{rowsOf};
-ghost use Rattle.rounds.specs.Mail as Mail;
+ghost use Rattle.rounds.specs.Mail.{letter};
 ghost use Rattle.rounds.specs.FaultLaws.{Finds, faultAt};
 ghost use Rattle.rounds.specs.Echo as Echo;
 ghost use Rattle.rounds.specs.EchoLaws.{Received, entry, entryLen, toldFault, echoFaults};
 use block::Block;
+use engine::Frame;
 use message::Kind;
 use rounds::Fault;
+use rounds::Mail;
 
 // ---- what is kept of the lists
 
@@ -37,45 +39,29 @@ fn hash_list(list: &[u8], k: usize) -> Block
 }
 
 // The hash of the list that party j sent; zero for the own number.
-fn hash_row(
-    incoming: &[u8],
-    starts: &[usize],
-    lens: &[usize],
-    n: usize,
-    i: usize,
-    l: usize,
-    k: usize,
-    j: usize,
-) -> Block
-    requires { ⌜ j < n ⌝ }
-    requires { ⌜ Received (kindOf l k) (countDue n l k) n i (now incoming) (now starts) (now lens) ⌝ }
-    ensures { λ r. ⌜ bytesOf r ≡ pick (neq i j) (Echo.hashVec k (Mail.letter (now (incoming .entry)) (now (starts .entry)) (now (lens .entry)) j)) (replicate 16 0) ⌝ }
+fn hash_row(incoming: &[u8], mail: Mail, f: Frame, k: usize, j: usize) -> Block
+    requires { ⌜ j < f .n ⌝ }
+    requires { ⌜ Received (kindOf (f .l) k) (countDue (f .n) (f .l) k) f (now incoming) mail ⌝ }
+    ensures { λ r. ⌜ bytesOf r ≡ pick (neq (f .i) j) (Echo.hashVec k (letter (now (incoming .entry)) mail j)) (replicate 16 0) ⌝ }
 {
+    let i = f.i;
     if j == i {
         return Block::zero();
     }
-    let m = rounds::letter(incoming, starts, lens, j);
+    let m = rounds::letter(incoming, mail, j);
     hash_list(m, k)
 }
 
 // The hashes of the lists of round k, by party.
-pub fn keep_hashes(
-    section: &mut [u8],
-    incoming: &[u8],
-    starts: &[usize],
-    lens: &[usize],
-    n: usize,
-    i: usize,
-    l: usize,
-    k: usize,
-)
-    requires { ⌜ (n ≤ 8) × (length (now section) ≡ n * 16) ⌝ }
-    requires { ⌜ Received (kindOf l k) (countDue n l k) n i (now incoming) (now starts) (now lens) ⌝ }
-    ensures { λ _. ⌜ now (section .exit) ≡ rowsOf (frame n l i) (λ j. Echo.hashVec k (Mail.letter (now (incoming .entry)) (now (starts .entry)) (now (lens .entry)) j)) ⌝ }
+pub fn keep_hashes(section: &mut [u8], incoming: &[u8], mail: Mail, f: Frame, k: usize)
+    requires { ⌜ (f .n ≤ 8) × (length (now section) ≡ f .n * 16) ⌝ }
+    requires { ⌜ Received (kindOf (f .l) k) (countDue (f .n) (f .l) k) f (now incoming) mail ⌝ }
+    ensures { λ _. ⌜ now (section .exit) ≡ rowsOf f (λ j. Echo.hashVec k (letter (now (incoming .entry)) mail j)) ⌝ }
 {
+    let n = f.n;
     let mut j = 0;
     while j < n {
-        let h = hash_row(incoming, starts, lens, n, i, l, k, j);
+        let h = hash_row(incoming, mail, f, k, j);
         let a = j * 16;
         let e = a + 16;
         block::store(&mut section[a..e], h);
@@ -112,11 +98,13 @@ fn put_entry(out: &mut [u8], hashes: &[u8], i: usize, r: usize, k: usize)
 }
 
 // The echo from i to r: n options, whose lengths vary, one behind the other.
-fn put_echo(out: &mut [u8], hashes: &[u8], n: usize, i: usize, r: usize)
-    requires { ⌜ (n ≤ 8) × ((i < n) × ((r < n) × (i ≢ r))) ⌝ }
-    requires { ⌜ (length (now out) ≡ msgLen n 1 2) × (length (now hashes) ≡ n * 16) ⌝ }
-    ensures { λ _. ⌜ now (out .exit) ≡ Echo.echoMsg n i (now (hashes .entry)) r ⌝ }
+fn put_echo(out: &mut [u8], hashes: &[u8], f: Frame, r: usize)
+    requires { ⌜ (f .n ≤ 8) × ((f .i < f .n) × ((r < f .n) × (f .i ≢ r))) ⌝ }
+    requires { ⌜ (length (now out) ≡ msgLen (f .n) 1 2) × (length (now hashes) ≡ f .n * 16) ⌝ }
+    ensures { λ _. ⌜ now (out .exit) ≡ Echo.echoMsg (f .n) (f .i) (now (hashes .entry)) r ⌝ }
 {
+    let n = f.n;
+    let i = f.i;
     encode::put_count(&mut out[0..8], n);
     let mut a = 8;
     let mut k = 0;
@@ -129,11 +117,13 @@ fn put_echo(out: &mut [u8], hashes: &[u8], n: usize, i: usize, r: usize)
 }
 
 // The echoes to all others.
-pub fn write_echoes(out: &mut [u8], hashes: &[u8], n: usize, i: usize)
-    requires { ⌜ (2 ≤ n) × ((n ≤ 8) × (i < n)) ⌝ }
-    requires { ⌜ (length (now out) ≡ (n - 1) * msgLen n 1 2) × (length (now hashes) ≡ n * 16) ⌝ }
-    ensures { λ _. ⌜ now (out .exit) ≡ toOthers n i (Echo.echoMsg n i (now (hashes .entry))) ⌝ }
+pub fn write_echoes(out: &mut [u8], hashes: &[u8], f: Frame)
+    requires { ⌜ (2 ≤ f .n) × ((f .n ≤ 8) × (f .i < f .n)) ⌝ }
+    requires { ⌜ (length (now out) ≡ (f .n - 1) * msgLen (f .n) 1 2) × (length (now hashes) ≡ f .n * 16) ⌝ }
+    ensures { λ _. ⌜ now (out .exit) ≡ toOthers (f .n) (f .i) (Echo.echoMsg (f .n) (f .i) (now (hashes .entry))) ⌝ }
 {
+    let n = f.n;
+    let i = f.i;
     let len = plan::msg_len(n, 1, 2);
     let last = n - 1;
     let mut q = 0;
@@ -141,7 +131,7 @@ pub fn write_echoes(out: &mut [u8], hashes: &[u8], n: usize, i: usize)
         let r = plan::other(i, q);
         let a = q * len;
         let e = a + len;
-        put_echo(&mut out[a..e], hashes, n, i, r);
+        put_echo(&mut out[a..e], hashes, f, r);
         q += 1;
     }
 }
@@ -166,11 +156,13 @@ fn entry_fault(m: &[u8], hashes: &[u8], n: usize, k: usize) -> u8
 }
 
 // The fault of entry k of what j told i; none where k is one of the two.
-fn told_fault(m: &[u8], hashes: &[u8], n: usize, i: usize, j: usize, k: usize) -> u8
-    requires { ⌜ formOf Kind.Options n (now m) ≡ 0 ⌝ }
-    requires { ⌜ (n ≤ 8) × ((k < n) × (length (now hashes) ≡ n * 16)) ⌝ }
-    ensures { λ r. ⌜ r ≡ toldFault i j (now (hashes .entry)) (now (m .entry)) k ⌝ }
+fn told_fault(m: &[u8], hashes: &[u8], f: Frame, j: usize, k: usize) -> u8
+    requires { ⌜ formOf Kind.Options (f .n) (now m) ≡ 0 ⌝ }
+    requires { ⌜ (f .n ≤ 8) × ((k < f .n) × (length (now hashes) ≡ f .n * 16)) ⌝ }
+    ensures { λ r. ⌜ r ≡ toldFault (f .i) j (now (hashes .entry)) (now (m .entry)) k ⌝ }
 {
+    let n = f.n;
+    let i = f.i;
     if told(i, j, k) {
         entry_fault(m, hashes, n, k)
     } else {
@@ -179,14 +171,15 @@ fn told_fault(m: &[u8], hashes: &[u8], n: usize, i: usize, j: usize, k: usize) -
 }
 
 // The first fault of what j told i.
-pub fn check_echo(m: &[u8], hashes: &[u8], n: usize, i: usize, j: usize) -> u8
-    requires { ⌜ formOf Kind.Options n (now m) ≡ 0 ⌝ }
-    requires { ⌜ (n ≤ 8) × (length (now hashes) ≡ n * 16) ⌝ }
-    ensures { λ r. ⌜ r ≡ Echo.echoFault n i j (now (hashes .entry)) (now (m .entry)) ⌝ }
+pub fn check_echo(m: &[u8], hashes: &[u8], f: Frame, j: usize) -> u8
+    requires { ⌜ formOf Kind.Options (f .n) (now m) ≡ 0 ⌝ }
+    requires { ⌜ (f .n ≤ 8) × (length (now hashes) ≡ f .n * 16) ⌝ }
+    ensures { λ r. ⌜ r ≡ Echo.echoFault (f .n) (f .i) j (now (hashes .entry)) (now (m .entry)) ⌝ }
 {
+    let n = f.n;
     let mut k = 0;
     while k < n {
-        let code = told_fault(m, hashes, n, i, j, k);
+        let code = told_fault(m, hashes, f, j, k);
         if code != 0 {
             return code;
         }
@@ -196,42 +189,29 @@ pub fn check_echo(m: &[u8], hashes: &[u8], n: usize, i: usize, j: usize) -> u8
 }
 
 // The fault of party j's echo; none of the own number.
-fn echo_fault(
-    hashes: &[u8],
-    incoming: &[u8],
-    starts: &[usize],
-    lens: &[usize],
-    n: usize,
-    i: usize,
-    j: usize,
-) -> u8
-    requires { ⌜ (n ≤ 8) × ((j < n) × (length (now hashes) ≡ n * 16)) ⌝ }
-    requires { ⌜ Received Kind.Options n n i (now incoming) (now starts) (now lens) ⌝ }
-    ensures { λ r. ⌜ r ≡ faultAt i (echoFaults n i (now (hashes .entry)) (Mail.letter (now (incoming .entry)) (now (starts .entry)) (now (lens .entry)))) j ⌝ }
+fn echo_fault(hashes: &[u8], incoming: &[u8], mail: Mail, f: Frame, j: usize) -> u8
+    requires { ⌜ (f .n ≤ 8) × ((j < f .n) × (length (now hashes) ≡ f .n * 16)) ⌝ }
+    requires { ⌜ Received Kind.Options (f .n) f (now incoming) mail ⌝ }
+    ensures { λ r. ⌜ r ≡ faultAt (f .i) (echoFaults (f .n) (f .i) (now (hashes .entry)) (letter (now (incoming .entry)) mail)) j ⌝ }
 {
+    let i = f.i;
     if j == i {
         return 0;
     }
-    let m = rounds::letter(incoming, starts, lens, j);
-    check_echo(m, hashes, n, i, j)
+    let m = rounds::letter(incoming, mail, j);
+    check_echo(m, hashes, f, j)
 }
 
 // 3 or 7 with the first sender whose echo has a fault.
-pub fn check_echoes(
-    hashes: &[u8],
-    incoming: &[u8],
-    starts: &[usize],
-    lens: &[usize],
-    n: usize,
-    i: usize,
-) -> Fault
-    requires { ⌜ (n ≤ 8) × (length (now hashes) ≡ n * 16) ⌝ }
-    requires { ⌜ Received Kind.Options n n i (now incoming) (now starts) (now lens) ⌝ }
-    ensures { λ r. ⌜ ((l : ℕ) → Finds (r .code) (r .party) (byParty (frame n l i) (echoFaults n i (now (hashes .entry)) (Mail.letter (now (incoming .entry)) (now (starts .entry)) (now (lens .entry)))))) ⌝ }
+pub fn check_echoes(hashes: &[u8], incoming: &[u8], mail: Mail, f: Frame) -> Fault
+    requires { ⌜ (f .n ≤ 8) × (length (now hashes) ≡ f .n * 16) ⌝ }
+    requires { ⌜ Received Kind.Options (f .n) f (now incoming) mail ⌝ }
+    ensures { λ r. ⌜ Finds (r .code) (r .party) (byParty f (echoFaults (f .n) (f .i) (now (hashes .entry)) (letter (now (incoming .entry)) mail))) ⌝ }
 {
+    let n = f.n;
     let mut j = 0;
     while j < n {
-        let code = echo_fault(hashes, incoming, starts, lens, n, i, j);
+        let code = echo_fault(hashes, incoming, mail, f, j);
         if code != 0 {
             return Fault {
                 code: code,

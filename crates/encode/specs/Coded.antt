@@ -11,7 +11,7 @@ use lib.Dec.{eqb}
 use borrow.Author.Tests.{eq-eqb, lt-ltb, le-leb}
 use Rattle.lists.specs.Over.{cat, length-cat}
 use Rattle.lists.specs.Bytes.{Bytes, bytes-nil, bytes-cons, bytes-append, bytes-cat}
-use Rattle.lists.specs.Rows.{chunk-cat, getD-chunk}
+use Rattle.lists.specs.Rows.{chunk-cat, getD-chunk, cat-ext}
 use Rattle.algebra.specs.Group.{num}
 use Rattle.block.specs.declared.Block.{Block}
 use Rattle.block.specs.Block.{wordAt, le8, bytesOf}
@@ -108,6 +108,11 @@ coded-block x = coded-bytes 16 (bytesOf x) (omega arith) (length-bytesOf x)
 pub length-encode : (size c : ℕ) (g : ℕ → List ℕ) → ((t : ℕ) → t < c → length (g t) ≡ size) → length (encode c g) ≡ 8 + c * size
 unfolding encode
 length-encode size c g h = length-append (le8 c) (cat c g) ∙ ap₂ _+_ (length-le8 c) (length-cat c size g h)
+
+-- items that agree make the same list
+pub encode-ext : (c : ℕ) (g h : ℕ → List ℕ) → ((t : ℕ) → t < c → g t ≡ h t) → encode c g ≡ encode c h
+unfolding encode
+encode-ext c g h e = ap (λ (s : List ℕ). le8 c ++ s) (cat-ext c g h e)
 
 pub count-encode : (c : ℕ) (g : ℕ → List ℕ) (rest : List ℕ) → c < 2 ^ 64 → wordAt (encode c g ++ rest) 0 ≡ c
 unfolding encode

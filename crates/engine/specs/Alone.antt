@@ -7,19 +7,20 @@ use mathlib.Core.List.{List, [], _∷_}
 use Prim.Native.Nat.{ℕ, zero, suc, _*_, _<_, _≤_}
 use native.Mathlib.Omega.{arith}
 use lib.ListN.{length, replicate, length-replicate}
-use lib.Dec.{eqb}
-use borrow.Author.Tests.{eqb-true, eqb-false, eq-eqb, ne-eqb}
+use lib.Dec.{leb, eqb}
+use borrow.Author.Tests.{le-leb, eqb-true, eqb-false, eq-eqb, ne-eqb}
 use Rattle.lists.specs.Pick.{pick}
-use Rattle.lists.specs.All.{allOf, of-all, true-false}
+use Rattle.lists.specs.All.{allOf, of-all, true-false, and-false}
 use Rattle.engine.specs.Step.{Frame, frame, Session, Loan, Lent, Accepted, Outcome, Fault, Protocol, mask, part, heard, reasonOf, faultOf, accepted, roundSpec}
 use Rattle.engine.specs.StepLaws.{round-faults, round-cases, Due, due-of, last-or, or-zero, fault-clean, mask-at}
 use Rattle.engine.specs.World.{Box, turnedBox, sessionOf}
 use Rattle.engine.specs.OneBox.{Turn, turnBox, turns, Reads, AllRead, alive-some}
 use Rattle.engine.specs.Area.{off, putSec, length-putSec, sec-other, toOthers, toOthers-ext, mem, Every, every-mem}
 use Rattle.engine.specs.Sheet.{Store, Known}
-use Rattle.engine.specs.Plain.{Table, prior, isEcho, nextOf, numberOf, toEcho, lentOf, formOf, listOf, pending, digests, echoCheck, checkOf, waits, kept, held, made, keepOf, writeOf, protocolOf}
+use Rattle.engine.specs.Order.{nextIn}
+use Rattle.engine.specs.Plain.{Table, prior, isEcho, nextOf, numberOf, toEcho, lentOf, formAt, listAt, pending, digests, echoCheck, checkOf, waits, kept, held, made, keepOf, writeOf, protocolOf}
 use Rattle.engine.specs.Honest.{Lawful, before, due, plainAfter}
-use Rattle.engine.specs.PlainLaws.{and-false, length-rows, held-waits, first-plain, no-two, echo-not-last, next-on, next-echo, next-plain}
+use Rattle.engine.specs.PlainLaws.{length-rows, held-waits, first-plain, no-two, echo-not-last, next-on, next-echo, next-plain}
 
 -- What the box holds and sends. ready t s: section s holds its value at moment t; val s: that value; sent k r: the message of round k,
 -- which is no echo, to r; result: what the last call writes
@@ -120,7 +121,7 @@ module _ (T : Table) (n l i : ℕ) (U : Tale) (m : ℕ → ℕ → List ℕ) (q 
   pub record Duties : Type 0 where
     pub lawful : Lawful T n l
     pub own : i < n
-    pub tail : isEcho T (suc (T .last)) ≡ false
+    pub tail : isEcho T (suc (T .order .last)) ≡ false
     pub grows : (s t u : ℕ) → t ≤ u → U .ready t s ≡ true → U .ready u s ≡ true
     pub digest-len : (k : ℕ) (x : List ℕ) → length (T .recv k .digest f x) ≡ 16
     -- a content check finds one of its round's numbers, and names a party of the session
@@ -129,16 +130,16 @@ module _ (T : Table) (n l i : ℕ) (U : Tale) (m : ℕ → ℕ → List ℕ) (q 
     -- the list that is read of a message is of the right form too
     pub reads : (k : ℕ) (x : List ℕ) → T .recv k .form f x ≡ 0 → T .recv k .form f (T .recv k .list f x) ≡ 0
     pub plain : List ℕ
-    pub whole : allOf (T .last) (λ k. pick (eqb k 0) true (pick (isEcho T k) true (mem k plain))) ≡ true
+    pub whole : allOf (T .order .last) (λ k. pick (eqb k 0) true (pick (isEcho T k) true (mem k plain))) ≡ true
     pub recv : Every RecvAt plain
     pub send : Every (λ k. SendAt (plainAfter T k)) plain
-    pub last : LastAt (T .last)
+    pub last : LastAt (T .order .last)
 
   -- ---- THE PROOF
   -- what is known besides, when round k is due
   pub record Plainly (k : ℕ) (w : List ℕ) : Type 0 where
     pub some : 0 < k
-    pub low : k ≤ T .last
+    pub low : k ≤ T .order .last
     pub plain : isEcho T k ≡ false
     pub past : Past k
     pub lent : 1 < k → LentFor k
@@ -148,7 +149,7 @@ module _ (T : Table) (n l i : ℕ) (U : Tale) (m : ℕ → ℕ → List ℕ) (q 
   pub record Echoing (k : ℕ) (v : List ℕ) : Type 0 where
     pub work : List ℕ
     pub before : Plainly k work
-    pub more : k < T .last
+    pub more : k < T .order .last
     pub echo : isEcho T (suc k) ≡ true
     pub formed : Formed k
     pub held-is : v ≡ held T k f work (m k)
@@ -163,10 +164,10 @@ module _ (T : Table) (n l i : ℕ) (U : Tale) (m : ℕ → ℕ → List ℕ) (q 
     W = D .lawful
 
     abbrev PlainAt : ℕ → Type 0
-    PlainAt k = (0 < k) × (k < T .last) × (isEcho T k ≡ false)
+    PlainAt k = (0 < k) × (k < T .order .last) × (isEcho T k ≡ false)
 
     listed : (k : ℕ) → PlainAt k → mem k (D .plain) ≡ true
-    listed k h = go (eqb k 0) refl (of-all (T .last) _ (D .whole) k (h .1))
+    listed k h = go (eqb k 0) refl (of-all (T .order .last) _ (D .whole) k (h .1))
       where
         go : (b : Bool) → eqb k 0 ≡ b → pick b true (pick (isEcho T k) true (mem k (D .plain))) ≡ true → mem k (D .plain) ≡ true
         go true e t = absurd (let z : k ≡ 0 = eqb-true k 0 e in omega (arith, h .0))
@@ -280,7 +281,7 @@ module _ (T : Table) (n l i : ℕ) (U : Tale) (m : ℕ → ℕ → List ℕ) (q 
       pub wrote : writeOf T k f (q (nextOf T two k)) w (m k) ≡ wroteFor (nextOf T two k)
 
     -- it makes the messages of a plain round
-    module _ (d k : ℕ) (w : List ℕ) (nk : numberOf T two d ≡ k) (ne : k ≢ T .last) (on : toEcho T two k ≡ false) where
+    module _ (d k : ℕ) (w : List ℕ) (nk : numberOf T two d ≡ k) (ne : k ≢ T .order .last) (on : toEcho T two k ≡ false) where
       abbrev j : ℕ
       j = nextOf T two k
 
@@ -292,13 +293,14 @@ module _ (T : Table) (n l i : ℕ) (U : Tale) (m : ℕ → ℕ → List ℕ) (q 
 
       keep-is : keepOf T k f (q j) w (m k) ≡ work
       unfolding keepOf made
-      keep-is = rw (ne-eqb k (T .last) ne, on) refl
+      keep-is = rw (ne-eqb k (T .order .last) ne, on) refl
 
       write-is : writeOf T k f (q j) w (m k) ≡ toOthers n i (T .send j .write f (q j) work)
       unfolding writeOf made
-      write-is = rw (ne-eqb k (T .last) ne, on) refl
+      write-is = rw (ne-eqb k (T .order .last) ne, on) refl
 
-      makes : 0 < j → j ≤ T .last → isEcho T j ≡ false → Past j → lentOf T k n l (q j) ≡ 0 → SendAt j → At (before j) got → Steps d k w
+      makes : 0 < j → j ≤ T .order .last → isEcho T j ≡ false → Past j → lentOf T k n l (q j) ≡ 0 → SendAt j → At (before j) got
+          → Steps d k w
       unfolding numberOf wroteFor lentOf
       makes some low plain past z S K =
           let K′ : At (due j) work = S .keeps past z got K in
@@ -322,25 +324,26 @@ module _ (T : Table) (n l i : ℕ) (U : Tale) (m : ℕ → ℕ → List ℕ) (q 
         judged = rw (A .plain, on) at clean;
       }
 
-      not-last-echo : k ≡ T .last → toEcho T two k ≡ false
+      not-last-echo : k ≡ T .order .last → toEcho T two k ≡ false
       unfolding toEcho
       not-last-echo p = rw (p, D .tail) (and-false (not two))
 
-      at-last : k ≡ T .last → Steps d k w
-      unfolding nextOf keepOf writeOf wroteFor passed
+      at-last : k ≡ T .order .last → Steps d k w
+      unfolding nextIn keepOf writeOf wroteFor passed
       at-last p =
-          let z : eqb k (T .last) ≡ true = eq-eqb k (T .last) p in
+          let z : eqb k (T .order .last) ≡ true = eq-eqb k (T .order .last) p in
+          let y : leb (T .order .last) k ≡ true = le-leb (T .order .last) k (omega arith) in
           record {
-            stands = rw z (ends (ap (λ c. replicate c 0) (sym (length-replicate {A = ℕ} (length w) 0))));
-            wrote = rw z (subst LastAt (sym p) (D .last) (A .past) (passed (not-last-echo p)));
+            stands = rw (z, y) (ends (ap (λ c. replicate c 0) (sym (length-replicate {A = ℕ} (length w) 0))));
+            wrote = rw (z, y) (subst LastAt (sym p) (D .last) (A .past) (passed (not-last-echo p)));
           }
 
-      at-echo : k < T .last → toEcho T two k ≡ true → Steps d k w
+      at-echo : k < T .order .last → toEcho T two k ≡ true → Steps d k w
       unfolding numberOf keepOf writeOf wroteFor
       at-echo lk te =
-          let ne : k ≢ T .last = λ p. omega arith in
-          let c = next-echo T n l W two k ne te in
-          let r : eqb k (T .last) ≡ false = ne-eqb k (T .last) ne in
+          let ne : k ≢ T .order .last = λ p. omega arith in
+          let c = next-echo T n l W two k lk te in
+          let r : eqb k (T .order .last) ≡ false = ne-eqb k (T .order .last) ne in
           let E : Echoing k (held T k f w (m k)) =
           record { work = w; before = A; more = lk; echo = c .1; formed = formed; held-is = refl } in
           record {
@@ -348,14 +351,14 @@ module _ (T : Table) (n l i : ℕ) (U : Tale) (m : ℕ → ℕ → List ℕ) (q 
             wrote = rw (r, te, c .0, ne-eqb (suc k) 0 (λ e. omega arith), c .1) refl;
           }
 
-      at-plain : k < T .last → toEcho T two k ≡ false → Steps d k w
+      at-plain : k < T .order .last → toEcho T two k ≡ false → Steps d k w
       unfolding passed
       at-plain lk te =
-          let ne : k ≢ T .last = λ p. omega arith in
+          let ne : k ≢ T .order .last = λ p. omega arith in
           let x = next-plain T n l W k lk te in
           let h : PlainAt k = (A .some, lk, A .plain) in
           let p : Passed k = passed te in
-          makes d k w nk ne te (subst (λ j. 0 < j) (sym (x .0)) after-some) (subst (λ j. j ≤ T .last) (sym (x .0)) after-low)
+          makes d k w nk ne te (subst (λ j. 0 < j) (sym (x .0)) after-some) (subst (λ j. j ≤ T .order .last) (sym (x .0)) after-low)
           (ap (isEcho T) (x .0) ∙ x .1) (subst Past (sym (x .0)) (past-after k (A .past) p)) lent (subst SendAt (sym (x .0)) (send-of k h))
           (subst (λ j. At (before j) (pick (isEcho T k) w (T .recv k .keep f w (m k)))) (sym (x .0))
           (rw (A .plain) (recv-of k h (A .past) p)))
@@ -363,23 +366,23 @@ module _ (T : Table) (n l i : ℕ) (U : Tale) (m : ℕ → ℕ → List ℕ) (q 
           after-some : 0 < plainAfter T k
           after-some = unfold plainAfter in omega arith
 
-          after-low : plainAfter T k ≤ T .last
+          after-low : plainAfter T k ≤ T .order .last
           after-low = unfold plainAfter in go (isEcho T (suc k)) refl
             where
-              go : (b : Bool) → isEcho T (suc k) ≡ b → suc (pick b (suc k) k) ≤ T .last
+              go : (b : Bool) → isEcho T (suc k) ≡ b → suc (pick b (suc k) k) ≤ T .order .last
               go true e = omega (arith, echo-not-last T n l W (suc k) e)
               go false e = omega arith
 
       pub step-plain : Steps d k w
-      step-plain = by-last (eqb k (T .last)) refl
+      step-plain = by-last (eqb k (T .order .last)) refl
         where
-          by-echo : k < T .last → (b : Bool) → toEcho T two k ≡ b → Steps d k w
+          by-echo : k < T .order .last → (b : Bool) → toEcho T two k ≡ b → Steps d k w
           by-echo lk true e = at-echo lk e
           by-echo lk false e = at-plain lk e
 
-          by-last : (b : Bool) → eqb k (T .last) ≡ b → Steps d k w
-          by-last true e = at-last (eqb-true k (T .last) e)
-          by-last false e = by-echo (omega (arith, A .low, eqb-false k (T .last) e)) (toEcho T two k) refl
+          by-last : (b : Bool) → eqb k (T .order .last) ≡ b → Steps d k w
+          by-last true e = at-last (eqb-true k (T .order .last) e)
+          by-last false e = by-echo (omega (arith, A .low, eqb-false k (T .order .last) e)) (toEcho T two k) refl
 
     -- ---- for an echo
     module _ (d k : ℕ) (v : List ℕ) (nk : numberOf T two d ≡ suc k) (E : Echoing k v)
@@ -389,16 +392,17 @@ module _ (T : Table) (n l i : ℕ) (U : Tale) (m : ℕ → ℕ → List ℕ) (q 
       step-echo =
           let z : echoCheck T (suc k) f v (m (suc k)) .code ≡ 0 = rw (E .echo) at clean in
           let g : Judged k (E .work) = judged-before k v E (or-zero _ (pending T (suc k) f v) z .1) in
-          let ne : suc k ≢ T .last = echo-not-last T n l W (suc k) (E .echo) in
+          let ne : suc k ≢ T .order .last = echo-not-last T n l W (suc k) (E .echo) in
           let single : isEcho T (suc (suc k)) ≡ false = no-two T n l W (suc k) (E .more) (E .echo) in
-          let x : nextOf T two (suc k) ≡ suc (suc k) = next-on T n l W two (suc k) ne (ap (λ b. two && b) single ∙ and-false two) in
+          let x : nextOf T two (suc k) ≡ suc (suc k) =
+          next-on T n l W two (suc k) (omega (arith, ne, E .more)) (ap (λ b. two && b) single ∙ and-false two) in
           let after : plainAfter T k ≡ suc (suc k) = rw (E .echo) refl in
           let h : PlainAt k = (E .before .some, E .more, E .before .plain) in
           let p : Passed k = passed-before k v E g in
           let to : ℕ = nextOf T two (suc k) in
           let e : plainAfter T k ≡ to = after ∙ sym x in
           makes d (suc k) v nk ne (ap (λ b. not two && b) single ∙ and-false (not two)) (subst (λ j. 0 < j) (sym x) (omega arith))
-          (subst (λ j. j ≤ T .last) (sym x) (omega (arith, E .more))) (ap (isEcho T) x ∙ single)
+          (subst (λ j. j ≤ T .order .last) (sym x) (omega (arith, E .more))) (ap (isEcho T) x ∙ single)
           (subst Past e (past-after k (E .before .past) p)) lent (subst SendAt e (send-of k h))
           (rw (E .echo) (subst (λ j. At (before j) v) e (known-after k v E g)))
 
@@ -428,9 +432,9 @@ module _ (T : Table) (n l i : ℕ) (U : Tale) (m : ℕ → ℕ → List ℕ) (q 
     number-over d zero w (ends b) ne = absurd (ne refl)
 
     -- what is read of a message of the right form is of that form
-    formed-at : (k : ℕ) (lt : Lent) → isEcho T k ≡ false → (j : ℕ) → j < n → i ≢ j → formOf T k f (part lt j) ≡ 0
+    formed-at : (k : ℕ) (lt : Lent) → isEcho T k ≡ false → (j : ℕ) → j < n → i ≢ j → formAt T k f (part lt j) ≡ 0
         → T .recv k .form f (mask f (heard (P .rule k) f lt) j) ≡ 0
-    unfolding heard formOf listOf
+    unfolding heard formAt listAt
     formed-at k lt e j lj ne h =
         ap (T .recv k .form f)
         (mask-at f (heard (P .rule k) f lt) j lj ne ∙ ap (λ b. pick b (T .echo .list (part lt j)) (T .recv k .list f (part lt j))) e)
@@ -499,7 +503,7 @@ module _ (T : Table) (n l i : ℕ) (U : Tale) (m : ℕ → ℕ → List ℕ) (q 
           let v : Due P s a lt = due-of P s a lt (x .work) z in
           let c = fault-clean (P .rule a) f lt (x .work) g in
           takes a (v .number)
-          (subst (λ a. lentOf T a n l (lt .loan) ≡ 0 → ((j : ℕ) → j < n → i ≢ j → formOf T a f (part lt j) ≡ 0)
+          (subst (λ a. lentOf T a n l (lt .loan) ≡ 0 → ((j : ℕ) → j < n → i ≢ j → formAt T a f (part lt j) ≡ 0)
           → checkOf T a f (x .work) (mask f (heard (P .rule a) f lt)) .code ≡ 0
           → Allowed k (x .work) (mask f (heard (P .rule k) f lt)) (lt .loan)) (sym (v .number))
           (λ h1 h2 h3. record {
@@ -554,7 +558,7 @@ module _ (T : Table) (n l i : ℕ) (U : Tale) (m : ℕ → ℕ → List ℕ) (q 
     all-told (c ∷ cs) x F r = all-told cs (turnBox P x c) (still-told x c F (r .0)) (r .1)
 
     -- ---- after opening
-    pub first : (x : Box) → 1 ≤ T .last → x .session ≡ sessionOf n l i 1 → x .rounds ≡ 0 → At (due 1) (x .work)
+    pub first : (x : Box) → 1 ≤ T .order .last → x .session ≡ sessionOf n l i 1 → x .rounds ≡ 0 → At (due 1) (x .work)
         → x .wrote ≡ toOthers n i (U .sent 1) → AsTold x
     unfolding numberOf wroteFor
     first x low s d K o = record {

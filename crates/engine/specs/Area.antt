@@ -5,11 +5,9 @@ use mathlib.Core.Logic.{_≢_}
 use mathlib.Core.List.{List, [], _∷_, _++_, append-assoc}
 use Prim.Native.Nat.{ℕ, zero, suc, _+_, _-_, _*_, _<_, _≤_, min}
 use native.Mathlib.Nat.{le-refl, mul-comm}
-use native.Mathlib.Numerals.{add-one}
 use native.Mathlib.Omega.{arith}
-use lib.ListN.{length, getD, take, drop, set, length-append, length-take, length-drop, take-append-drop}
-use lib.Seq.{take-at, drop-at, take-take, drop-drop, take-add, take-append-le, drop-append-le, length-take-le, getD-take}
-use lib.Seq.{getD-drop, set-split}
+use lib.ListN.{length, getD, take, drop, length-append, length-take, length-drop, take-append-drop}
+use lib.Seq.{take-at, drop-at, take-take, drop-drop, take-add, take-append-le, drop-append-le, length-take-le}
 use lib.Dec.{ltb, eqb}
 use borrow.Author.Tests.{ltb-true, ltb-false, le-ltb, eqb-true}
 use Rattle.lists.specs.Pick.{pick}
@@ -58,25 +56,6 @@ module _ {A : Type 0} where
       (ap (drop m) (drop-append-le o u z (omega arith)) ∙ drop-append-le m (drop o u) z (rw (length-drop o u) (omega arith)))
       ∙ ap (λ (r : List A). take o u ++ r) (sym (append-assoc xs (drop m (drop o u)) z))
       ∙ sym (append-assoc (take o u) (xs ++ drop m (drop o u)) z)
-
-  -- parts that do not meet
-  pub put-comm : (o m o′ m′ : ℕ) (xs ys w : List A) → length xs ≡ m → o + m ≤ o′ → o′ ≤ length w
-      → put o m xs (put o′ m′ ys w) ≡ put o′ m′ ys (put o m xs w)
-  put-comm o m o′ m′ xs ys w hx h l =
-      let u : List A = take o′ w in
-      let lu : length u ≡ o′ = length-take-le o′ w l in
-      let p : List A = put o m xs u in
-      let lp : length p ≡ o′ = length-put o m xs u hx (omega arith) ∙ lu in
-      let e : put o m xs w ≡ p ++ drop o′ w =
-      ap (put o m xs) (sym (take-append-drop o′ w)) ∙ put-append o m xs u (drop o′ w) (omega arith) in
-      put-append o m xs u (ys ++ drop m′ (drop o′ w)) (omega arith)
-      ∙ sym (ap (put o′ m′ ys) e
-      ∙ ap₂ (λ (q r : List A). q ++ (ys ++ r)) (take-at p (drop o′ w) o′ lp) (ap (drop m′) (drop-at p (drop o′ w) o′ lp)))
-
-  -- a store is a part of one element
-  pub set-put : (i : ℕ) (v : A) (w : List A) → i < length w → set w i v ≡ put i 1 (v ∷ []) w
-  set-put i v w h =
-      set-split w i v h ∙ ap (λ (r : List A). take i w ++ (v ∷ r)) (ap (λ j. drop j w) (sym (add-one i)) ∙ sym (drop-drop 1 i w))
 
 -- ---- sections
 module _ (size : ℕ → ℕ) where
@@ -138,11 +117,6 @@ module _ (size : ℕ → ℕ) where
     pub put-sec : (s a k : ℕ) (xs : List ℕ) → s < S → a + k ≤ size s → put (off s + a) k xs w ≡ putSec s (put a k xs (sec s w)) w
     unfolding sec putSec
     put-sec s a k xs l h′ = put-put-in (off s) (size s) a k xs w h′ (omega (arith, within s S l))
-
-  -- reading a part of a section, and one element of it
-  pub get-sec : (s a k : ℕ) (w : List ℕ) → a + k ≤ size s → get (off s + a) k w ≡ get a k (sec s w)
-  unfolding sec
-  get-sec s a k w h = sym (get-get (off s) (size s) a k w h)
 
   -- a buffer laid out section by section
   pub length-lay : (S : ℕ) (c : ℕ → List ℕ) → ((s : ℕ) → s < S → length (c s) ≡ size s) → length (cat S c) ≡ off S

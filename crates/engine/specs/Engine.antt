@@ -49,8 +49,8 @@ module _ (P : Protocol) (n l : ℕ) (loans : ℕ → Loan) where
         → P .rule k .check (frame n l i) (loans k) (G .work i) (mailOf k G i) .code ≡ 0
     pub goes : (G : Joint) → Holds k G → Holds (P .next n k) (together k G)
 
--- Two loans are alike to a rule that makes the same of both, as of equal ones. The engine asks no more, and looks into none: a rule may take
--- what is lent in several forms.
+-- Two loans are alike to a rule that makes the same of both, as of equal ones. The engine asks no more, and looks into none: a rule may
+-- take what is lent in several forms.
 pub record Alike (R : Rule) (n l : ℕ) (q q′ : Loan) : Type 0 where
   pub check : (i : ℕ) (w : List ℕ) (m : ℕ → List ℕ) → R .check (frame n l i) q w m ≡ R .check (frame n l i) q′ w m
   pub keep : (i : ℕ) (w : List ℕ) (m : ℕ → List ℕ) → R .keep (frame n l i) q w m ≡ R .keep (frame n l i) q′ w m

@@ -12,14 +12,16 @@ use Rattle.lists.specs.All.{allOf}
 use Rattle.engine.specs.Step.{Frame, frame, Loan}
 use Rattle.engine.specs.Area.{mem, Every}
 use Rattle.engine.specs.Sheet.{Store, Known, Sheet, Mail}
-use Rattle.engine.specs.Plain.{Recv, Send, Echo, Table, rowsOf, prior, isEcho, nextOf, isRound, numberOf, stepsOf}
+use Rattle.engine.specs.Order.{roundIn}
+use Rattle.engine.specs.Plain.{Recv, Send, Echo, Table, rowsOf, prior, isEcho, nextOf, numberOf, stepsOf}
 
 -- ---- what the echo's messages owe
 -- an honest echo is as long as it should, is formed, is read to its end, and has no fault
 pub record EchoLaws (E : Echo) (n : ℕ) : Type 0 where
   pub lens : (i r : ℕ) → i < n → r < n → i ≢ r → (rows : List ℕ) → length rows ≡ n * 16 → length (E .write n i rows r) ≡ E .len n
   pub formed : (i r : ℕ) → i < n → r < n → i ≢ r → (rows : List ℕ) → length rows ≡ n * 16 → E .form n (E .write n i rows r) ≡ 0
-  pub whole : (i r : ℕ) → i < n → r < n → i ≢ r → (rows : List ℕ) → length rows ≡ n * 16 → E .list (E .write n i rows r) ≡ E .write n i rows r
+  pub whole : (i r : ℕ) → i < n → r < n → i ≢ r → (rows : List ℕ) → length rows ≡ n * 16
+      → E .list (E .write n i rows r) ≡ E .write n i rows r
   pub passes : (i j : ℕ) → i < n → j < n → i ≢ j → (own sent : List ℕ) → length own ≡ n * 16 → length sent ≡ n * 16
       → ((k : ℕ) → k < n → i ≢ k → j ≢ k → chunk 16 k own ≡ chunk 16 k sent) → E .fault n i j own (E .write n j sent i) ≡ 0
 
@@ -75,11 +77,11 @@ plainAfter T k = suc (pick (isEcho T (suc k)) (suc k) k)
 -- no echo follows another, and neither the first round nor the last is one: one computed test
 unfoldable pub orderTest : Table → Bool
 orderTest T =
-    not (isEcho T 1) && not (isEcho T (T .last)) && allOf (suc (T .last)) (λ k. not (isEcho T k && isEcho T (suc k)))
+    not (isEcho T 1) && not (isEcho T (T .order .last)) && allOf (suc (T .order .last)) (λ k. not (isEcho T k && isEcho T (suc k)))
 
 -- every number of the order is a round's, and after the last comes 0
 unfoldable pub courseTest : Table → Bool → Bool
-courseTest T two = allOf (stepsOf T two) (λ d. isRound T two (numberOf T two d)) && eqb (numberOf T two (stepsOf T two)) 0
+courseTest T two = allOf (stepsOf T two) (λ d. roundIn (T .order) two (numberOf T two d)) && eqb (numberOf T two (stepsOf T two)) 0
 
 -- for n boxes with l: opening takes them, the order is one, and the two sections of the echoes have their sizes
 pub record Lawful (T : Table) (n l : ℕ) : Type 0 where
@@ -122,11 +124,11 @@ module _ (T : Table) (U : Script) (n l : ℕ) where
   -- all rounds. plain: those that are no echoes, but for the last
   pub record Honest : Type 0 where
     pub plain : List ℕ
-    pub whole : allOf (T .last) (λ k. pick (eqb k 0) true (pick (isEcho T k) true (mem k plain))) ≡ true
+    pub whole : allOf (T .order .last) (λ k. pick (eqb k 0) true (pick (isEcho T k) true (mem k plain))) ≡ true
     pub recv : Every RecvAt plain
     pub send : Every (λ k. SendAt (plainAfter T k)) plain
-    pub lists : Every (λ k. ListAt (prior k)) (T .echoes)
-    pub last : LastAt (T .last)
+    pub lists : Every (λ k. ListAt (prior k)) (T .order .echoes)
+    pub last : LastAt (T .order .last)
 
   -- ---- the sheet of the session
   -- an echo k comes before the messages of round k + 1 are made

@@ -14,7 +14,7 @@ use Rattle.lists.specs.Over.{tab, length-tab, getD-tab, cat}
 use Rattle.lists.specs.Rows.{cat-inside, cat-part}
 use Rattle.algebra.specs.Sum.{neq-true, neq-self}
 use Rattle.engine.specs.Step.{frame, Lent, Protocol, gone, part, stretch, reasonOf}
-use Rattle.engine.specs.StepLaws.{no-reason, sizes-hold}
+use Rattle.engine.specs.StepLaws.{no-reason, lengths-hold}
 use Rattle.engine.specs.World.{In, here, there, All, update, Opening, Box, Note, note, World, Call, opening, turn, start, turned}
 use Rattle.engine.specs.World.{after, run, runs, sessionAt, Scene, Course, Reads, its-own, Fair, FairList, Done}
 use Rattle.engine.specs.Engine.{Joint, Duty, ideal, holds, NoteOk, Before, boxAt, goes-on, every-done}
@@ -155,7 +155,7 @@ module _ {Args : Type 0} (S : Scene Args) (D : Duty S) (K : Cast S D) where
     reason-none : reasonOf P (sessionAt S b d) (C .number d) (lentFor d b) (on d .work b) ≡ 0
     reason-none =
         no-reason P (sessionAt S b d) (C .number d) (lentFor d b) (on d .work b) (C .live d b ld lb) refl
-        (sizes-hold _ _ (frame n (S .l) b) (lentFor d b) (on d .work b) long
+        (lengths-hold _ _ (frame n (S .l) b) (lentFor d b) (on d .work b) long
         (length-replicate (P .rule (C .number d) .outLen (frame n (S .l) b)) 0) (length-tab n _) (length-tab n _) (length-tab n _)
         (λ j lj. rw (start-at d b j lj, len-at d b j lj) (cat-inside n (pieces d b) j lj)))
         (K .valid d ld)

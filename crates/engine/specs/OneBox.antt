@@ -6,15 +6,15 @@ use mathlib.Core.Logic.{_≢_}
 use mathlib.Core.List.{List, [], _∷_}
 use Prim.Native.Nat.{ℕ, suc, _<_, _≤_}
 use native.Mathlib.Omega.{arith}
-use lib.Dec.{eqb}
+use lib.Dec.{leb, eqb}
 use borrow.Author.Tests.{eq-eqb, ne-eqb, eqb-true, eqb-false}
 use Rattle.lists.specs.Pick.{pick}
-use Rattle.lists.specs.All.{true-false}
+use Rattle.lists.specs.All.{true-false, and-false}
 use Rattle.engine.specs.Step.{Frame, frame, Session, Loan, nothing, Lent, Reply, Accepted, Refused, Outcome, Protocol, mask, heard, accepted, roundSpec}
 use Rattle.engine.specs.StepLaws.{round-faults, round-cases, Due, due-of}
 use Rattle.engine.specs.World.{Box, turnedBox, sessionOf}
-use Rattle.engine.specs.Plain.{Table, isEcho, isRound, nextOf, protocolOf}
-use Rattle.engine.specs.PlainLaws.{and-false}
+use Rattle.engine.specs.Order.{roundIn, nextIn}
+use Rattle.engine.specs.Plain.{Table, isEcho, nextOf, protocolOf}
 
 -- ---- calls of one box
 pub record Turn : Type 0 where
@@ -65,7 +65,8 @@ module _ (T : Table) (n l i : ℕ) where
   -- what the accepted call for round k reads of party j, in a list of calls of box x
   abbrev pub received : Box → List Turn → ℕ → ℕ → List ℕ
   received x [] k j = []
-  received x (c ∷ cs) k j = pick (taken (answer x c) && eqb k (c .number)) (mask f (heard (P .rule (c .number)) f (c .lent)) j) (received (turnBox P x c) cs k j)
+  received x (c ∷ cs) k j =
+      pick (taken (answer x c) && eqb k (c .number)) (mask f (heard (P .rule (c .number)) f (c .lent)) j) (received (turnBox P x c) cs k j)
 
   -- what the accepted call that makes the messages of round k is lent
   abbrev pub lentWith : Box → List Turn → ℕ → Loan
@@ -80,7 +81,7 @@ module _ (T : Table) (n l i : ℕ) where
 
   -- no session with round 0 due is alive
   pub alive-some : (k : ℕ) → P .alive (sessionOf n l i k) ≡ true → k ≢ 0
-  unfolding isRound
+  unfolding roundIn
   alive-some k h e = true-false (sym (subst (λ k. P .alive (sessionOf n l i k) ≡ true) e h) ∙ and-false (T .fine f))
 
   module _ (x : Box) (k : ℕ) (c : Turn) where
@@ -111,8 +112,8 @@ module _ (T : Table) (n l i : ℕ) where
   own-session k a v s (goes t e ne) = refl
 
   grows : (k : ℕ) → nextOf T two k ≢ 0 → k < nextOf T two k
-  unfolding nextOf
-  grows k = go (eqb k (T .last)) (two && isEcho T (suc k))
+  unfolding nextIn
+  grows k = go (leb (T .order .last) k) (two && isEcho T (suc k))
     where
       go : (b c : Bool) → pick b 0 (pick c (suc (suc k)) (suc k)) ≢ 0 → k < pick b 0 (pick c (suc (suc k)) (suc k))
       go true c h = absurd (h refl)
@@ -180,7 +181,8 @@ module _ (T : Table) (n l i : ℕ) where
         last = λ h. rw (ne-eqb 0 to (λ p. h (sym p)), and-false v) refl;
       }
 
-  pub all-received : (cs : List Turn) (x : Box) (k : ℕ) → x .session ≡ sessionOf n l i k → AllRead T n l i (received x cs) (lentWith x cs) x cs
+  pub all-received : (cs : List Turn) (x : Box) (k : ℕ) → x .session ≡ sessionOf n l i k
+      → AllRead T n l i (received x cs) (lentWith x cs) x cs
   all-received [] x k e = tt
   all-received (c ∷ cs) x k e =
       let t = turned x k c e in
@@ -189,6 +191,7 @@ module _ (T : Table) (n l i : ℕ) where
       let a : ℕ = c .number in
       let to : ℕ = nextOf T two (c .number) in (
         λ acc. (λ j. rw (acc, eq-eqb a a refl) refl, rw (acc, eq-eqb to to refl) refl),
-        all-ext (received y cs) (received x (c ∷ cs)) (lentWith y cs) (lentWith x (c ∷ cs)) cs y (y .session .due) own (same-tail x c cs k _ t)
+        all-ext (received y cs) (received x (c ∷ cs)) (lentWith y cs) (lentWith x (c ∷ cs)) cs y (y .session .due) own
+            (same-tail x c cs k _ t)
             (all-received cs y (y .session .due) own),
       )

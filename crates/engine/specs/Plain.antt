@@ -6,16 +6,16 @@ use mathlib.Core.Bool.{Bool, not, _&&_}
 use mathlib.Core.List.{List, [], _∷_}
 use Prim.Native.Nat.{ℕ, zero, suc, _-_, _*_}
 use lib.ListN.{length, getD, replicate}
-use lib.Dec.{ltb, leb, eqb}
+use lib.Dec.{ltb, eqb}
 use Rattle.lists.specs.Pick.{pick}
 use Rattle.lists.specs.Over.{cat}
 use Rattle.engine.specs.Step.{Frame, Loan, Fault, none?, Rule, Protocol, other, orElse, byParty}
 use Rattle.engine.specs.Area.{off, sec, putSec, toOthers, mem}
+use Rattle.engine.specs.Order.{Order, echoIn, roundIn, nextIn}
 
--- ---- what a round gives
--- What is done with its messages. form: 13 or 6 of one message, or 0; list: the part of it that holds the list; judge: the content, from the
--- lists; faults: the numbers that the content check can find; keep: the work area afterwards; digest: the 16 bytes of `hash_vec` of a list,
--- for a round that has an echo
+-- ---- what a round gives What is done with its messages. form: 13 or 6 of one message, or 0; list: the part of it that holds the list;
+-- judge: the content, from the lists; faults: the numbers that the content check can find; keep: the work area afterwards; digest: the 16
+-- bytes of `hash_vec` of a list, for a round that has an echo
 pub record Recv : Type 0 where
   pub form : Frame → List ℕ → ℕ
   pub list : Frame → List ℕ → List ℕ
@@ -42,14 +42,12 @@ pub record Echo : Type 0 where
   pub write : ℕ → ℕ → List ℕ → ℕ → List ℕ
   pub fault : ℕ → ℕ → ℕ → List ℕ → List ℕ → ℕ
 
--- ---- the table of the rounds
--- fine: n, i, l in opening's ranges; last: the last round; echoes: the rounds that are echoes; count, size: the sections of the work
--- area. Two more stand behind the `count` that the rounds use: section count, of 2 bytes, for a fault that waits for an echo, and section
--- count + 1, n rows of 16 bytes, for the hashes. resultLen, result: what the last call writes
+-- ---- the table of the rounds fine: n, i, l in opening's ranges; order: the last round, and those that are echoes; count, size: the
+-- sections of the work area. Two more stand behind the `count` that the rounds use: section count, of 2 bytes, for a fault that waits for
+-- an echo, and section count + 1, n rows of 16 bytes, for the hashes. resultLen, result: what the last call writes
 pub record Table : Type 0 where
   pub fine : Frame → Bool
-  pub last : ℕ
-  pub echoes : List ℕ
+  pub order : Order
   pub count : ℕ
   pub size : Frame → ℕ → ℕ
   pub recv : ℕ → Recv
@@ -83,17 +81,11 @@ kept e w w′ = pick (eqb (e .code) 0) w′ w
 
 module _ (T : Table) where
   -- ---- the order of the rounds; two: n = 2
-  -- round k is an echo
-  unfoldable pub isEcho : ℕ → Bool
-  isEcho k = mem k (T .echoes)
+  abbrev pub isEcho : ℕ → Bool
+  isEcho k = echoIn (T .order) k
 
-  -- "each accepted call makes the next in order due, echoes passed over for n = 2"; 0 after the last
-  unfoldable pub nextOf : Bool → ℕ → ℕ
-  nextOf two k = pick (eqb k (T .last)) 0 (pick (two && isEcho (suc k)) (suc (suc k)) (suc k))
-
-  -- k is the number of a round
-  unfoldable pub isRound : Bool → ℕ → Bool
-  isRound two k = ltb 0 k && leb k (T .last) && not (two && isEcho k)
+  abbrev pub nextOf : Bool → ℕ → ℕ
+  nextOf two k = nextIn (T .order) two k
 
   -- "Round 1 is due after opening": the round due after d accepted calls
   unfoldable pub numberOf : Bool → ℕ → ℕ
@@ -102,7 +94,7 @@ module _ (T : Table) where
 
   -- how many rounds there are: "For n = 2 the echoes are skipped"
   unfoldable pub stepsOf : Bool → ℕ
-  stepsOf two = pick two (T .last - length (T .echoes)) (T .last)
+  stepsOf two = pick two (T .order .last - length (T .order .echoes)) (T .order .last)
 
   -- the call for round k writes an echo
   unfoldable pub toEcho : Bool → ℕ → Bool
@@ -115,19 +107,19 @@ module _ (T : Table) where
 
   -- "The outgoing buffer holds just the messages that call writes .. or the results"
   unfoldable pub outLenOf : ℕ → Frame → ℕ
-  outLenOf k f = pick (eqb k (T .last)) (T .resultLen f) ((f .n - 1) * lenOf (f .n) (f .l) (nextOf (eqb (f .n) 2) k))
+  outLenOf k f = pick (eqb k (T .order .last)) (T .resultLen f) ((f .n - 1) * lenOf (f .n) (f .l) (nextOf (eqb (f .n) 2) k))
 
   -- what the call for round k is lent, as the messages that it makes ask for
   unfoldable pub lentOf : ℕ → ℕ → ℕ → Loan → ℕ
   lentOf k n l q = T .send (nextOf (eqb n 2) k) .lent n l q
 
   -- 13 or 6 of a message of round k
-  unfoldable pub formOf : ℕ → Frame → List ℕ → ℕ
-  formOf k f m = pick (isEcho k) (T .echo .form (f .n) m) (T .recv k .form f m)
+  unfoldable pub formAt : ℕ → Frame → List ℕ → ℕ
+  formAt k f m = pick (isEcho k) (T .echo .form (f .n) m) (T .recv k .form f m)
 
   -- the list in a message of round k
-  unfoldable pub listOf : ℕ → Frame → List ℕ → List ℕ
-  listOf k f m = pick (isEcho k) (T .echo .list m) (T .recv k .list f m)
+  unfoldable pub listAt : ℕ → Frame → List ℕ → List ℕ
+  listAt k f m = pick (isEcho k) (T .echo .list m) (T .recv k .list f m)
 
   -- ---- the sections of the echoes
   -- the fault of the round before that waits for echo k
@@ -166,12 +158,12 @@ module _ (T : Table) where
 
   -- "The last call writes the l result records to the outgoing buffer and zeroes the work area"
   unfoldable pub keepOf : ℕ → Frame → Loan → List ℕ → (ℕ → List ℕ) → List ℕ
-  keepOf k f q w m = pick (eqb k (T .last)) (replicate (length w) 0) (pick (toEcho (eqb (f .n) 2) k) (held k f w m) (made k f q w m))
+  keepOf k f q w m = pick (eqb k (T .order .last)) (replicate (length w) 0) (pick (toEcho (eqb (f .n) 2) k) (held k f w m) (made k f q w m))
 
   -- the results, an echo, or the messages of the next plain round
   unfoldable pub writeOf : ℕ → Frame → Loan → List ℕ → (ℕ → List ℕ) → List ℕ
   writeOf k f q w m =
-      pick (eqb k (T .last)) (T .result f w m)
+      pick (eqb k (T .order .last)) (T .result f w m)
       (toOthers (f .n) (f .i)
       (pick (toEcho (eqb (f .n) 2) k) (T .echo .write (f .n) (f .i) (digests k f m))
       (T .send (nextOf (eqb (f .n) 2) k) .write f q (made k f q w m))))
@@ -182,8 +174,8 @@ module _ (T : Table) where
   ruleOf k = record {
     outLen = outLenOf k;
     lent = lentOf k;
-    form = formOf k;
-    list = listOf k;
+    form = formAt k;
+    list = listAt k;
     check = λ f q w m. checkOf k f w m;
     keep = keepOf k;
     write = writeOf k;
@@ -192,7 +184,7 @@ module _ (T : Table) where
   -- "19 a call for another round than the one due. 20 the session is done or ended"; a session that opening can't have made counts as ended
   abbrev pub protocolOf : Protocol
   protocolOf = record {
-    alive = λ s. T .fine (s .party) && isRound (eqb (s .party .n) 2) (s .due);
+    alive = λ s. T .fine (s .party) && roundIn (T .order) (eqb (s .party .n) 2) (s .due);
     workLen = λ f. off (T .size f) (suc (suc (T .count)));
     rule = ruleOf;
     next = λ n k. nextOf (eqb n 2) k;

@@ -8,11 +8,11 @@ use native.Mathlib.Nat.{le-refl}
 use native.Mathlib.Omega.{arith}
 use lib.ListN.{length, replicate, length-replicate}
 use lib.Dec.{ltb, leb, eqb}
-use borrow.Author.Tests.{ltb-true, ltb-false, lt-ltb, le-ltb, eqb-true, eqb-false, eq-eqb, ne-eqb, leb-true}
+use borrow.Author.Tests.{ltb-true, ltb-false, lt-ltb, le-ltb, eqb-true, eqb-false, eq-eqb, ne-eqb, leb-true, le-leb, lt-leb}
 use Rattle.lists.specs.Pick.{pick}
 use Rattle.lists.specs.Over.{length-cat}
 use Rattle.lists.specs.Rows.{chunk, chunk-cat, cat-ext}
-use Rattle.lists.specs.All.{allOf, of-all, true-false}
+use Rattle.lists.specs.All.{allOf, of-all, true-false, and-first, and-second, and-both, and-false, not-true}
 use Rattle.engine.specs.Step.{Frame, frame, Loan, Fault, none?, Protocol, other, byParty}
 use Rattle.engine.specs.StepLaws.{other-is, other-cases, or-none, or-first, by-none}
 use Rattle.engine.specs.World.{Course, sessionOf}
@@ -21,8 +21,9 @@ use Rattle.engine.specs.Area.{off, sec, putSec, length-putSec, sec-same,
 use Rattle.engine.specs.Sheet.{Known, Sheet, Mail, Passes, Middle, Last, Holds, middle, last}
 use Rattle.engine.specs.Honest.{orderTest, courseTest, Lawful, before, due, Script, storeOf, plainAfter, Heard, RecvAt}
 use Rattle.engine.specs.Honest.{ListAt, SendAt, LastAt, Honest, momentOf, readyOf, valOf, sentOf, sheetOf, loansOf}
-use Rattle.engine.specs.Plain.{Table, rowsOf, prior, isEcho, nextOf, isRound, numberOf, stepsOf, toEcho, lenOf, formOf}
-use Rattle.engine.specs.Plain.{listOf, pending, hashes, digests, echoCheck, checkOf, waits, waiting, kept, held, made, keepOf, writeOf, protocolOf}
+use Rattle.engine.specs.Order.{echoIn, roundIn, nextIn}
+use Rattle.engine.specs.Plain.{Table, rowsOf, prior, isEcho, nextOf, numberOf, stepsOf, toEcho, lenOf, formAt}
+use Rattle.engine.specs.Plain.{listAt, pending, hashes, digests, echoCheck, checkOf, waits, waiting, kept, held, made, keepOf, writeOf, protocolOf}
 
 -- ---- rows of 16 bytes
 module _ (f : Frame) (h : ℕ → List ℕ) where
@@ -101,87 +102,72 @@ three true true c e = (refl, refl, e)
 three true false c e = absurd (true-false (sym e))
 three false b c e = absurd (true-false (sym e))
 
-two-of : (a b : Bool) → (a && b) ≡ true → (a ≡ true) × (b ≡ true)
-two-of true b e = (refl, e)
-two-of false b e = absurd (true-false (sym e))
-
-not-true : (b : Bool) → not b ≡ true → b ≡ false
-not-true true e = sym e
-not-true false e = refl
-
-pub and-false : (b : Bool) → (b && false) ≡ false
-and-false true = refl
-and-false false = refl
-
 -- ---- the order of the rounds
 module _ (T : Table) (n l : ℕ) (W : Lawful T n l) where
   -- no echo follows echo k
   abbrev Single : ℕ → Bool
   Single k = not (isEcho T k && isEcho T (suc k))
 
-  order-is : (not (isEcho T 1) ≡ true) × (not (isEcho T (T .last)) ≡ true) × (allOf (suc (T .last)) Single ≡ true)
+  order-is : (not (isEcho T 1) ≡ true) × (not (isEcho T (T .order .last)) ≡ true) × (allOf (suc (T .order .last)) Single ≡ true)
   unfolding orderTest
-  order-is = three (not (isEcho T 1)) (not (isEcho T (T .last))) (allOf (suc (T .last)) Single) (W .order)
+  order-is = three (not (isEcho T 1)) (not (isEcho T (T .order .last))) (allOf (suc (T .order .last)) Single) (W .order)
 
   pub first-plain : isEcho T 1 ≡ false
   first-plain = not-true _ (order-is .0)
 
-  pub last-plain : isEcho T (T .last) ≡ false
+  pub last-plain : isEcho T (T .order .last) ≡ false
   last-plain = not-true _ (order-is .1)
 
-  pub no-two : (k : ℕ) → k ≤ T .last → isEcho T k ≡ true → isEcho T (suc k) ≡ false
+  pub no-two : (k : ℕ) → k ≤ T .order .last → isEcho T k ≡ true → isEcho T (suc k) ≡ false
   no-two k h e =
-      let t : not (isEcho T k && isEcho T (suc k)) ≡ true = of-all (suc (T .last)) Single (order-is .2) k (omega arith) in
+      let t : not (isEcho T k && isEcho T (suc k)) ≡ true = of-all (suc (T .order .last)) Single (order-is .2) k (omega arith) in
       not-true _ (rw e at t)
 
   -- an echo is not the last round
-  pub echo-not-last : (k : ℕ) → isEcho T k ≡ true → k ≢ T .last
+  pub echo-not-last : (k : ℕ) → isEcho T k ≡ true → k ≢ T .order .last
   echo-not-last k e q = true-false (sym e ∙ ap (isEcho T) q ∙ last-plain)
 
-  pub next-skips : (two : Bool) (k : ℕ) → k ≢ T .last → two ≡ true → isEcho T (suc k) ≡ true → nextOf T two k ≡ suc (suc k)
-  unfolding nextOf
-  next-skips two k ne b e = rw (ne-eqb k (T .last) ne, b, e) refl
+  pub next-skips : (two : Bool) (k : ℕ) → k < T .order .last → two ≡ true → isEcho T (suc k) ≡ true → nextOf T two k ≡ suc (suc k)
+  unfolding nextIn
+  next-skips two k lk b e = rw (lt-leb (T .order .last) k lk, b, e) refl
 
-  pub next-on : (two : Bool) (k : ℕ) → k ≢ T .last → (two && isEcho T (suc k)) ≡ false → nextOf T two k ≡ suc k
-  unfolding nextOf
-  next-on two k ne e = rw (ne-eqb k (T .last) ne, e) refl
+  pub next-on : (two : Bool) (k : ℕ) → k < T .order .last → (two && isEcho T (suc k)) ≡ false → nextOf T two k ≡ suc k
+  unfolding nextIn
+  next-on two k lk e = rw (lt-leb (T .order .last) k lk, e) refl
 
-  pub next-echo : (two : Bool) (k : ℕ) → k ≢ T .last → toEcho T two k ≡ true → (nextOf T two k ≡ suc k) × (isEcho T (suc k) ≡ true)
+  pub next-echo : (two : Bool) (k : ℕ) → k < T .order .last → toEcho T two k ≡ true → (nextOf T two k ≡ suc k) × (isEcho T (suc k) ≡ true)
   unfolding toEcho
-  next-echo two k ne q = go two refl (isEcho T (suc k)) refl q
+  next-echo two k lk q = go two refl (isEcho T (suc k)) refl q
     where
       go : (c : Bool) → two ≡ c → (b : Bool) → isEcho T (suc k) ≡ b → (not c && b) ≡ true → (nextOf T two k ≡ suc k) × (b ≡ true)
       go true z b e q = absurd (true-false (sym q))
-      go false z b e q = (next-on two k ne (ap (λ c. c && isEcho T (suc k)) z), q)
+      go false z b e q = (next-on two k lk (ap (λ c. c && isEcho T (suc k)) z), q)
 
   -- what comes after a plain round whose call writes no echo
-  pub next-plain : (k : ℕ) → k < T .last → toEcho T (eqb n 2) k ≡ false
+  pub next-plain : (k : ℕ) → k < T .order .last → toEcho T (eqb n 2) k ≡ false
       → (nextOf T (eqb n 2) k ≡ plainAfter T k) × (isEcho T (plainAfter T k) ≡ false)
   unfolding plainAfter toEcho
   next-plain k lk q = go (isEcho T (suc k)) refl (eqb n 2) refl q
     where
-      ne : k ≢ T .last
-      ne p = omega arith
-
       go : (b : Bool) → isEcho T (suc k) ≡ b → (c : Bool) → eqb n 2 ≡ c → (not c && b) ≡ false
           → (nextOf T (eqb n 2) k ≡ suc (pick b (suc k) k)) × (isEcho T (suc (pick b (suc k) k)) ≡ false)
-      go true e true c q = (next-skips (eqb n 2) k ne c e, no-two (suc k) lk e)
+      go true e true c q = (next-skips (eqb n 2) k lk c e, no-two (suc k) lk e)
       go true e false c q = absurd (true-false q)
-      go false e c z q = (next-on (eqb n 2) k ne (ap (λ b. eqb n 2 && b) e ∙ and-false (eqb n 2)), e)
+      go false e c z q = (next-on (eqb n 2) k lk (ap (λ b. eqb n 2 && b) e ∙ and-false (eqb n 2)), e)
 
   -- ---- which round is due
   abbrev counts : Bool
-  counts = allOf (stepsOf T (eqb n 2)) (λ d. isRound T (eqb n 2) (numberOf T (eqb n 2) d))
+  counts = allOf (stepsOf T (eqb n 2)) (λ d. roundIn (T .order) (eqb n 2) (numberOf T (eqb n 2) d))
 
   course-is : (counts ≡ true) × (eqb (numberOf T (eqb n 2) (stepsOf T (eqb n 2))) 0 ≡ true)
   unfolding courseTest
-  course-is = two-of counts (eqb (numberOf T (eqb n 2) (stepsOf T (eqb n 2))) 0) (W .course (eqb n 2))
+  course-is = and-both counts (eqb (numberOf T (eqb n 2) (stepsOf T (eqb n 2))) 0) (W .course (eqb n 2))
 
-  round-at : (d : ℕ) → d < stepsOf T (eqb n 2) → isRound T (eqb n 2) (numberOf T (eqb n 2) d) ≡ true
-  round-at d h = of-all (stepsOf T (eqb n 2)) (λ d. isRound T (eqb n 2) (numberOf T (eqb n 2) d)) (course-is .0) d h
+  round-at : (d : ℕ) → d < stepsOf T (eqb n 2) → roundIn (T .order) (eqb n 2) (numberOf T (eqb n 2) d) ≡ true
+  round-at d h = of-all (stepsOf T (eqb n 2)) (λ d. roundIn (T .order) (eqb n 2) (numberOf T (eqb n 2) d)) (course-is .0) d h
 
-  never-zero : isRound T (eqb n 2) 0 ≡ false
-  unfolding isRound
+  never-zero : roundIn (T .order) (eqb n 2) 0 ≡ false
+  unfolding roundIn
   never-zero = refl
 
   pub number-next : (d : ℕ) → d < stepsOf T (eqb n 2) → nextOf T (eqb n 2) (numberOf T (eqb n 2) d) ≡ numberOf T (eqb n 2) (suc d)
@@ -196,7 +182,7 @@ module _ (T : Table) (n l : ℕ) (W : Lawful T n l) where
 
   pub number-over : (b : ℕ) → protocolOf T .alive (sessionOf n l b (numberOf T (eqb n 2) (stepsOf T (eqb n 2)))) ≡ false
   number-over b =
-      ap (λ c. T .fine (frame n l b) && c) (ap (isRound T (eqb n 2)) number-end ∙ never-zero) ∙ and-false (T .fine (frame n l b))
+      ap (λ c. T .fine (frame n l b) && c) (ap (roundIn (T .order) (eqb n 2)) number-end ∙ never-zero) ∙ and-false (T .fine (frame n l b))
 
   -- the order of the rounds of n boxes
   abbrev pub courseOf : Course (protocolOf T) n l
@@ -352,7 +338,7 @@ module _ (T : Table) (U : Script) (n l : ℕ) (W : Lawful T n l) where
 
   pass-plain : (k : ℕ) → isEcho T k ≡ false → Heard n l (storeOf T U n l) (T .recv k) (T .send k .len n l) (U .sent k) (due k)
       → Passes P n l L S k
-  unfolding lenOf formOf listOf sentOf checkOf
+  unfolding lenOf formAt listAt sentOf checkOf
   pass-plain k e H = record {
     lens = λ j r lj lr ne. rw e (H .lens j r lj lr ne);
     formed = λ i j li lj ne. rw e (H .formed i j li lj ne);
@@ -387,7 +373,7 @@ module _ (T : Table) (U : Script) (n l : ℕ) (W : Lawful T n l) where
             (λ r lr ni nj. row-at i r lr ni ∙ sym (row-at j r lr nj))
 
     pass-echo : Passes P n l L S (suc k)
-    unfolding lenOf formOf listOf sentOf checkOf
+    unfolding lenOf formAt listAt sentOf checkOf
     pass-echo = record {
       lens = λ j r lj lr ne. rw e (W .echo .lens j r lj lr ne (rows k j) (full j));
       formed = λ i j li lj ne. rw e (W .echo .formed j i lj li (λ q. ne (sym q)) (rows k j) (full j));
@@ -396,7 +382,7 @@ module _ (T : Table) (U : Script) (n l : ℕ) (W : Lawful T n l) where
     }
 
   -- ---- a call that makes the messages of a plain round
-  module _ (k to : ℕ) (ne : k ≢ T .last) (q : toEcho T two k ≡ false) (x : nextOf T two k ≡ suc to) where
+  module _ (k to : ℕ) (ne : k ≢ T .order .last) (q : toEcho T two k ≡ false) (x : nextOf T two k ≡ suc to) where
     loan-made : L k ≡ U .loan (suc to)
     unfolding loansOf
     loan-made = ap (U .loan) x
@@ -416,14 +402,15 @@ module _ (T : Table) (U : Script) (n l : ℕ) (W : Lawful T n l) where
     keep-made : (i : ℕ) (w : List ℕ) (m : ℕ → List ℕ)
         → keepOf T k (frame n l i) (L k) w m ≡ area i w m
     unfolding keepOf
-    keep-made i w m = rw (ne-eqb k (T .last) ne, q) (made-is i w m)
+    keep-made i w m = rw (ne-eqb k (T .order .last) ne, q) (made-is i w m)
 
     write-made : (i : ℕ) (w : List ℕ) (m : ℕ → List ℕ)
         → writeOf T k (frame n l i) (L k) w m
         ≡ toOthers n i (T .send (suc to) .write (frame n l i) (U .loan (suc to)) (area i w m))
     unfolding writeOf
     write-made i w m =
-        rw (ne-eqb k (T .last) ne, q, made-is i w m) (ap₂ (λ j q. toOthers n i (T .send j .write (frame n l i) q (area i w m))) x loan-made)
+        rw (ne-eqb k (T .order .last) ne, q, made-is i w m)
+        (ap₂ (λ j q. toOthers n i (T .send j .write (frame n l i) q (area i w m))) x loan-made)
 
     middle-made : isEcho T (suc to) ≡ false → Passes P n l L S k → SendAt T U n l (suc to)
         → ((i : ℕ) → i < n → (w : List ℕ) → Is k i w → (m : ℕ → List ℕ) → Mails k i m → Own (before (suc to)) i (got i w m))
@@ -443,7 +430,7 @@ module _ (T : Table) (U : Script) (n l : ℕ) (W : Lawful T n l) where
 
   -- ---- THE FOUR KINDS OF CALLS
   -- for a plain round, when no echo follows
-  pub middle-plain : (k : ℕ) → k < T .last → isEcho T k ≡ false → toEcho T (eqb n 2) k ≡ false → RecvAt T U n l k
+  pub middle-plain : (k : ℕ) → k < T .order .last → isEcho T k ≡ false → toEcho T (eqb n 2) k ≡ false → RecvAt T U n l k
       → SendAt T U n l (plainAfter T k) → Middle (protocolOf T) n l (loansOf T U n l) (sheetOf T U n l) k
   unfolding plainAfter
   middle-plain k lk e q R H =
@@ -452,7 +439,7 @@ module _ (T : Table) (U : Script) (n l : ℕ) (W : Lawful T n l) where
       (λ i li w K m M. rw e (R .keeps i li w (subst (λ t. Own t i w) (moment-plain k e) (to-own k i w K)) m (mail-plain k i m e M)))
 
   -- for a plain round, when its echo follows
-  pub middle-held : (k : ℕ) → k < T .last → isEcho T k ≡ false → toEcho T (eqb n 2) k ≡ true → RecvAt T U n l k → ListAt T U n l k
+  pub middle-held : (k : ℕ) → k < T .order .last → isEcho T k ≡ false → toEcho T (eqb n 2) k ≡ true → RecvAt T U n l k → ListAt T U n l k
       → Middle (protocolOf T) n l (loansOf T U n l) (sheetOf T U n l) k
   middle-held k lk e q R E = record {
     pass = pass-plain k e (R .heard);
@@ -462,11 +449,11 @@ module _ (T : Table) (U : Script) (n l : ℕ) (W : Lawful T n l) where
     writes = λ i li w K m M. write-is i w m ∙ ap (λ (x : List ℕ). toOthers n i (T .echo .write n i x)) (digests-are i li m M) ∙ sent-is i;
   }
     where
-      ne : k ≢ T .last
+      ne : k ≢ T .order .last
       ne p = omega arith
 
       c : (nextOf T two k ≡ suc k) × (isEcho T (suc k) ≡ true)
-      c = next-echo T n l W two k ne q
+      c = next-echo T n l W two k lk q
 
       digests-are : (i : ℕ) → i < n → (m : ℕ → List ℕ) → Mails k i m → digests T k (frame n l i) m ≡ rows k i
       digests-are i li m M = unfold digests in rows-ext (frame n l i) _ (U .hashed k)
@@ -491,40 +478,42 @@ module _ (T : Table) (U : Script) (n l : ℕ) (W : Lawful T n l) where
           → (let f : Frame = frame n l i in
           keepOf T k f (L k) w m
           ≡ putSec (T .size f) (T .count) (0 ∷ 0 ∷ []) (putSec (T .size f) (suc (T .count)) (rows k i) (T .recv k .keep f w m)))
-      keep-is i li w K m M = unfold keepOf held waits kept in rw (ne-eqb k (T .last) ne, q, clean i li w K m M, digests-are i li m M) refl
+      keep-is i li w K m M =
+          unfold keepOf held waits kept in rw (ne-eqb k (T .order .last) ne, q, clean i li w K m M, digests-are i li m M) refl
 
       write-is : (i : ℕ) (w : List ℕ) (m : ℕ → List ℕ)
           → writeOf T k (frame n l i) (L k) w m ≡ toOthers n i (T .echo .write n i (digests T k (frame n l i) m))
-      write-is i w m = unfold writeOf in rw (ne-eqb k (T .last) ne, q) refl
+      write-is i w m = unfold writeOf in rw (ne-eqb k (T .order .last) ne, q) refl
 
       sent-is : (i : ℕ) → toOthers n i (T .echo .write n i (rows k i)) ≡ toOthers n i (sentOf T U n l (suc k) i)
       sent-is i = toOthers-ext n i _ _ (λ r lr nr. unfold sentOf in rw (c .1) refl)
 
   -- for an echo
-  pub middle-echo : (k : ℕ) → suc k ≤ T .last → isEcho T (suc k) ≡ true → ((j : ℕ) → j < n → length (U .hashed k j) ≡ 16)
+  pub middle-echo : (k : ℕ) → suc k ≤ T .order .last → isEcho T (suc k) ≡ true → ((j : ℕ) → j < n → length (U .hashed k j) ≡ 16)
       → SendAt T U n l (suc (suc k)) → Middle (protocolOf T) n l (loansOf T U n l) (sheetOf T U n l) (suc k)
   middle-echo k lk e len H =
       middle-made (suc k) (suc k) ne (unfold toEcho in ap (λ b. not two && b) single ∙ and-false (not two))
-      (next-on T n l W two (suc k) ne (ap (λ b. two && b) single ∙ and-false two)) single (pass-echo k e len) H
+      (next-on T n l W two (suc k) (omega (arith, ne)) (ap (λ b. two && b) single ∙ and-false two)) single (pass-echo k e len) H
       (λ i li w K m M. rw e (subst (λ t. Own t i w) (moment-echo (suc k) e) (to-own (suc k) i w K)))
     where
-      ne : suc k ≢ T .last
+      ne : suc k ≢ T .order .last
       ne = echo-not-last T n l W (suc k) e
 
       single : isEcho T (suc (suc k)) ≡ false
       single = no-two T n l W (suc k) lk e
 
   -- for the last round
-  pub last-call : LastAt T U n l (T .last) → Last (protocolOf T) n l (loansOf T U n l) (sheetOf T U n l) (T .last)
-  unfolding nextOf writeOf
+  pub last-call : LastAt T U n l (T .order .last) → Last (protocolOf T) n l (loansOf T U n l) (sheetOf T U n l) (T .order .last)
+  unfolding nextIn writeOf
   last-call H = record {
-    pass = pass-plain (T .last) e (H .heard);
-    to-is = rw (eq-eqb (T .last) (T .last) refl) refl;
-    writes = λ i li w K m M. rw (eq-eqb (T .last) (T .last) refl)
-        (H .results i li w (subst (λ t. Own t i w) (moment-plain (T .last) e) (to-own (T .last) i w K)) m (mail-plain (T .last) i m e M));
+    pass = pass-plain (T .order .last) e (H .heard);
+    to-is = rw (le-leb (T .order .last) (T .order .last) (omega arith)) refl;
+    writes = λ i li w K m M. rw (eq-eqb (T .order .last) (T .order .last) refl)
+        (H .results i li w (subst (λ t. Own t i w) (moment-plain (T .order .last) e) (to-own (T .order .last) i w K)) m
+        (mail-plain (T .order .last) i m e M));
   }
     where
-      e : isEcho T (T .last) ≡ false
+      e : isEcho T (T .order .last) ≡ false
       e = last-plain T n l W
 
   -- ---- THE WHOLE SESSION
@@ -540,10 +529,10 @@ module _ (T : Table) (U : Script) (n l : ℕ) (W : Lawful T n l) where
 
   module _ (H : Honest T U n l) where
     abbrev Plain : ℕ → Type 0
-    Plain k = (0 < k) × (k < T .last) × (isEcho T k ≡ false)
+    Plain k = (0 < k) × (k < T .order .last) × (isEcho T k ≡ false)
 
     listed : (k : ℕ) → Plain k → mem k (H .plain) ≡ true
-    listed k h = go (eqb k 0) refl (of-all (T .last) _ (H .whole) k (h .1))
+    listed k h = go (eqb k 0) refl (of-all (T .order .last) _ (H .whole) k (h .1))
       where
         go : (b : Bool) → eqb k 0 ≡ b → pick b true (pick (isEcho T k) true (mem k (H .plain))) ≡ true → mem k (H .plain) ≡ true
         go true e t = absurd (let z : k ≡ 0 = eqb-true k 0 e in omega (arith, h .0))
@@ -556,14 +545,14 @@ module _ (T : Table) (U : Script) (n l : ℕ) (W : Lawful T n l) where
     send-of k h = every-mem (λ k. SendAt T U n l (plainAfter T k)) (H .plain) (H .send) k (listed k h)
 
     list-of : (k : ℕ) → isEcho T k ≡ true → ListAt T U n l (prior k)
-    unfolding isEcho
-    list-of k e = every-mem (λ k. ListAt T U n l (prior k)) (T .echoes) (H .lists) k e
+    unfolding echoIn
+    list-of k e = every-mem (λ k. ListAt T U n l (prior k)) (T .order .echoes) (H .lists) k e
 
     abbrev Good : ℕ → Type 0
     Good k = HonestRound P n l L (Holds P n l L S) k
 
     -- the round before an echo is plain
-    before-echo : (k : ℕ) → suc k ≤ T .last → isEcho T (suc k) ≡ true → Plain k
+    before-echo : (k : ℕ) → suc k ≤ T .order .last → isEcho T (suc k) ≡ true → Plain k
     before-echo zero lk e = absurd (true-false (sym e ∙ first-plain T n l W))
     before-echo (suc k) lk e = (omega arith, lk, go (isEcho T (suc k)) refl)
       where
@@ -571,7 +560,7 @@ module _ (T : Table) (U : Script) (n l : ℕ) (W : Lawful T n l) where
         go true z = absurd (true-false (sym e ∙ no-two T n l W (suc k) (omega arith) z))
         go false z = refl
 
-    good-echo : (k : ℕ) → suc k ≤ T .last → isEcho T (suc k) ≡ true → Good (suc k)
+    good-echo : (k : ℕ) → suc k ≤ T .order .last → isEcho T (suc k) ≡ true → Good (suc k)
     good-echo k lk e =
         let h : Plain k = before-echo k lk e in
         middle P n l L S (λ i. refl) k (middle-echo k lk e (list-of (suc k) e .size) (subst (SendAt T U n l) after (send-of k h)))
@@ -584,29 +573,29 @@ module _ (T : Table) (U : Script) (n l : ℕ) (W : Lawful T n l) where
       where
         go : (b : Bool) → toEcho T two (suc k) ≡ b → Good (suc k)
         go true q =
-            let c = next-echo T n l W two (suc k) (λ p. omega (arith, h .1)) q in
+            let c = next-echo T n l W two (suc k) (h .1) q in
             middle P n l L S (λ i. refl) k (middle-held (suc k) (h .1) (h .2) q (recv-of (suc k) h) (list-of (suc (suc k)) (c .1)))
         go false q = middle P n l L S (λ i. refl) k (middle-plain (suc k) (h .1) (h .2) q (recv-of (suc k) h) (send-of (suc k) h))
 
-    good-last : (k : ℕ) → suc k ≡ T .last → Good (suc k)
+    good-last : (k : ℕ) → suc k ≡ T .order .last → Good (suc k)
     good-last k e =
         last P n l L S (λ i. refl) k (subst (Last P n l L S) (sym e) (last-call (H .last)))
 
-    good : (k : ℕ) → isRound T two k ≡ true → Good k
-    unfolding isRound
+    good : (k : ℕ) → roundIn (T .order) two k ≡ true → Good k
+    unfolding roundIn
     good zero r = absurd (true-false (sym r ∙ never-zero T n l W))
     good (suc k) r = by-echo (isEcho T (suc k)) refl
       where
-        lk : suc k ≤ T .last
-        lk = leb-true _ _ (two-of (ltb 0 (suc k)) (leb (suc k) (T .last)) (two-of (ltb 0 (suc k) && leb (suc k) (T .last)) _ r .0) .1)
+        lk : suc k ≤ T .order .last
+        lk = leb-true _ _ (and-second (leb 1 (suc k)) _ (and-first (leb 1 (suc k) && leb (suc k) (T .order .last)) _ r))
 
-        by-last : (b : Bool) → eqb (suc k) (T .last) ≡ b → isEcho T (suc k) ≡ false → Good (suc k)
+        by-last : (b : Bool) → eqb (suc k) (T .order .last) ≡ b → isEcho T (suc k) ≡ false → Good (suc k)
         by-last true q e = good-last k (eqb-true _ _ q)
-        by-last false q e = good-plain k (omega arith, omega (arith, lk, eqb-false (suc k) (T .last) q), e)
+        by-last false q e = good-plain k (omega arith, omega (arith, lk, eqb-false (suc k) (T .order .last) q), e)
 
         by-echo : (b : Bool) → isEcho T (suc k) ≡ b → Good (suc k)
         by-echo true e = good-echo k lk e
-        by-echo false e = by-last (eqb (suc k) (T .last)) refl e
+        by-echo false e = by-last (eqb (suc k) (T .order .last)) refl e
 
     -- what the engine asks of the rounds
     pub honest-rounds : (d : ℕ) → d < stepsOf T (eqb n 2)

@@ -35,7 +35,7 @@ unfolding keepOf writeOf made
 alike-call T n l k q q′ A = record {
   check = λ i w m. refl;
   keep = λ i w m. rw (A .keep) refl;
-  write = λ i w m. ap (λ (x : ℕ → List ℕ). pick (eqb k (T .last)) (T .result (frame n l i) w m) (toOthers n i
+  write = λ i w m. ap (λ (x : ℕ → List ℕ). pick (eqb k (T .order .last)) (T .result (frame n l i) w m) (toOthers n i
       (pick (toEcho T (eqb n 2) k) (T .echo .write n i (digests T k (frame n l i) m)) x))) (λ e r. same i w m r e);
 }
   where

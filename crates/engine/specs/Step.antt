@@ -13,8 +13,8 @@ pub use Rattle.engine.specs.declared.Session.{Session}
 use Rattle.engine.specs.declared.Verdict.{Verdict}
 use Rattle.engine.specs.declared.Verdict.the-variants as Variant
 
--- ---- what a call is given and leaves
--- "The r Blocks are lent with the call that writes `fabitn`, the permutation .. with the one that writes `dvalue`; both are empty otherwise."
+-- ---- what a call is given and leaves "The r Blocks are lent with the call that writes `fabitn`, the permutation .. with the one that
+-- writes `dvalue`; both are empty otherwise."
 pub record Loan : Type 0 where
   pub r : List ℕ
   pub perm : List ℕ
@@ -121,8 +121,8 @@ unfoldable pub partsIn : Frame → Lent → Bool
 partsIn f q = allOf (f .n) (λ k. pick (other f k) (pick (gone q k) true (inside q k)) true)
 
 -- "Lent lengths are exact, but for the incoming buffer"
-unfoldable pub sizes : ℕ → ℕ → Frame → Lent → List ℕ → Bool
-sizes workLen outLen f q w =
+unfoldable pub lengthsDue : ℕ → ℕ → Frame → Lent → List ℕ → Bool
+lengthsDue workLen outLen f q w =
     eqb (length w) workLen && eqb (length (q .out)) outLen && eqb (length (q .starts)) (f .n) && eqb (length (q .lens)) (f .n)
     && eqb (length (q .missing)) (f .n) && partsIn f q
 
@@ -131,7 +131,7 @@ unfoldable pub reasonOf : Protocol → Session → ℕ → Lent → List ℕ →
 reasonOf P s k q w =
     pick (not (P .alive s)) 20
     (pick (not (eqb k (s .due))) 19
-    (pick (not (sizes (P .workLen (s .party)) (P .rule k .outLen (s .party)) (s .party) q w)) 17
+    (pick (not (lengthsDue (P .workLen (s .party)) (P .rule k .outLen (s .party)) (s .party) q w)) 17
     (P .rule k .lent (s .party .n) (s .party .l) (q .loan))))
 
 -- ---- received faults: "then party by party 14, 13, 6, then content"

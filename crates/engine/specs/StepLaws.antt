@@ -11,10 +11,10 @@ use lib.ListN.{length, getD, replicate}
 use lib.Dec.{ltb, eqb}
 use borrow.Author.Tests.{ltb-true, ltb-false, eqb-true, eqb-false, eq-eqb, ne-eqb, lt-ltb, le-leb}
 use Rattle.lists.specs.Pick.{pick, pick-else}
-use Rattle.lists.specs.All.{all-of}
+use Rattle.lists.specs.All.{all-of, not-false}
 use Rattle.algebra.specs.Sum.{neq, neq-true, apart?, Same, apart}
 use Rattle.engine.specs.Step.{Frame, Session, Lent, Refused, Outcome, outcome, Fault, Rule, Protocol, other, mask, gone, part, heard}
-use Rattle.engine.specs.Step.{inside, partsIn, sizes, reasonOf, orElse, scan, byParty, formFault, faultOf, ended, refused, faulted}
+use Rattle.engine.specs.Step.{inside, partsIn, lengthsDue, reasonOf, orElse, scan, byParty, formFault, faultOf, ended, refused, faulted}
 use Rattle.engine.specs.Step.{accepted, roundSpec}
 
 -- ---- the three cases
@@ -62,10 +62,6 @@ module _ (P : Protocol) (s : Session) (k : ℕ) (q : Lent) (w : List ℕ) where
 not-zero : (n : ℕ) → _≡_ {A = ℕ} (suc n) 0 → ⊥
 not-zero n z = omega arith
 
-not-false : (b : Bool) → not b ≡ false → b ≡ true
-not-false true e = refl
-not-false false e = sym e
-
 -- a call with no reason is for the round that is due, in a session that is alive
 pub record Due (P : Protocol) (s : Session) (k : ℕ) (q : Lent) : Type 0 where
   pub alive : P .alive s ≡ true
@@ -88,12 +84,13 @@ module _ (P : Protocol) (s : Session) (k : ℕ) (q : Lent) (w : List ℕ) where
   due-of h =
       let e1 = pick-else (not (P .alive s)) _ _ _ (not-zero 19) h in
       let e2 = pick-else (not (eqb k (s .due))) _ _ _ (not-zero 18) (e1 .1) in
-      let e3 = pick-else (not (sizes (P .workLen (s .party)) (P .rule k .outLen (s .party)) (s .party) q w)) _ _ _ (not-zero 16) (e2 .1) in
+      let e3 =
+      pick-else (not (lengthsDue (P .workLen (s .party)) (P .rule k .outLen (s .party)) (s .party) q w)) _ _ _ (not-zero 16) (e2 .1) in
       record { alive = not-false _ (e1 .0); number = eqb-true _ _ (not-false _ (e2 .0)); lent = e3 .1 }
 
   -- what a call needs to have no reason
   pub no-reason : P .alive s ≡ true → k ≡ s .due
-      → sizes (P .workLen (s .party)) (P .rule k .outLen (s .party)) (s .party) q w ≡ true
+      → lengthsDue (P .workLen (s .party)) (P .rule k .outLen (s .party)) (s .party) q w ≡ true
       → P .rule k .lent (s .party .n) (s .party .l) (q .loan) ≡ 0 → reasonOf P s k q w ≡ 0
   unfolding reasonOf
   no-reason a e z g = rw (a, eq-eqb k (s .due) e, z) g
@@ -130,6 +127,12 @@ or-none a b h = rw (eq-eqb (a .code) 0 h) refl
 pub or-first : (a b : Fault) → a .code ≢ 0 → orElse a b ≡ a
 unfolding orElse
 or-first a b h = rw (ne-eqb (a .code) 0 h) refl
+
+pub scan-ext : (n : ℕ) (c d : ℕ → ℕ) → ((k : ℕ) → k < n → c k ≡ d k) → scan n c ≡ scan n d
+unfolding scan
+scan-ext zero c d h = refl
+scan-ext (suc n) c d h =
+    ap₂ (λ (a : Fault) e. orElse a (record { code = e; party = n })) (scan-ext n c d (λ k l. h k (omega arith))) (h n (omega arith))
 
 pub scan-none : (n : ℕ) (c : ℕ → ℕ) → ((j : ℕ) → j < n → c j ≡ 0) → scan n c .code ≡ 0
 unfolding scan
@@ -211,11 +214,11 @@ no-fault R f q w h c =
     ∙ c
 
 -- ---- lengths
-pub sizes-hold : (a b : ℕ) (f : Frame) (q : Lent) (w : List ℕ) → length w ≡ a → length (q .out) ≡ b → length (q .starts) ≡ f .n
+pub lengths-hold : (a b : ℕ) (f : Frame) (q : Lent) (w : List ℕ) → length w ≡ a → length (q .out) ≡ b → length (q .starts) ≡ f .n
     → length (q .lens) ≡ f .n → length (q .missing) ≡ f .n
-    → ((k : ℕ) → k < f .n → getD (q .starts) k 0 + getD (q .lens) k 0 ≤ length (q .incoming)) → sizes a b f q w ≡ true
-unfolding sizes partsIn inside
-sizes-hold a b f q w h1 h2 h3 h4 h5 h6 =
+    → ((k : ℕ) → k < f .n → getD (q .starts) k 0 + getD (q .lens) k 0 ≤ length (q .incoming)) → lengthsDue a b f q w ≡ true
+unfolding lengthsDue partsIn inside
+lengths-hold a b f q w h1 h2 h3 h4 h5 h6 =
     simp (
       eq-eqb (length w) a h1,
       eq-eqb (length (q .out)) b h2,

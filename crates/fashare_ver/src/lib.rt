@@ -1,33 +1,38 @@
-// Round 10 of `fashare` (document 01, "What each round means"; `fashare` of src/mpc/faand.rs): each party sends dm, its bit and MACs of each of
-// the 40 strings; the others check its length and its bit, and keep it. The definitions are those of crate rounds, specs/Fashare.antt. A dm that
-// was sent is public; before, its bit and MACs decide no branch and no index.
+// Round 10 of `fashare` (document 01, "What each round means"; `fashare` of src/mpc/faand.rs): each party sends dm, its bit and MACs of
+// each of the 40 strings; the others check its length and its bit, and keep it. The definitions are those of crate rounds,
+// specs/Fashare.antt. A dm that was sent is public; before, its bit and MACs decide no branch and no index.
 ghost use mathlib.Core.Path.{_≡_};
 ghost use Prim.Native.Nat.{ℕ, _+_, _-_, _*_, _<_, _≤_};
-ghost use lib.ListN.{length, replicate};
-ghost use Rattle.lists.specs.Pick.{pick};
-ghost use Rattle.algebra.specs.Sum.{neq};
+ghost use lib.ListN.{length};
 ghost use Rattle.message.specs.Format.{formOf};
 ghost use Rattle.encode.specs.Encode.{dmItem};
 ghost use Rattle.plan.specs.Plan.{dmLen, msgLen};
-ghost use Rattle.engine.specs.Step.{frame, byParty};
+ghost use Rattle.engine.specs.Step.{byParty};
 ghost use Rattle.engine.specs.Area.{toOthers};
+ghost use Rattle.rounds.specs.Area as Area;
 ghost use Rattle.rounds.specs.Mail.{letter};
 ghost use Rattle.rounds.specs.EchoLaws.{Received};
-ghost use Rattle.rounds.specs.StringLaws.{Told, ofParty};
-ghost use Rattle.rounds.specs.DmLaws.{Dues, Checked, dmsOf};
+ghost use Rattle.rounds.specs.FaultLaws.{Finds, faultAt};
+ghost use Rattle.rounds.specs.SentLaws.{rowIn};
+ghost use Rattle.rounds.specs.DmLaws.{Dues, Checked};
 ghost use Rattle.rounds.specs.Fashare as Fashare;
-ghost use Rattle.fashare.specs.Given.{Given};
+ghost use Rattle.area.specs.Given.{Work};
+ghost use Rattle.fashare_comm.specs.Given.{Given};
+use engine::Frame;
+use fashare_comm::STRINGS;
 use message::Kind;
 use rounds::Fault;
+use rounds::Mail;
 
 // ---- the check
 
 // The fault of dm q of a message: 4 if it has another length than the one due, then 1 if its first byte isn't a bit.
-fn dm_fault(m: &[u8], n: usize, q: usize) -> u8
-    requires { ⌜ formOf Kind.Dms 40 (now m) ≡ 0 ⌝ }
-    requires { ⌜ (1 ≤ n) × ((n ≤ 8) × (q < 40)) ⌝ }
-    ensures { λ r. ⌜ ((l i k : ℕ) → r ≡ Fashare.dmFault (frame n l i) (λ _. now (m .entry)) q k) ⌝ }
+fn dm_fault(m: &[u8], f: Frame, q: usize) -> u8
+    requires { ⌜ formOf Kind.Dms Fashare.STRINGS (now m) ≡ 0 ⌝ }
+    requires { ⌜ (1 ≤ f .n) × ((f .n ≤ 8) × (q < Fashare.STRINGS)) ⌝ }
+    ensures { λ r. ⌜ ((k : ℕ) → r ≡ Fashare.dmFault f (λ _. now (m .entry)) q k) ⌝ }
 {
+    let n = f.n;
     let at = message::item_at(Kind::Dms, m, q);
     let len = block::load64(m, at);
     if len != plan::dm_len(n) as u64 {
@@ -37,43 +42,30 @@ fn dm_fault(m: &[u8], n: usize, q: usize) -> u8
 }
 
 // The fault of party k at string q; the own number has none.
-fn party_fault(
-    incoming: &[u8],
-    starts: &[usize],
-    lens: &[usize],
-    n: usize,
-    i: usize,
-    q: usize,
-    k: usize,
-) -> u8
-    requires { ⌜ (n ≤ 8) × ((k < n) × (q < 40)) ⌝ }
-    requires { ⌜ Received Kind.Dms 40 n i (now incoming) (now starts) (now lens) ⌝ }
-    ensures { λ r. ⌜ ((l : ℕ) → r ≡ ofParty i (Fashare.dmFault (frame n l i) (letter (now (incoming .entry)) (now (starts .entry)) (now (lens .entry))) q) k) ⌝ }
+fn party_fault(incoming: &[u8], mail: Mail, f: Frame, q: usize, k: usize) -> u8
+    requires { ⌜ (k < f .n) × (q < Fashare.STRINGS) ⌝ }
+    requires { ⌜ Received Kind.Dms Fashare.STRINGS f (now incoming) mail ⌝ }
+    ensures { λ r. ⌜ r ≡ faultAt (f .i) (Fashare.dmFault f (letter (now (incoming .entry)) mail) q) k ⌝ }
 {
-    if i == k {
+    let i = f.i;
+    if k == i {
         return 0;
     }
-    let m = rounds::letter(incoming, starts, lens, k);
-    dm_fault(m, n, q)
+    let m = rounds::letter(incoming, mail, k);
+    dm_fault(m, f, q)
 }
 
 // The first fault of string q, party by party.
-fn check_string(
-    incoming: &[u8],
-    starts: &[usize],
-    lens: &[usize],
-    n: usize,
-    i: usize,
-    q: usize,
-) -> Fault
-    requires { ⌜ (n ≤ 8) × (q < 40) ⌝ }
-    requires { ⌜ Received Kind.Dms 40 n i (now incoming) (now starts) (now lens) ⌝ }
-    ensures { λ r. ⌜ ((l : ℕ) → Told (r .code) (r .party) (byParty (frame n l i)
-        (Fashare.dmFault (frame n l i) (letter (now (incoming .entry)) (now (starts .entry)) (now (lens .entry))) q))) ⌝ }
+fn check_string(incoming: &[u8], mail: Mail, f: Frame, q: usize) -> Fault
+    requires { ⌜ q < Fashare.STRINGS ⌝ }
+    requires { ⌜ Received Kind.Dms Fashare.STRINGS f (now incoming) mail ⌝ }
+    ensures { λ r. ⌜ Finds (r .code) (r .party) (byParty f
+        (Fashare.dmFault f (letter (now (incoming .entry)) mail) q)) ⌝ }
 {
+    let n = f.n;
     let mut k = 0;
     while k < n {
-        let code = party_fault(incoming, starts, lens, n, i, q, k);
+        let code = party_fault(incoming, mail, f, q, k);
         if code != 0 {
             return Fault {
                 code: code,
@@ -85,16 +77,14 @@ fn check_string(
     Fault { code: 0, party: 0 }
 }
 
-// The content of the messages, string by string: "dm length comes before its bit".
-pub fn check_dms(incoming: &[u8], starts: &[usize], lens: &[usize], n: usize, i: usize) -> Fault
-    requires { ⌜ n ≤ 8 ⌝ }
-    requires { ⌜ Received Kind.Dms 40 n i (now incoming) (now starts) (now lens) ⌝ }
-    ensures { λ r. ⌜ ((l : ℕ) → Told (r .code) (r .party)
-        (Fashare.dmFaults (frame n l i) (letter (now (incoming .entry)) (now (starts .entry)) (now (lens .entry))))) ⌝ }
+// The dms, string by string: "dm length comes before its bit". Nothing of the work area is needed.
+pub fn judge(incoming: &[u8], mail: Mail, f: Frame) -> Fault
+    requires { ⌜ Received Kind.Dms Fashare.STRINGS f (now incoming) mail ⌝ }
+    ensures { λ r. ⌜ Finds (r .code) (r .party) (Fashare.dmFaults f (letter (now (incoming .entry)) mail)) ⌝ }
 {
     let mut q = 0;
-    while q < 40 {
-        let e = check_string(incoming, starts, lens, n, i, q);
+    while q < STRINGS {
+        let e = check_string(incoming, mail, f, q);
         if e.code != 0 {
             return e;
         }
@@ -106,14 +96,14 @@ pub fn check_dms(incoming: &[u8], starts: &[usize], lens: &[usize], n: usize, i:
 // ---- what is kept
 
 // The dms of a message, one after another. Each has the length that is due, so dm q begins behind q others.
-fn keep_row(out: &mut [u8], m: &[u8], n: usize)
-    requires { ⌜ (1 ≤ n) × ((n ≤ 8) × (length (now out) ≡ 40 * dmLen n)) ⌝ }
+fn copy_dms(out: &mut [u8], m: &[u8], n: usize)
+    requires { ⌜ (1 ≤ n) × ((n ≤ 8) × (length (now out) ≡ Fashare.STRINGS * dmLen n)) ⌝ }
     requires { ⌜ Dues n (now m) ⌝ }
-    ensures { λ _. ⌜ now (out .exit) ≡ dmsOf n (now (m .entry)) ⌝ }
+    ensures { λ _. ⌜ now (out .exit) ≡ Fashare.dmsOf n (now (m .entry)) ⌝ }
 {
     let len = plan::dm_len(n);
     let mut q = 0;
-    while q < 40 {
+    while q < STRINGS {
         let from = 16 + q * (8 + len);
         let to = from + len;
         let a = q * len;
@@ -124,46 +114,37 @@ fn keep_row(out: &mut [u8], m: &[u8], n: usize)
 }
 
 // The row of party k; zero for the own number.
-fn keep_party(
-    out: &mut [u8],
-    incoming: &[u8],
-    starts: &[usize],
-    lens: &[usize],
-    n: usize,
-    i: usize,
-    k: usize,
-)
-    requires { ⌜ (n ≤ 8) × ((k < n) × (length (now out) ≡ 40 * dmLen n)) ⌝ }
-    requires { ⌜ Checked n i (now incoming) (now starts) (now lens) ⌝ }
-    ensures { λ _. ⌜ now (out .exit) ≡ pick (neq i k) (dmsOf n (letter (now (incoming .entry)) (now (starts .entry)) (now (lens .entry)) k)) (replicate (40 * dmLen n) 0) ⌝ }
+fn keep_row(row: &mut [u8], incoming: &[u8], mail: Mail, f: Frame, k: usize)
+    requires { ⌜ (k < f .n) × (length (now row) ≡ Fashare.STRINGS * dmLen (f .n)) ⌝ }
+    requires { ⌜ Checked f (now incoming) mail ⌝ }
+    ensures { λ _. ⌜ now (row .exit) ≡ rowIn (f .i) (Fashare.STRINGS * dmLen (f .n))
+        (λ k. Fashare.dmsOf (f .n) (letter (now (incoming .entry)) mail k)) k ⌝ }
 {
+    let n = f.n;
+    let i = f.i;
     if i == k {
-        fill::clear(out);
+        fill::clear(row);
     } else {
-        let m = rounds::letter(incoming, starts, lens, k);
-        keep_row(out, m, n);
+        let m = rounds::letter(incoming, mail, k);
+        copy_dms(row, m, n);
     }
 }
 
 // The dms of all others, after a check that found no fault.
-pub fn keep_dms(
-    section: &mut [u8],
-    incoming: &[u8],
-    starts: &[usize],
-    lens: &[usize],
-    n: usize,
-    i: usize,
-)
-    requires { ⌜ (1 ≤ n) × ((n ≤ 8) × (length (now section) ≡ n * (40 * dmLen n))) ⌝ }
-    requires { ⌜ Checked n i (now incoming) (now starts) (now lens) ⌝ }
-    ensures { λ _. ⌜ ((l : ℕ) → now (section .exit) ≡ Fashare.dmRows (frame n l i) (letter (now (incoming .entry)) (now (starts .entry)) (now (lens .entry)))) ⌝ }
+pub fn keep(work: &mut [u8], incoming: &[u8], mail: Mail, f: Frame)
+    requires { ⌜ Work f (now work) ⌝ }
+    requires { ⌜ Checked f (now incoming) mail ⌝ }
+    ensures { λ _. ⌜ now (work .exit) ≡ Area.keep f Area.DMS
+        (Fashare.dmRows f (letter (now (incoming .entry)) mail)) (now (work .entry)) ⌝ }
 {
-    let size = 40 * plan::dm_len(n);
+    let n = f.n;
+    let rows = area::section_at(f, area::DMS);
+    let size = STRINGS * plan::dm_len(n);
     let mut k = 0;
     while k < n {
-        let a = k * size;
+        let a = rows + k * size;
         let e = a + size;
-        keep_party(&mut section[a..e], incoming, starts, lens, n, i, k);
+        keep_row(&mut work[a..e], incoming, mail, f, k);
         k += 1;
     }
 }
@@ -171,47 +152,51 @@ pub fn keep_dms(
 // ---- messages
 
 // dm q as an item of the message: its length, then its bytes.
-fn put_dm(out: &mut [u8], recs: &[u8], n: usize, i: usize, l: usize, q: usize)
-    requires { ⌜ length (now out) ≡ 8 + dmLen n ⌝ }
-    requires { ⌜ (q < 40) × Given n l (now recs) ⌝ }
-    ensures { λ _. ⌜ now (out .exit) ≡ dmItem (Fashare.dm (frame n l i) (now (recs .entry)) q) ⌝ }
+fn put_dm(out: &mut [u8], recs: &[u8], f: Frame, q: usize)
+    requires { ⌜ length (now out) ≡ 8 + dmLen (f .n) ⌝ }
+    requires { ⌜ (q < Fashare.STRINGS) × Given f (now recs) ⌝ }
+    ensures { λ _. ⌜ now (out .exit) ≡ dmItem (Fashare.dm f (now (recs .entry)) q) ⌝ }
 {
+    let n = f.n;
     let len = plan::dm_len(n);
     let e = 8 + len;
     encode::put_count(&mut out[0..8], len);
-    fashare::write_dm(&mut out[8..e], recs, n, i, l, q);
+    fashare_comm::write_dm(&mut out[8..e], recs, f, q);
 }
 
 // The message, which is the same to all.
-fn write_msg(out: &mut [u8], recs: &[u8], n: usize, i: usize, l: usize)
-    requires { ⌜ length (now out) ≡ 8 + 40 * (8 + dmLen n) ⌝ }
-    requires { ⌜ Given n l (now recs) ⌝ }
-    ensures { λ _. ⌜ now (out .exit) ≡ Fashare.verMsg (frame n l i) (now (recs .entry)) ⌝ }
+fn write_msg(out: &mut [u8], recs: &[u8], f: Frame)
+    requires { ⌜ length (now out) ≡ 8 + Fashare.STRINGS * (8 + dmLen (f .n)) ⌝ }
+    requires { ⌜ Given f (now recs) ⌝ }
+    ensures { λ _. ⌜ now (out .exit) ≡ Fashare.verMsg f (now (recs .entry)) ⌝ }
 {
+    let n = f.n;
     let size = 8 + plan::dm_len(n);
-    encode::put_count(&mut out[0..8], 40);
+    encode::put_count(&mut out[0..8], STRINGS);
     let mut q = 0;
-    while q < 40 {
+    while q < STRINGS {
         let a = 8 + q * size;
         let e = a + size;
-        put_dm(&mut out[a..e], recs, n, i, l, q);
+        put_dm(&mut out[a..e], recs, f, q);
         q += 1;
     }
 }
 
 // "then dm": to every other party.
-pub fn write_dms(out: &mut [u8], recs: &[u8], n: usize, i: usize, l: usize)
-    requires { ⌜ length (now out) ≡ (n - 1) * msgLen n l 10 ⌝ }
-    requires { ⌜ Given n l (now recs) ⌝ }
-    ensures { λ _. ⌜ now (out .exit) ≡ toOthers n i (λ r. Fashare.verMsg (frame n l i) (now (recs .entry))) ⌝ }
+pub fn write(out: &mut [u8], work: &[u8], f: Frame)
+    requires { ⌜ Work f (now work) ⌝ }
+    requires { ⌜ length (now out) ≡ (f .n - 1) * msgLen (f .n) (f .l) 10 ⌝ }
+    ensures { λ _. ⌜ now (out .exit) ≡ toOthers (f .n) (f .i) (λ _. Fashare.verMsg f (Area.at f Area.BITS (now (work .entry)))) ⌝ }
 {
-    let len = 8 + 40 * (8 + plan::dm_len(n));
+    let n = f.n;
+    let recs = area::section(work, f, area::BITS);
+    let len = 8 + STRINGS * (8 + plan::dm_len(n));
     let last = n - 1;
     let mut t = 0;
     while t < last {
         let a = t * len;
         let e = a + len;
-        write_msg(&mut out[a..e], recs, n, i, l);
+        write_msg(&mut out[a..e], recs, f);
         t += 1;
     }
 }

@@ -1,40 +1,51 @@
--- The sections of the work area that h is made from, and HS.
-use mathlib.Core.Path.{_≡_, refl, sym, ap, _∙_}
+-- h after e was kept: it is made from sections that e isn't in.
+use mathlib.Core.Path.{_≡_, sym, ap, ap₂, _∙_}
+use mathlib.Core.Logic.{_≢_}
 use mathlib.Core.List.{List}
-use Prim.Native.Nat.{ℕ, _+_, _*_, _≤_}
-use native.Mathlib.Nat.{mul-le-mul}
+use Prim.Native.Nat.{ℕ, _*_, _<_}
 use native.Mathlib.Omega.{arith}
-use lib.ListN.{length}
+use lib.ListN.{length, replicate, length-replicate}
+use Rattle.lists.specs.Pick.{pick}
+use Rattle.lists.specs.Over.{tab, length-cat, length-tab}
+use Rattle.algebra.specs.Group.{num}
+use Rattle.block.specs.Block.{blockAt}
 use Rattle.plan.specs.Plan.{leaky}
 use Rattle.engine.specs.declared.Frame.{Frame}
-use Rattle.engine.specs.Step.{frame}
-use Rattle.engine.specs.Area.{sec, length-sec}
-use Rattle.rounds.specs.Area.{BITS, LEAKY, ZS, HS, SECTIONS, leakyLen, sizes, sizeOf}
-use Rattle.haand.specs.Given.{Work, Starts}
-use Rattle.haand.specs.GivenLaws.{area, inside, leaky-some, size-bits, size-leaky, size-zs}
-use Rattle.flaand.specs.Given.{Kept}
+use Rattle.engine.specs.Step.{other}
+use Rattle.engine.specs.StepLaws.{other-cases}
+use Rattle.rounds.specs.Area as Area
+use Rattle.rounds.specs.Area.{DELTA, BITS, LEAKY, ZS, ES, HS, sizeOf, at, keep}
+use Rattle.rounds.specs.Flaand.{eTold, eRows, hs}
+use Rattle.rounds.specs.Table.{delta}
+use Rattle.area.specs.Given.{Work}
+use Rattle.area.specs.GivenLaws.{at-other}
+use Rattle.area.specs.Sizes.{size-es}
 
-pub size-hs : (f : Frame) → sizeOf f HS ≡ leaky (f .l) * 16
-unfolding sizeOf sizes
-size-hs f = refl
+length-es : (f : Frame) (m : ℕ → List ℕ) → length (eRows f m) ≡ f .n * leaky (f .l)
+unfolding eRows Area.rows
+length-es f m =
+    let g : ℕ → List ℕ = λ j. tab (leaky (f .l)) (λ t. num (eTold m j t)) in
+    length-cat (f .n) (leaky (f .l)) (λ k. pick (other f k) (g k) (replicate (leaky (f .l)) 0)) (λ k lk.
+    other-cases f k (λ b. length (pick b (g k) (replicate (leaky (f .l)) 0)) ≡ leaky (f .l))
+    (λ l′ ne. length-tab (leaky (f .l)) _) (length-replicate {A = ℕ} (leaky (f .l)) 0))
 
-module _ {n i l : ℕ} {w : List ℕ} (h : Work n i l w) where
-  pub rows-inside : (a : ℕ) → Starts n i l LEAKY a → a + leaky l * leakyLen n ≤ length w
-  unfolding leakyLen
-  rows-inside a e =
-      let p : 1 * 1 ≤ leaky l * leakyLen n = mul-le-mul (leaky-some l (h .ranges .one)) (let q : 1 ≤ leakyLen n = omega arith in q) in
-      inside h LEAKY a (leaky l * leakyLen n) (omega arith) e (sym (size-leaky (frame n l i))) (omega (arith, p))
+module _ {f : Frame} {w : List ℕ} (h : Work f w) (m : ℕ → List ℕ) where
+  abbrev after : List ℕ
+  after = keep f ES (eRows f m) w
 
-  pub zs-inside : (a : ℕ) → Starts n i l ZS a → a + leaky l * 17 ≤ length w
-  zs-inside a e = inside h ZS a (leaky l * 17) (omega arith) e (sym (size-zs (frame n l i))) (omega (arith, leaky-some l (h .ranges .one)))
+  same : (s : ℕ) → s ≢ ES → at f s after ≡ at f s w
+  same s ne = at-other h ES (eRows f m) (omega arith) (length-es f m ∙ sym (size-es f)) s ne
 
-  -- the three, lent as parts
-  pub kept-secs : (x y z : List ℕ) → x ≡ sec (sizeOf (frame n l i)) BITS w → y ≡ sec (sizeOf (frame n l i)) LEAKY w
-      → z ≡ sec (sizeOf (frame n l i)) ZS w
-      → Kept n i l x y z
-  kept-secs x y z ex ey ez = record {
-    ranges = h .ranges;
-    records = ap length ex ∙ length-sec (sizeOf (frame n l i)) SECTIONS w (area h) BITS (omega arith) ∙ size-bits (frame n l i);
-    leakies = ap length ey ∙ length-sec (sizeOf (frame n l i)) SECTIONS w (area h) LEAKY (omega arith) ∙ size-leaky (frame n l i);
-    bits = ap length ez ∙ length-sec (sizeOf (frame n l i)) SECTIONS w (area h) ZS (omega arith) ∙ size-zs (frame n l i);
-  }
+  hs-same : hs f (delta f after) (at f BITS after) (at f LEAKY after) (at f ZS after) m
+      ≡ hs f (delta f w) (at f BITS w) (at f LEAKY w) (at f ZS w) m
+  unfolding delta
+  hs-same =
+      ap₂ (λ (d r : List ℕ). hs f (blockAt d 0) r (at f LEAKY after) (at f ZS after) m) (same DELTA (λ e. omega arith)) (same BITS (λ e. omega arith))
+      ∙ ap₂ (λ (y z : List ℕ). hs f (blockAt (at f DELTA w) 0) (at f BITS w) y z m) (same LEAKY (λ e. omega arith)) (same ZS (λ e. omega arith))
+
+  pub both-kept : (v u : List ℕ) → v ≡ keep f ES (eRows f m) w
+      → u ≡ keep f HS (hs f (delta f v) (at f BITS v) (at f LEAKY v) (at f ZS v) m) v
+      → u ≡ keep f HS (hs f (delta f w) (at f BITS w) (at f LEAKY w) (at f ZS w) m) (keep f ES (eRows f m) w)
+  both-kept v u e q =
+      q ∙ ap (λ (v : List ℕ). keep f HS (hs f (delta f v) (at f BITS v) (at f LEAKY v) (at f ZS v) m) v) e
+      ∙ ap (λ (x : List ℕ). keep f HS x after) hs-same

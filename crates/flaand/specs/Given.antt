@@ -5,12 +5,13 @@ use Prim.Native.Nat.{ℕ, _*_}
 use lib.ListN.{length}
 use Rattle.share.specs.Record.{recordLen}
 use Rattle.plan.specs.Plan.{leaky, bitsCount}
+use Rattle.engine.specs.declared.Frame.{Frame}
 use Rattle.rounds.specs.Area.{leakyLen}
-use Rattle.haand.specs.Given.{Ranges}
+use Rattle.area.specs.Given.{Ranged}
 
--- box i of n, with l, its records, and the rows that `fhaand` kept of each position
-pub record Kept (n i l : ℕ) (recs rows zs : List ℕ) : Type 0 where
-  pub ranges : Ranges n i l
-  pub records : length recs ≡ bitsCount l * recordLen n
-  pub leakies : length rows ≡ leaky l * leakyLen n
-  pub bits : length zs ≡ leaky l * 17
+-- the records, and the rows that `fhaand` kept of each position
+pub record Kept (f : Frame) (recs rows zs : List ℕ) : Type 0 where
+  pub ranges : Ranged f
+  pub records : length recs ≡ bitsCount (f .l) * recordLen (f .n)
+  pub leakies : length rows ≡ leaky (f .l) * leakyLen (f .n)
+  pub bits : length zs ≡ leaky (f .l) * 17

@@ -11,107 +11,81 @@ ghost use Rattle.block.specs.Group.{blocks};
 ghost use Rattle.share.specs.Record.{recordLen, macAt, keyAt};
 ghost use Rattle.encode.specs.Encode.{bitBlock};
 ghost use Rattle.plan.specs.Plan as Plan;
-ghost use Rattle.engine.specs.Step.{frame};
+ghost use Rattle.plan.specs.Plan.{InRange, msgLen};
 ghost use Rattle.engine.specs.Area.{toOthers};
-ghost use Rattle.rounds.specs.Area.{BITS, LEAKY, ZS, HS, leakyLen, at, keep};
+ghost use Rattle.rounds.specs.Area.{BITS, LEAKY, ZS, ES, HS, leakyLen, at, keep};
 ghost use Rattle.rounds.specs.Loops.{rowOf};
-ghost use Rattle.rounds.specs.Mail as Mail;
+ghost use Rattle.rounds.specs.Mail.{letter, Arrived};
 ghost use Rattle.rounds.specs.Haand as R;
 ghost use Rattle.rounds.specs.Flaand as F;
-ghost use Rattle.haand.specs.Given.{Ranges, Work, Starts};
+ghost use Rattle.rounds.specs.Table as Table;
+ghost use Rattle.area.specs.Given.{Ranged, Work, Place};
 ghost use Rattle.flaand.specs.Given.{Kept};
 ghost use Rattle.flaand.specs.HLaws.{zTerm, hashesAt, maskedAt};
+use area::Span;
+use area::Z_LEN;
 use block::Block;
+use engine::Frame;
+use rounds::Mail;
 use share::Delta;
 
 // ---- e and u are sent, the others' e are kept
 
-// Where the r record of position t starts.
-fn r_at(n: usize, l: usize, t: usize) -> usize
-    requires { ⌜ (n ≤ 8) × ((l ≤ 300000) × (t ≤ 1500000)) ⌝ }
-    ensures { λ r. ⌜ r ≡ (2 * Plan.leaky l + t) * recordLen n ⌝ }
-{
-    (2 * plan::leaky(l) + t) * share::record_len(n)
-}
-
 // e at position t.
-fn e_at(recs: &[u8], zs: &[u8], rows: &[u8], n: usize, i: usize, l: usize, t: usize) -> bool
-    requires { ⌜ (Kept n i l (now recs) (now rows) (now zs)) × (t < Plan.leaky l) ⌝ }
-    ensures { λ r. ⌜ r ≡ F.e (frame n l i) (now (recs .entry)) (now (zs .entry)) t ⌝ }
+fn e_at(recs: &[u8], zs: &[u8], rows: &[u8], f: Frame, t: usize) -> bool
+    requires { ⌜ (Kept f (now recs) (now rows) (now zs)) × (t < Plan.leaky (f .l)) ⌝ }
+    ensures { λ r. ⌜ r ≡ F.e f (now (recs .entry)) (now (zs .entry)) t ⌝ }
 {
-    block::bit(zs, t * 17) ^ share::bit_at(recs, r_at(n, l, t))
+    block::bit(zs, t * Z_LEN) ^ share::bit_at(recs, area::r_at(f, t))
 }
 
 // The item for party k at position t: u stands in the row of LEAKY.
-fn put_item(
-    out: &mut [u8],
-    recs: &[u8],
-    rows: &[u8],
-    zs: &[u8],
-    n: usize,
-    i: usize,
-    l: usize,
-    k: usize,
-    t: usize,
-)
-    requires { ⌜ (length (now out) ≡ 17) × (k < n) ⌝ }
-    requires { ⌜ (Kept n i l (now recs) (now rows) (now zs)) × (t < Plan.leaky l) ⌝ }
-    ensures { λ _. ⌜ now (out .exit) ≡ bitBlock (F.e (frame n l i) (now (recs .entry)) (now (zs .entry)) t)
-        (R.uAt (frame n l i) (now (rows .entry)) k t) ⌝ }
+fn put_item(out: &mut [u8], recs: &[u8], rows: &[u8], zs: &[u8], f: Frame, k: usize, t: usize)
+    requires { ⌜ (length (now out) ≡ 17) × (k < f .n) ⌝ }
+    requires { ⌜ (Kept f (now recs) (now rows) (now zs)) × (t < Plan.leaky (f .l)) ⌝ }
+    ensures { λ _. ⌜ now (out .exit) ≡ bitBlock (F.e f (now (recs .entry)) (now (zs .entry)) t)
+        (R.uAt f (now (rows .entry)) k t) ⌝ }
 {
-    let e = e_at(recs, zs, rows, n, i, l, t);
-    let u = block::load(rows, t * haand::leaky_len(n) + (32 + k * 18));
+    let e = e_at(recs, zs, rows, f, t);
+    let u = block::load(rows, area::entry_at(f, t, k));
     encode::put_bit_block(out, e, u);
 }
 
 // The message to party k.
-fn put_message(
-    out: &mut [u8],
-    recs: &[u8],
-    rows: &[u8],
-    zs: &[u8],
-    n: usize,
-    i: usize,
-    l: usize,
-    k: usize,
-)
-    requires { ⌜ (length (now out) ≡ 8 + Plan.leaky l * 17) × (k < n) ⌝ }
-    requires { ⌜ Kept n i l (now recs) (now rows) (now zs) ⌝ }
-    ensures { λ _. ⌜ now (out .exit) ≡ F.flaandMsg (frame n l i) (now (recs .entry)) (now (rows .entry)) (now (zs .entry)) k ⌝ }
+fn put_message(out: &mut [u8], recs: &[u8], rows: &[u8], zs: &[u8], f: Frame, k: usize)
+    requires { ⌜ (length (now out) ≡ 8 + Plan.leaky (f .l) * 17) × (k < f .n) ⌝ }
+    requires { ⌜ Kept f (now recs) (now rows) (now zs) ⌝ }
+    ensures { λ _. ⌜ now (out .exit) ≡ F.flaandMsg f (now (recs .entry)) (now (rows .entry)) (now (zs .entry)) k ⌝ }
 {
+    let l = f.l;
     let count = plan::leaky(l);
     encode::put_count(&mut out[0..8], count);
     let mut t = 0;
     while t < count {
         let a = 8 + t * 17;
         let e = a + 17;
-        put_item(&mut out[a..e], recs, rows, zs, n, i, l, k, t);
+        put_item(&mut out[a..e], recs, rows, zs, f, k, t);
         t += 1;
     }
 }
 
-// The messages of round 15, from the rows of LEAKY and ZS.
-pub fn write_flaand(
-    out: &mut [u8],
-    recs: &[u8],
-    rows: &[u8],
-    zs: &[u8],
-    n: usize,
-    i: usize,
-    l: usize,
-)
-    requires { ⌜ length (now out) ≡ (n - 1) * (8 + Plan.leaky l * 17) ⌝ }
-    requires { ⌜ Kept n i l (now recs) (now rows) (now zs) ⌝ }
-    ensures { λ _. ⌜ now (out .exit) ≡ toOthers n i
-        (F.flaandMsg (frame n l i) (now (recs .entry)) (now (rows .entry)) (now (zs .entry))) ⌝ }
+// The messages to all others.
+fn write_all(out: &mut [u8], recs: &[u8], rows: &[u8], zs: &[u8], f: Frame)
+    requires { ⌜ length (now out) ≡ (f .n - 1) * (8 + Plan.leaky (f .l) * 17) ⌝ }
+    requires { ⌜ Kept f (now recs) (now rows) (now zs) ⌝ }
+    ensures { λ _. ⌜ now (out .exit) ≡ toOthers (f .n) (f .i)
+        (F.flaandMsg f (now (recs .entry)) (now (rows .entry)) (now (zs .entry))) ⌝ }
 {
+    let n = f.n;
+    let i = f.i;
+    let l = f.l;
     let len = 8 + plan::leaky(l) * 17;
     let last = n - 1;
     let mut q = 0;
     while q < last {
         let a = q * len;
         let e = a + len;
-        put_message(&mut out[a..e], recs, rows, zs, n, i, l, plan::other(i, q));
+        put_message(&mut out[a..e], recs, rows, zs, f, plan::other(i, q));
         q += 1;
     }
 }
@@ -129,49 +103,36 @@ fn put_es(row: &mut [u8], m: &[u8])
 }
 
 // The bits e of party k; zero for the own number.
-fn keep_e_row(
-    row: &mut [u8],
-    incoming: &[u8],
-    starts: &[usize],
-    lens: &[usize],
-    n: usize,
-    i: usize,
-    k: usize,
-)
-    requires { ⌜ k < n ⌝ }
-    requires { ⌜ Mail.Arrived n i (8 + length (now row) * 17) (now incoming) (now starts) (now lens) ⌝ }
-    ensures { λ _. ⌜ now (row .exit) ≡ rowOf i (length (now (row .entry))) (λ k. tab (length (now (row .entry)))
-        (λ t. num (F.eTold (Mail.letter (now (incoming .entry)) (now (starts .entry)) (now (lens .entry))) k t))) k ⌝ }
+fn keep_e_row(row: &mut [u8], incoming: &[u8], mail: Mail, f: Frame, k: usize)
+    requires { ⌜ k < f .n ⌝ }
+    requires { ⌜ Arrived f (8 + length (now row) * 17) (now incoming) mail ⌝ }
+    ensures { λ _. ⌜ now (row .exit) ≡ rowOf (f .i) (length (now (row .entry))) (λ k. tab (length (now (row .entry)))
+        (λ t. num (F.eTold (letter (now (incoming .entry)) mail) k t))) k ⌝ }
 {
+    let i = f.i;
     if i == k {
         fill::clear(row);
         return;
     }
-    let m = rounds::letter(incoming, starts, lens, k);
+    let m = rounds::letter(incoming, mail, k);
     put_es(row, m);
 }
 
-// Round 15: the bits e of all others.
-pub fn keep_es(
-    section: &mut [u8],
-    incoming: &[u8],
-    starts: &[usize],
-    lens: &[usize],
-    n: usize,
-    i: usize,
-    l: usize,
-)
-    requires { ⌜ (Ranges n i l) × (length (now section) ≡ n * Plan.leaky l) ⌝ }
-    requires { ⌜ Mail.Arrived n i (8 + Plan.leaky l * 17) (now incoming) (now starts) (now lens) ⌝ }
-    ensures { λ _. ⌜ now (section .exit) ≡ F.eRows (frame n l i)
-        (Mail.letter (now (incoming .entry)) (now (starts .entry)) (now (lens .entry))) ⌝ }
+// The bits e of all others.
+fn keep_es(section: &mut [u8], incoming: &[u8], mail: Mail, f: Frame)
+    requires { ⌜ (Ranged f) × (length (now section) ≡ f .n * Plan.leaky (f .l)) ⌝ }
+    requires { ⌜ Arrived f (8 + Plan.leaky (f .l) * 17) (now incoming) mail ⌝ }
+    ensures { λ _. ⌜ now (section .exit) ≡ F.eRows f
+        (letter (now (incoming .entry)) mail) ⌝ }
 {
+    let n = f.n;
+    let l = f.l;
     let len = plan::leaky(l);
     let mut k = 0;
     while k < n {
         let a = k * len;
         let e = a + len;
-        keep_e_row(&mut section[a..e], incoming, starts, lens, n, i, k);
+        keep_e_row(&mut section[a..e], incoming, mail, f, k);
         k += 1;
     }
 }
@@ -194,24 +155,22 @@ fn z_term(
     at: usize,
     delta: Delta,
     incoming: &[u8],
-    starts: &[usize],
-    lens: &[usize],
-    n: usize,
-    i: usize,
-    l: usize,
+    mail: Mail,
+    f: Frame,
     t: usize,
     k: usize,
 ) -> Block
-    requires { ⌜ (n ≤ 8) × ((k < n) × (t < Plan.leaky l)) ⌝ }
-    requires { ⌜ at + recordLen n ≤ length (now recs) ⌝ }
-    requires { ⌜ Mail.Arrived n i (8 + Plan.leaky l * 17) (now incoming) (now starts) (now lens) ⌝ }
-    ensures { λ r. ⌜ r ≡ sel blocks (neq i k) (zTerm (now (recs .entry)) at (delta .0)
-        (Mail.letter (now (incoming .entry)) (now (starts .entry)) (now (lens .entry))) t k) ⌝ }
+    requires { ⌜ (f .n ≤ 8) × ((k < f .n) × (t < Plan.leaky (f .l))) ⌝ }
+    requires { ⌜ at + recordLen (f .n) ≤ length (now recs) ⌝ }
+    requires { ⌜ Arrived f (8 + Plan.leaky (f .l) * 17) (now incoming) mail ⌝ }
+    ensures { λ r. ⌜ r ≡ sel blocks (neq (f .i) k) (zTerm (now (recs .entry)) at (delta .0)
+        (letter (now (incoming .entry)) mail) t k) ⌝ }
 {
+    let i = f.i;
     if k == i {
         return Block::zero();
     }
-    let m = rounds::letter(incoming, starts, lens, k);
+    let m = rounds::letter(incoming, mail, k);
     let e = block::bit(m, 8 + t * 17);
     term(recs, at, k, delta, e)
 }
@@ -222,82 +181,65 @@ fn z_terms(
     at: usize,
     delta: Delta,
     incoming: &[u8],
-    starts: &[usize],
-    lens: &[usize],
-    n: usize,
-    i: usize,
-    l: usize,
+    mail: Mail,
+    f: Frame,
     t: usize,
 ) -> Block
-    requires { ⌜ (n ≤ 8) × (t < Plan.leaky l) ⌝ }
-    requires { ⌜ at + recordLen n ≤ length (now recs) ⌝ }
-    requires { ⌜ Mail.Arrived n i (8 + Plan.leaky l * 17) (now incoming) (now starts) (now lens) ⌝ }
-    ensures { λ r. ⌜ r ≡ others blocks i n (zTerm (now (recs .entry)) at (delta .0)
-        (Mail.letter (now (incoming .entry)) (now (starts .entry)) (now (lens .entry))) t) ⌝ }
+    requires { ⌜ (f .n ≤ 8) × (t < Plan.leaky (f .l)) ⌝ }
+    requires { ⌜ at + recordLen (f .n) ≤ length (now recs) ⌝ }
+    requires { ⌜ Arrived f (8 + Plan.leaky (f .l) * 17) (now incoming) mail ⌝ }
+    ensures { λ r. ⌜ r ≡ others blocks (f .i) (f .n) (zTerm (now (recs .entry)) at (delta .0)
+        (letter (now (incoming .entry)) mail) t) ⌝ }
 {
+    let n = f.n;
     let mut sum = Block::zero();
     let mut k = 0;
     while k < n {
-        sum = sum.xor(z_term(recs, at, delta, incoming, starts, lens, n, i, l, t, k));
+        sum = sum.xor(z_term(recs, at, delta, incoming, mail, f, t, k));
         k += 1;
     }
     sum
 }
 
 // The u that party k sent at position t; zero for the own number.
-fn u_told(
-    incoming: &[u8],
-    starts: &[usize],
-    lens: &[usize],
-    n: usize,
-    i: usize,
-    l: usize,
-    k: usize,
-    t: usize,
-) -> Block
-    requires { ⌜ (k < n) × (t < Plan.leaky l) ⌝ }
-    requires { ⌜ Mail.Arrived n i (8 + Plan.leaky l * 17) (now incoming) (now starts) (now lens) ⌝ }
-    ensures { λ r. ⌜ r ≡ sel blocks (neq i k)
-        (F.uTold (Mail.letter (now (incoming .entry)) (now (starts .entry)) (now (lens .entry))) k t) ⌝ }
+fn u_told(incoming: &[u8], mail: Mail, f: Frame, k: usize, t: usize) -> Block
+    requires { ⌜ (k < f .n) × (t < Plan.leaky (f .l)) ⌝ }
+    requires { ⌜ Arrived f (8 + Plan.leaky (f .l) * 17) (now incoming) mail ⌝ }
+    ensures { λ r. ⌜ r ≡ sel blocks (neq (f .i) k)
+        (F.uTold (letter (now (incoming .entry)) mail) k t) ⌝ }
 {
+    let i = f.i;
     if k == i {
         return Block::zero();
     }
-    let m = rounds::letter(incoming, starts, lens, k);
+    let m = rounds::letter(incoming, mail, k);
     block::load(m, 8 + t * 17 + 1)
 }
 
 // The sum of the others' u.
-fn u_sum(
-    incoming: &[u8],
-    starts: &[usize],
-    lens: &[usize],
-    n: usize,
-    i: usize,
-    l: usize,
-    t: usize,
-) -> Block
-    requires { ⌜ t < Plan.leaky l ⌝ }
-    requires { ⌜ Mail.Arrived n i (8 + Plan.leaky l * 17) (now incoming) (now starts) (now lens) ⌝ }
-    ensures { λ r. ⌜ r ≡ others blocks i n
-        (λ k. F.uTold (Mail.letter (now (incoming .entry)) (now (starts .entry)) (now (lens .entry))) k t) ⌝ }
+fn u_sum(incoming: &[u8], mail: Mail, f: Frame, t: usize) -> Block
+    requires { ⌜ t < Plan.leaky (f .l) ⌝ }
+    requires { ⌜ Arrived f (8 + Plan.leaky (f .l) * 17) (now incoming) mail ⌝ }
+    ensures { λ r. ⌜ r ≡ others blocks (f .i) (f .n)
+        (λ k. F.uTold (letter (now (incoming .entry)) mail) k t) ⌝ }
 {
+    let n = f.n;
     let mut sum = Block::zero();
     let mut k = 0;
     while k < n {
-        sum = sum.xor(u_told(incoming, starts, lens, n, i, l, k, t));
+        sum = sum.xor(u_told(incoming, mail, f, k, t));
         k += 1;
     }
     sum
 }
 
 // The sums of G over the x keys and over the x MACs.
-fn hashes(recs: &[u8], rows: &[u8], zs: &[u8], n: usize, i: usize, l: usize, t: usize) -> Block
-    requires { ⌜ (Kept n i l (now recs) (now rows) (now zs)) × (t < Plan.leaky l) ⌝ }
-    ensures { λ r. ⌜ r ≡ hashesAt (frame n l i) (now (rows .entry)) (now (zs .entry)) t ⌝ }
+fn hashes(recs: &[u8], rows: &[u8], zs: &[u8], f: Frame, t: usize) -> Block
+    requires { ⌜ (Kept f (now recs) (now rows) (now zs)) × (t < Plan.leaky (f .l)) ⌝ }
+    ensures { λ r. ⌜ r ≡ hashesAt f (now (rows .entry)) (now (zs .entry)) t ⌝ }
 {
-    let key_hash = block::load(rows, t * haand::leaky_len(n) + 16);
-    key_hash.xor(block::load(zs, t * 17 + 1))
+    let key_hash = block::load(rows, area::leaky_at(f, t) + 16);
+    key_hash.xor(block::load(zs, t * Z_LEN + 1))
 }
 
 // The received u and phi where x is 1, and delta where z is 1. u and phi are added first and multiplied by x once, behind the loop: in the
@@ -308,154 +250,138 @@ fn masked(
     x: bool,
     delta: Delta,
     incoming: &[u8],
-    starts: &[usize],
-    lens: &[usize],
-    n: usize,
-    i: usize,
-    l: usize,
+    mail: Mail,
+    f: Frame,
     t: usize,
 ) -> Block
-    requires { ⌜ (n ≤ 8) × ((t < Plan.leaky l) × (length (now rows) ≡ Plan.leaky l * leakyLen n)
-        × (length (now zs) ≡ Plan.leaky l * 17)) ⌝ }
-    requires { ⌜ Mail.Arrived n i (8 + Plan.leaky l * 17) (now incoming) (now starts) (now lens) ⌝ }
-    ensures { λ r. ⌜ r ≡ maskedAt (frame n l i) (delta .0) x (now (rows .entry)) (now (zs .entry))
-        (Mail.letter (now (incoming .entry)) (now (starts .entry)) (now (lens .entry))) t ⌝ }
+    requires { ⌜ (InRange (f .n) (f .l)) × (t < Plan.leaky (f .l)) × (length (now rows) ≡ Plan.leaky (f .l) * leakyLen (f .n))
+        × (length (now zs) ≡ Plan.leaky (f .l) * 17) ⌝ }
+    requires { ⌜ Arrived f (8 + Plan.leaky (f .l) * 17) (now incoming) mail ⌝ }
+    ensures { λ r. ⌜ r ≡ maskedAt f (delta .0) x (now (rows .entry)) (now (zs .entry))
+        (letter (now (incoming .entry)) mail) t ⌝ }
 {
-    let us = u_sum(incoming, starts, lens, n, i, l, t);
-    let phi = block::load(rows, t * haand::leaky_len(n));
-    let z = block::bit(zs, t * 17);
+    let us = u_sum(incoming, mail, f, t);
+    let phi = block::load(rows, area::leaky_at(f, t));
+    let z = block::bit(zs, t * Z_LEN);
     us.xor(phi).const_mul(x).xor(delta.times(z).0)
 }
 
 // h at position t.
-pub fn h(
+fn h(
     recs: &[u8],
     rows: &[u8],
     zs: &[u8],
     delta: Delta,
     incoming: &[u8],
-    starts: &[usize],
-    lens: &[usize],
-    n: usize,
-    i: usize,
-    l: usize,
+    mail: Mail,
+    f: Frame,
     t: usize,
 ) -> Block
-    requires { ⌜ (Kept n i l (now recs) (now rows) (now zs)) × (t < Plan.leaky l) ⌝ }
-    requires { ⌜ Mail.Arrived n i (8 + Plan.leaky l * 17) (now incoming) (now starts) (now lens) ⌝ }
-    ensures { λ r. ⌜ r ≡ F.h (frame n l i) (delta .0) (now (recs .entry)) (now (rows .entry)) (now (zs .entry))
-        (Mail.letter (now (incoming .entry)) (now (starts .entry)) (now (lens .entry))) t ⌝ }
+    requires { ⌜ (Kept f (now recs) (now rows) (now zs)) × (t < Plan.leaky (f .l)) ⌝ }
+    requires { ⌜ Arrived f (8 + Plan.leaky (f .l) * 17) (now incoming) mail ⌝ }
+    ensures { λ r. ⌜ r ≡ F.h f (delta .0) (now (recs .entry)) (now (rows .entry)) (now (zs .entry))
+        (letter (now (incoming .entry)) mail) t ⌝ }
 {
-    let x = share::bit_at(recs, haand::x_at(n, t));
-    let told = z_terms(
-        recs,
-        r_at(n, l, t),
-        delta,
-        incoming,
-        starts,
-        lens,
-        n,
-        i,
-        l,
-        t,
-    );
-    told.xor(hashes(recs, rows, zs, n, i, l, t)).xor(masked(
-        rows,
-        zs,
-        x,
-        delta,
-        incoming,
-        starts,
-        lens,
-        n,
-        i,
-        l,
-        t,
-    ))
+    let x = share::bit_at(recs, area::x_at(f, t));
+    let told = z_terms(recs, area::r_at(f, t), delta, incoming, mail, f, t);
+    told.xor(hashes(recs, rows, zs, f, t))
+        .xor(masked(rows, zs, x, delta, incoming, mail, f, t))
 }
 
-// The same from the sections of the work area, which start at `recs`, `rows` and `zs`.
+// The same from the sections of the work area.
 fn h_at(
     work: &[u8],
-    recs: usize,
-    rows: usize,
-    zs: usize,
+    recs: Span,
+    rows: Span,
+    zs: Span,
     delta: Delta,
     incoming: &[u8],
-    starts: &[usize],
-    lens: &[usize],
-    n: usize,
-    i: usize,
-    l: usize,
+    mail: Mail,
+    f: Frame,
     t: usize,
 ) -> Block
-    requires { ⌜ (Work n i l (now work)) × (t < Plan.leaky l) ⌝ }
-    requires { ⌜ (Starts n i l BITS recs) × ((Starts n i l LEAKY rows) × (Starts n i l ZS zs)) ⌝ }
-    requires { ⌜ Mail.Arrived n i (8 + Plan.leaky l * 17) (now incoming) (now starts) (now lens) ⌝ }
-    ensures { λ r. ⌜ r ≡ F.h (frame n l i) (delta .0) (at (frame n l i) BITS (now (work .entry)))
-        (at (frame n l i) LEAKY (now (work .entry))) (at (frame n l i) ZS (now (work .entry)))
-        (Mail.letter (now (incoming .entry)) (now (starts .entry)) (now (lens .entry))) t ⌝ }
+    requires { ⌜ (Work f (now work)) × (t < Plan.leaky (f .l)) ⌝ }
+    requires { ⌜ (Place f BITS (recs .0) (recs .1)) × (Place f LEAKY (rows .0) (rows .1)) × (Place f ZS (zs .0) (zs .1)) ⌝ }
+    requires { ⌜ Arrived f (8 + Plan.leaky (f .l) * 17) (now incoming) mail ⌝ }
+    ensures { λ r. ⌜ r ≡ F.h f (delta .0) (at f BITS (now (work .entry))) (at f LEAKY (now (work .entry))) (at f ZS (now (work .entry)))
+        (letter (now (incoming .entry)) mail) t ⌝ }
 {
-    let recs_end = recs + plan::bits_len(n, l);
-    let rows_end = rows + plan::leaky(l) * haand::leaky_len(n);
-    let zs_end = zs + plan::leaky(l) * 17;
+    let a = recs.0;
+    let e = recs.1;
+    let b = rows.0;
+    let g = rows.1;
+    let c = zs.0;
+    let z = zs.1;
     h(
-        &work[recs..recs_end],
-        &work[rows..rows_end],
-        &work[zs..zs_end],
+        &work[a..e],
+        &work[b..g],
+        &work[c..z],
         delta,
         incoming,
-        starts,
-        lens,
-        n,
-        i,
-        l,
+        mail,
+        f,
         t,
     )
 }
 
-// Keeps h of every position in HS, which starts at `hs`.
-pub fn keep_hs(
-    work: &mut [u8],
-    recs: usize,
-    rows: usize,
-    zs: usize,
-    hs: usize,
-    delta: Delta,
-    incoming: &[u8],
-    starts: &[usize],
-    lens: &[usize],
-    n: usize,
-    i: usize,
-    l: usize,
-)
-    requires { ⌜ (Work n i l (now work)) × (Starts n i l HS hs) ⌝ }
-    requires { ⌜ (Starts n i l BITS recs) × ((Starts n i l LEAKY rows) × (Starts n i l ZS zs)) ⌝ }
-    requires { ⌜ Mail.Arrived n i (8 + Plan.leaky l * 17) (now incoming) (now starts) (now lens) ⌝ }
-    ensures { λ _. ⌜ now (work .exit) ≡ keep (frame n l i) HS (F.hs (frame n l i) (delta .0) (at (frame n l i) BITS (now (work .entry)))
-        (at (frame n l i) LEAKY (now (work .entry))) (at (frame n l i) ZS (now (work .entry)))
-        (Mail.letter (now (incoming .entry)) (now (starts .entry)) (now (lens .entry)))) (now (work .entry)) ⌝ }
+// Keeps h of every position in HS.
+fn keep_hs(work: &mut [u8], incoming: &[u8], mail: Mail, f: Frame)
+    requires { ⌜ Work f (now work) ⌝ }
+    requires { ⌜ Arrived f (8 + Plan.leaky (f .l) * 17) (now incoming) mail ⌝ }
+    ensures { λ _. ⌜ now (work .exit) ≡ keep f HS (F.hs f (Table.delta f (now (work .entry))) (at f BITS (now (work .entry)))
+        (at f LEAKY (now (work .entry))) (at f ZS (now (work .entry))) (letter (now (incoming .entry)) mail)) (now (work .entry)) ⌝ }
 {
-    let count = plan::leaky(l);
+    let delta = area::delta(work, f);
+    let recs = area::place(f, area::BITS);
+    let rows = area::place(f, area::LEAKY);
+    let zs = area::place(f, area::ZS);
+    let hs = area::section_at(f, area::HS);
+    let count = plan::leaky(f.l);
     let mut t = 0;
     while t < count {
-        let b = h_at(
-            work,
-            recs,
-            rows,
-            zs,
-            delta,
-            incoming,
-            starts,
-            lens,
-            n,
-            i,
-            l,
-            t,
-        );
+        let b = h_at(work, recs, rows, zs, delta, incoming, mail, f, t);
         let a = hs + t * 16;
         let e = a + 16;
         block::store(&mut work[a..e], b);
         t += 1;
     }
+}
+
+// ---- the round
+
+// The bits e of all others, into ES.
+fn hold_es(work: &mut [u8], incoming: &[u8], mail: Mail, f: Frame)
+    requires { ⌜ Work f (now work) ⌝ }
+    requires { ⌜ Arrived f (8 + Plan.leaky (f .l) * 17) (now incoming) mail ⌝ }
+    ensures { λ _. ⌜ now (work .exit) ≡ keep f ES (F.eRows f (letter (now (incoming .entry)) mail)) (now (work .entry)) ⌝ }
+{
+    let p = area::place(f, area::ES);
+    let a = p.0;
+    let e = p.1;
+    keep_es(&mut work[a..e], incoming, mail, f);
+}
+
+// What is received: the bits e, and own h. Neither is made from the other's section.
+pub fn keep(work: &mut [u8], incoming: &[u8], mail: Mail, f: Frame)
+    requires { ⌜ Work f (now work) ⌝ }
+    requires { ⌜ Arrived f (8 + Plan.leaky (f .l) * 17) (now incoming) mail ⌝ }
+    ensures { λ _. ⌜ now (work .exit) ≡ keep f HS (F.hs f (Table.delta f (now (work .entry))) (at f BITS (now (work .entry)))
+        (at f LEAKY (now (work .entry))) (at f ZS (now (work .entry))) (letter (now (incoming .entry)) mail))
+        (keep f ES (F.eRows f (letter (now (incoming .entry)) mail)) (now (work .entry))) ⌝ }
+{
+    hold_es(work, incoming, mail, f);
+    keep_hs(work, incoming, mail, f);
+}
+
+// The messages.
+pub fn write(out: &mut [u8], work: &[u8], f: Frame)
+    requires { ⌜ Work f (now work) ⌝ }
+    requires { ⌜ length (now out) ≡ (f .n - 1) * msgLen (f .n) (f .l) 15 ⌝ }
+    ensures { λ _. ⌜ now (out .exit) ≡ toOthers (f .n) (f .i)
+        (F.flaandMsg f (at f BITS (now (work .entry))) (at f LEAKY (now (work .entry))) (at f ZS (now (work .entry)))) ⌝ }
+{
+    let recs = area::section(work, f, area::BITS);
+    let rows = area::section(work, f, area::LEAKY);
+    let zs = area::section(work, f, area::ZS);
+    write_all(out, recs, rows, zs, f);
 }

@@ -2,30 +2,30 @@
 // round 15 and sent, the others' are kept. The definitions are those of crate rounds, specs/Flaand.antt. h is secret: it decides no
 // branch and no index.
 ghost use mathlib.Core.Path.{_≡_};
-ghost use mathlib.Core.List.{_++_};
 ghost use Prim.Native.Nat.{_+_, _-_, _*_, _<_};
 ghost use lib.ListN.{length, take, drop};
-ghost use Rattle.block.specs.Block.{le8};
-ghost use Rattle.plan.specs.Plan as Plan;
-ghost use Rattle.engine.specs.Step.{frame};
+ghost use Rattle.plan.specs.Plan.{leaky, msgLen};
 ghost use Rattle.engine.specs.Area.{toOthers};
 ghost use Rattle.rounds.specs.Area.{HS, H-COMMS, at, keep};
 ghost use Rattle.rounds.specs.Loops.{rowOf};
-ghost use Rattle.rounds.specs.Mail as Mail;
+ghost use Rattle.rounds.specs.Mail.{letter, Arrived};
 ghost use Rattle.rounds.specs.Flaand as F;
-ghost use Rattle.haand.specs.Given.{Ranges, Work, Starts};
+ghost use Rattle.area.specs.Given.{Work};
+ghost use Rattle.flaand_comm.specs.Given.{CommsKept};
 use blake3_lanes::LANES;
+use engine::Frame;
+use rounds::Mail;
 
-// Each h is hashed once, a window of them at a time. The commitments stand in the own row of H-COMMS, which starts at `comms`; HS starts
-// at `hs`.
-pub fn hold_h_comms(work: &mut [u8], hs: usize, comms: usize, n: usize, i: usize, l: usize)
-    requires { ⌜ Work n i l (now work) ⌝ }
-    requires { ⌜ (Starts n i l HS hs) × (Starts n i l H-COMMS comms) ⌝ }
-    ensures { λ _. ⌜ now (work .exit) ≡ keep (frame n l i) H-COMMS
-        (F.ownComms (frame n l i) (at (frame n l i) HS (now (work .entry))) (at (frame n l i) H-COMMS (now (work .entry))))
+// The own commitments: each h is hashed once, a window of them at a time. They stand in the own row of H-COMMS.
+pub fn hold(work: &mut [u8], f: Frame)
+    requires { ⌜ Work f (now work) ⌝ }
+    ensures { λ _. ⌜ now (work .exit) ≡ keep f H-COMMS (F.ownComms f (at f HS (now (work .entry))) (at f H-COMMS (now (work .entry))))
         (now (work .entry)) ⌝ }
 {
-    let count = plan::leaky(l);
+    let i = f.i;
+    let hs = area::section_at(f, area::HS);
+    let comms = area::section_at(f, area::H_COMMS);
+    let count = plan::leaky(f.l);
     let row = comms + i * (count * 32);
     let mut blocks = [0u8; LANES * 16];
     let mut t = 0;
@@ -42,60 +42,53 @@ pub fn hold_h_comms(work: &mut [u8], hs: usize, comms: usize, n: usize, i: usize
     }
 }
 
-// The same message to all others: the commitments in the own row `comms`.
-pub fn write_h_comms(out: &mut [u8], comms: &[u8], n: usize, i: usize, l: usize)
-    requires { ⌜ length (now out) ≡ (n - 1) * (8 + Plan.leaky l * 32) ⌝ }
-    requires { ⌜ (Ranges n i l) × (length (now comms) ≡ Plan.leaky l * 32) ⌝ }
-    ensures { λ _. ⌜ now (out .exit) ≡ toOthers n i (λ k. le8 (Plan.leaky l) ++ now (comms .entry)) ⌝ }
+// The same message to all others, from the own row that `hold` kept.
+pub fn write(out: &mut [u8], work: &[u8], f: Frame)
+    requires { ⌜ Work f (now work) ⌝ }
+    requires { ⌜ length (now out) ≡ (f .n - 1) * msgLen (f .n) (f .l) 17 ⌝ }
+    requires { ⌜ CommsKept f (now work) ⌝ }
+    ensures { λ _. ⌜ now (out .exit) ≡ toOthers (f .n) (f .i) (λ _. F.commMsg f (at f HS (now (work .entry)))) ⌝ }
 {
-    rounds::write_same(out, plan::leaky(l), comms, n);
+    let n = f.n;
+    let i = f.i;
+    let rows = area::section(work, f, area::H_COMMS);
+    let count = plan::leaky(f.l);
+    let len = count * 32;
+    let a = i * len;
+    let e = a + len;
+    rounds::write_same(out, count, &rows[a..e], n);
 }
 
 // What party k told behind the count, as many bytes as the row has; zero for the own number.
-fn keep_row(
-    row: &mut [u8],
-    incoming: &[u8],
-    starts: &[usize],
-    lens: &[usize],
-    n: usize,
-    i: usize,
-    k: usize,
-)
-    requires { ⌜ k < n ⌝ }
-    requires { ⌜ Mail.Arrived n i (8 + length (now row)) (now incoming) (now starts) (now lens) ⌝ }
-    ensures { λ _. ⌜ now (row .exit) ≡ rowOf i (length (now (row .entry)))
-        (λ k. take (length (now (row .entry)))
-        (drop 8 (Mail.letter (now (incoming .entry)) (now (starts .entry)) (now (lens .entry)) k))) k ⌝ }
+fn keep_row(row: &mut [u8], incoming: &[u8], mail: Mail, f: Frame, k: usize)
+    requires { ⌜ k < f .n ⌝ }
+    requires { ⌜ Arrived f (8 + length (now row)) (now incoming) mail ⌝ }
+    ensures { λ _. ⌜ now (row .exit) ≡ rowOf (f .i) (length (now (row .entry)))
+        (λ k. take (length (now (row .entry))) (drop 8 (letter (now (incoming .entry)) mail k))) k ⌝ }
 {
+    let i = f.i;
     if i == k {
         fill::clear(row);
         return;
     }
-    let m = rounds::letter(incoming, starts, lens, k);
+    let m = rounds::letter(incoming, mail, k);
     fill::copy(row, &m[8..]);
 }
 
 // The commitments of all others.
-pub fn keep_h_comms(
-    section: &mut [u8],
-    incoming: &[u8],
-    starts: &[usize],
-    lens: &[usize],
-    n: usize,
-    i: usize,
-    l: usize,
-)
-    requires { ⌜ (Ranges n i l) × (length (now section) ≡ n * (Plan.leaky l * 32)) ⌝ }
-    requires { ⌜ Mail.Arrived n i (8 + Plan.leaky l * 32) (now incoming) (now starts) (now lens) ⌝ }
-    ensures { λ _. ⌜ now (section .exit) ≡ F.commRows (frame n l i)
-        (Mail.letter (now (incoming .entry)) (now (starts .entry)) (now (lens .entry))) ⌝ }
+pub fn keep(work: &mut [u8], incoming: &[u8], mail: Mail, f: Frame)
+    requires { ⌜ Work f (now work) ⌝ }
+    requires { ⌜ Arrived f (8 + leaky (f .l) * 32) (now incoming) mail ⌝ }
+    ensures { λ _. ⌜ now (work .exit) ≡ keep f H-COMMS (F.commRows f (letter (now (incoming .entry)) mail)) (now (work .entry)) ⌝ }
 {
-    let len = plan::leaky(l) * 32;
+    let n = f.n;
+    let rows = area::section_at(f, area::H_COMMS);
+    let len = plan::leaky(f.l) * 32;
     let mut k = 0;
     while k < n {
-        let a = k * len;
+        let a = rows + k * len;
         let e = a + len;
-        keep_row(&mut section[a..e], incoming, starts, lens, n, i, k);
+        keep_row(&mut work[a..e], incoming, mail, f, k);
         k += 1;
     }
 }

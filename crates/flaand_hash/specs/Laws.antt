@@ -1,19 +1,18 @@
 -- Round 19: the checks of h, item by item and window by window.
 use mathlib.Core.Path.{_≡_, refl, sym, ap, ap₂, _∙_, subst}
 use mathlib.Core.Logic.{_≢_}
-use mathlib.Core.Bool.{Bool, true, false, _&&_}
-use mathlib.Core.List.{List, [], _∷_, _++_}
-use Prim.Native.Nat.{ℕ, zero, suc, _+_, _*_, _/_, _%_, _<_, _≤_}
-use native.Mathlib.Nat.{add-zero, zero-mul, suc-mul, mul-assoc}
+use mathlib.Core.Bool.{Bool, _&&_}
+use mathlib.Core.List.{List}
+use Prim.Native.Nat.{ℕ, _+_, _*_, _/_, _%_, _≤_}
+use native.Mathlib.Nat.{mul-assoc}
 use native.Mathlib.Omega.{arith}
-use lib.Dec.{eqb}
 use lib.ListN.{length, take, drop, length-drop}
 use lib.Seq.{take-add, drop-drop, length-take-le}
 use Rattle.lists.specs.Pick.{pick}
-use Rattle.lists.specs.All.{allOf, all-turn, all-ext}
-use Rattle.lists.specs.Over.{cat, length-cat}
+use Rattle.lists.specs.All.{all-add, allOf, all-ext}
+use Rattle.lists.specs.Over.{cat}
 use Rattle.lists.specs.Rows.{chunk}
-use Rattle.lists.specs.Same.{same?}
+use Rattle.lists.specs.Same.{same?, same-append, same-cat}
 use Rattle.lists.specs.Bytes.{Bytes}
 use Rattle.algebra.specs.Group.{XorGroup}
 use Rattle.algebra.specs.Sum.{others}
@@ -28,7 +27,7 @@ use Rattle.engine.specs.declared.Frame.{Frame}
 use Rattle.engine.specs.Step.{byParty}
 use Rattle.engine.specs.StepLaws.{or-none, or-first}
 use Rattle.rounds.specs.EchoLaws.{same-block}
-use Rattle.rounds.specs.FashareLaws.{length-hash}
+use Rattle.blake3.specs.ByteLaws.{length-hash}
 use Rattle.rounds.specs.FaultLaws.{Finds}
 use Rattle.rounds.specs.Flaand.{hTold, opening, zeroSum, hFaults}
 
@@ -53,10 +52,6 @@ unfoldable pub summed : Frame → List ℕ → (ℕ → List ℕ) → Bool
 summed f own m =
     allOf (leaky (f .l)) (λ t. eqBlock (blocks .op (blockAt own (t * 16)) (others blocks (f .i) (f .n) (λ k. hTold m k t))) (blocks .nil))
 
--- one more position
-pub all-more : (f : ℕ → Bool) (t : ℕ) (ok b : Bool) → ok ≡ allOf t f → b ≡ f t → (ok && b) ≡ allOf (t + 1) f
-all-more f t ok b h e = ap₂ _&&_ h e ∙ sym (all-turn t f)
-
 -- the answer is the first of the two
 module _ (f : Frame) (own comms : List ℕ) (m : ℕ → List ℕ) (code party : ℕ) (e : Finds code party (opening f comms m)) where
   pub faults-open : code ≢ 0 → Finds code party (hFaults f own comms m)
@@ -71,45 +66,7 @@ module _ (f : Frame) (own comms : List ℕ) (m : ℕ → List ℕ) (code party :
       let w : zeroSum f own m ≡ hFaults f own comms m = sym (or-none (opening f comms m) (zeroSum f own m) (sym (e .code-is) ∙ z)) in
       subst (Finds x (f .i)) w (record { code-is = h; party-is = λ q. refl })
 
--- ---- lists that are compared part by part
-and-assoc : (a b c : Bool) → (a && b && c) ≡ (a && (b && c))
-and-assoc true b c = refl
-and-assoc false b c = refl
-
-and-true : (a : Bool) → a ≡ (a && true)
-and-true true = refl
-and-true false = refl
-
-same-append : (a b x y : List ℕ) → length a ≡ length b → same? (a ++ x) (b ++ y) ≡ (same? a b && same? x y)
-unfolding same?
-same-append [] [] x y h = refl
-same-append [] (b ∷ m) x y h = absurd (omega arith)
-same-append (a ∷ l) [] x y h = absurd (omega arith)
-same-append (a ∷ l) (b ∷ m) x y h =
-    ap (λ (t : Bool). eqb a b && t) (same-append l m x y (omega arith)) ∙ sym (and-assoc (eqb a b) (same? l m) (same? x y))
-
--- chunks of m
-same-cat : (n m : ℕ) (g : ℕ → List ℕ) (y : List ℕ) → ((j : ℕ) → j < n → length (g j) ≡ m) → n * m ≤ length y
-    → same? (cat n g) (take (n * m) y) ≡ allOf n (λ q. same? (g q) (take m (drop (q * m) y)))
-unfolding cat allOf same?
-same-cat zero m g y h w = ap (λ j. same? [] (take j y)) (zero-mul m)
-same-cat (suc n) m g y h w =
-    let k : suc n * m ≡ n * m + m = suc-mul n m in
-    let long : length (cat n g) ≡ length (take (n * m) y) =
-    length-cat n m g (λ j l. h j (omega arith)) ∙ sym (length-take-le (n * m) y (omega arith)) in
-    ap (same? (cat n g ++ g n)) (ap (λ j. take j y) k ∙ take-add (n * m) m y)
-    ∙ same-append (cat n g) (take (n * m) y) (g n) (take m (drop (n * m) y)) long
-    ∙ ap (λ (t : Bool). t && same? (g n) (take m (drop (n * m) y))) (same-cat n m g y (λ j l. h j (omega arith)) (omega arith))
-
--- tests of t, then of c more
-all-add : (f : ℕ → Bool) (t c : ℕ) → allOf (t + c) f ≡ (allOf t f && allOf c (λ q. f (t + q)))
-unfolding allOf
-all-add f t zero = ap (λ j. allOf j f) (add-zero t) ∙ and-true (allOf t f)
-all-add f t (suc c) =
-    ap (λ j. allOf j f) (let e : t + suc c ≡ suc (t + c) = omega arith in e)
-    ∙ ap (λ (b : Bool). b && f (t + c)) (all-add f t c)
-    ∙ and-assoc (allOf t f) (allOf c (λ q. f (t + q))) (f (t + c))
-
+-- ---- windows
 -- one Block more
 pub same-more : (a b : List ℕ) (at : ℕ) (ok e : Bool) → Bytes a → Bytes b → at % 16 ≡ 0 → at + 16 ≤ length a → at + 16 ≤ length b
     → ok ≡ same? (take at a) (take at b) → e ≡ eqBlock (blockAt a at) (blockAt b at)

@@ -5,30 +5,33 @@ ghost use Prim.Native.Nat.{_+_, _-_, _*_, _%_, _<_, _≤_};
 ghost use lib.ListN.{length};
 ghost use Rattle.lists.specs.Over.{cat};
 ghost use Rattle.lists.specs.Same.{same?};
-ghost use Rattle.algebra.specs.Group.{XorGroup, sel};
+ghost use Rattle.algebra.specs.Group.{sel};
 ghost use Rattle.algebra.specs.Sum.{neq, others};
 ghost use Rattle.block.specs.Group.{blocks};
 ghost use Rattle.blake3_lanes.specs.Lanes.{LANES, hashAt};
-ghost use Rattle.plan.specs.Plan as Plan;
-ghost use Rattle.engine.specs.Step.{frame};
+ghost use Rattle.plan.specs.Plan.{InRange, leaky, msgLen};
 ghost use Rattle.engine.specs.Area.{toOthers};
-ghost use Rattle.rounds.specs.Mail as Mail;
+ghost use Rattle.rounds.specs.Area.{HS, H-COMMS, at};
+ghost use Rattle.rounds.specs.Mail.{letter, Arrived};
 ghost use Rattle.rounds.specs.Flaand as F;
 ghost use Rattle.rounds.specs.FaultLaws.{Finds, faultAt};
-ghost use Rattle.haand.specs.Given.{Ranges};
-ghost use Rattle.flaand_hash.specs.Given.{Hashes};
+ghost use Rattle.area.specs.Given.{Work};
 ghost use Rattle.flaand_hash.specs.Laws.{opens, openFault, summed};
 use blake3_lanes::LANES;
 use block::Block;
+use engine::Frame;
 use rounds::Fault;
+use rounds::Mail;
 
 // The same message to all others, from HS.
-pub fn write_hs(out: &mut [u8], hs: &[u8], n: usize, i: usize, l: usize)
-    requires { ⌜ length (now out) ≡ (n - 1) * (8 + Plan.leaky l * 16) ⌝ }
-    requires { ⌜ Hashes n i l (now hs) ⌝ }
-    ensures { λ _. ⌜ now (out .exit) ≡ toOthers n i (λ k. F.hashMsg (frame n l i) (now (hs .entry))) ⌝ }
+pub fn write(out: &mut [u8], work: &[u8], f: Frame)
+    requires { ⌜ Work f (now work) ⌝ }
+    requires { ⌜ length (now out) ≡ (f .n - 1) * msgLen (f .n) (f .l) 19 ⌝ }
+    ensures { λ _. ⌜ now (out .exit) ≡ toOthers (f .n) (f .i) (λ _. F.hashMsg f (at f HS (now (work .entry)))) ⌝ }
 {
-    rounds::write_same(out, plan::leaky(l), hs, n);
+    let n = f.n;
+    let hs = area::section(work, f, area::HS);
+    rounds::write_same(out, plan::leaky(f.l), hs, n);
 }
 
 // Whether a and b are the same, Block by Block. All are compared.
@@ -57,12 +60,12 @@ fn window_opens(hs: &[u8], comms: &[u8], count: usize) -> bool
 }
 
 // Whether each h in the message m of party k opens its commitment.
-fn opens(m: &[u8], comms: &[u8], n: usize, l: usize, k: usize) -> bool
-    requires { ⌜ (l ≤ 300000) × ((n ≤ 8) × (k < n)) ⌝ }
-    requires { ⌜ (8 + Plan.leaky l * 16 ≤ length (now m)) × (length (now comms) ≡ n * (Plan.leaky l * 32)) ⌝ }
-    ensures { λ r. ⌜ r ≡ opens l (now (comms .entry)) k (now (m .entry)) ⌝ }
+fn opens(m: &[u8], comms: &[u8], f: Frame, k: usize) -> bool
+    requires { ⌜ (InRange (f .n) (f .l)) × (k < f .n) ⌝ }
+    requires { ⌜ (8 + leaky (f .l) * 16 ≤ length (now m)) × (length (now comms) ≡ f .n * (leaky (f .l) * 32)) ⌝ }
+    ensures { λ r. ⌜ r ≡ opens (f .l) (now (comms .entry)) k (now (m .entry)) ⌝ }
 {
-    let count = plan::leaky(l);
+    let count = plan::leaky(f.l);
     let row = k * (count * 32);
     let mut ok = true;
     let mut t = 0;
@@ -79,46 +82,29 @@ fn opens(m: &[u8], comms: &[u8], n: usize, l: usize, k: usize) -> bool
 }
 
 // 2 if an h of party k doesn't open its commitment; none of the own number.
-fn open_fault(
-    comms: &[u8],
-    incoming: &[u8],
-    starts: &[usize],
-    lens: &[usize],
-    n: usize,
-    i: usize,
-    l: usize,
-    k: usize,
-) -> u8
-    requires { ⌜ (Ranges n i l) × ((k < n) × (length (now comms) ≡ n * (Plan.leaky l * 32))) ⌝ }
-    requires { ⌜ Mail.Arrived n i (8 + Plan.leaky l * 16) (now incoming) (now starts) (now lens) ⌝ }
-    ensures { λ r. ⌜ r ≡ faultAt i
-        (openFault l (now (comms .entry)) (Mail.letter (now (incoming .entry)) (now (starts .entry)) (now (lens .entry)))) k ⌝ }
+fn open_fault(comms: &[u8], incoming: &[u8], mail: Mail, f: Frame, k: usize) -> u8
+    requires { ⌜ (InRange (f .n) (f .l)) × (k < f .n) × (length (now comms) ≡ f .n * (leaky (f .l) * 32)) ⌝ }
+    requires { ⌜ Arrived f (8 + leaky (f .l) * 16) (now incoming) mail ⌝ }
+    ensures { λ r. ⌜ r ≡ faultAt (f .i) (openFault (f .l) (now (comms .entry)) (letter (now (incoming .entry)) mail)) k ⌝ }
 {
+    let i = f.i;
     if k == i {
         return 0;
     }
-    let m = rounds::letter(incoming, starts, lens, k);
-    if opens(m, comms, n, l, k) { 0 } else { 2 }
+    let m = rounds::letter(incoming, mail, k);
+    if opens(m, comms, f, k) { 0 } else { 2 }
 }
 
 // The first party of which an h doesn't open its commitment.
-fn open(
-    comms: &[u8],
-    incoming: &[u8],
-    starts: &[usize],
-    lens: &[usize],
-    n: usize,
-    i: usize,
-    l: usize,
-) -> Fault
-    requires { ⌜ (Ranges n i l) × (length (now comms) ≡ n * (Plan.leaky l * 32)) ⌝ }
-    requires { ⌜ Mail.Arrived n i (8 + Plan.leaky l * 16) (now incoming) (now starts) (now lens) ⌝ }
-    ensures { λ r. ⌜ Finds (r .code) (r .party) (F.opening (frame n l i) (now (comms .entry))
-        (Mail.letter (now (incoming .entry)) (now (starts .entry)) (now (lens .entry)))) ⌝ }
+fn open(comms: &[u8], incoming: &[u8], mail: Mail, f: Frame) -> Fault
+    requires { ⌜ (InRange (f .n) (f .l)) × (length (now comms) ≡ f .n * (leaky (f .l) * 32)) ⌝ }
+    requires { ⌜ Arrived f (8 + leaky (f .l) * 16) (now incoming) mail ⌝ }
+    ensures { λ r. ⌜ Finds (r .code) (r .party) (F.opening f (now (comms .entry)) (letter (now (incoming .entry)) mail)) ⌝ }
 {
+    let n = f.n;
     let mut k = 0;
     while k < n {
-        let code = open_fault(comms, incoming, starts, lens, n, i, l, k);
+        let code = open_fault(comms, incoming, mail, f, k);
         if code != 0 {
             return Fault {
                 code: code,
@@ -131,72 +117,46 @@ fn open(
 }
 
 // The h of party k at position t; zero for the own number.
-fn h_told(
-    incoming: &[u8],
-    starts: &[usize],
-    lens: &[usize],
-    n: usize,
-    i: usize,
-    l: usize,
-    k: usize,
-    t: usize,
-) -> Block
-    requires { ⌜ (k < n) × (t < Plan.leaky l) ⌝ }
-    requires { ⌜ Mail.Arrived n i (8 + Plan.leaky l * 16) (now incoming) (now starts) (now lens) ⌝ }
-    ensures { λ r. ⌜ r ≡ sel blocks (neq i k)
-        (F.hTold (Mail.letter (now (incoming .entry)) (now (starts .entry)) (now (lens .entry))) k t) ⌝ }
+fn h_told(incoming: &[u8], mail: Mail, f: Frame, k: usize, t: usize) -> Block
+    requires { ⌜ (k < f .n) × (t < leaky (f .l)) ⌝ }
+    requires { ⌜ Arrived f (8 + leaky (f .l) * 16) (now incoming) mail ⌝ }
+    ensures { λ r. ⌜ r ≡ sel blocks (neq (f .i) k) (F.hTold (letter (now (incoming .entry)) mail) k t) ⌝ }
 {
+    let i = f.i;
     if k == i {
         return Block::zero();
     }
-    let m = rounds::letter(incoming, starts, lens, k);
+    let m = rounds::letter(incoming, mail, k);
     block::load(m, 8 + t * 16)
 }
 
 // The sum of the others' h at position t.
-fn h_sum(
-    incoming: &[u8],
-    starts: &[usize],
-    lens: &[usize],
-    n: usize,
-    i: usize,
-    l: usize,
-    t: usize,
-) -> Block
-    requires { ⌜ t < Plan.leaky l ⌝ }
-    requires { ⌜ Mail.Arrived n i (8 + Plan.leaky l * 16) (now incoming) (now starts) (now lens) ⌝ }
-    ensures { λ r. ⌜ r ≡ others blocks i n
-        (λ k. F.hTold (Mail.letter (now (incoming .entry)) (now (starts .entry)) (now (lens .entry))) k t) ⌝ }
+fn h_sum(incoming: &[u8], mail: Mail, f: Frame, t: usize) -> Block
+    requires { ⌜ t < leaky (f .l) ⌝ }
+    requires { ⌜ Arrived f (8 + leaky (f .l) * 16) (now incoming) mail ⌝ }
+    ensures { λ r. ⌜ r ≡ others blocks (f .i) (f .n) (λ k. F.hTold (letter (now (incoming .entry)) mail) k t) ⌝ }
 {
+    let n = f.n;
     let mut sum = Block::zero();
     let mut k = 0;
     while k < n {
-        sum = sum.xor(h_told(incoming, starts, lens, n, i, l, k, t));
+        sum = sum.xor(h_told(incoming, mail, f, k, t));
         k += 1;
     }
     sum
 }
 
 // Whether all h sum to zero at every position.
-fn zero_sum(
-    hs: &[u8],
-    incoming: &[u8],
-    starts: &[usize],
-    lens: &[usize],
-    n: usize,
-    i: usize,
-    l: usize,
-) -> bool
-    requires { ⌜ Hashes n i l (now hs) ⌝ }
-    requires { ⌜ Mail.Arrived n i (8 + Plan.leaky l * 16) (now incoming) (now starts) (now lens) ⌝ }
-    ensures { λ r. ⌜ r ≡ summed (frame n l i) (now (hs .entry))
-        (Mail.letter (now (incoming .entry)) (now (starts .entry)) (now (lens .entry))) ⌝ }
+fn zero_sum(hs: &[u8], incoming: &[u8], mail: Mail, f: Frame) -> bool
+    requires { ⌜ (f .l ≤ 300000) × (length (now hs) ≡ leaky (f .l) * 16) ⌝ }
+    requires { ⌜ Arrived f (8 + leaky (f .l) * 16) (now incoming) mail ⌝ }
+    ensures { λ r. ⌜ r ≡ summed f (now (hs .entry)) (letter (now (incoming .entry)) mail) ⌝ }
 {
-    let count = plan::leaky(l);
+    let count = plan::leaky(f.l);
     let mut ok = true;
     let mut t = 0;
     while t < count {
-        let sum = block::load(hs, t * 16).xor(h_sum(incoming, starts, lens, n, i, l, t));
+        let sum = block::load(hs, t * 16).xor(h_sum(incoming, mail, f, t));
         ok = ok & sum.equals(Block::zero());
         t += 1;
     }
@@ -204,27 +164,20 @@ fn zero_sum(
 }
 
 // 2 with the first party of which an h doesn't open its commitment, else 10 with the own number where the h don't sum to zero.
-pub fn check_hs(
-    hs: &[u8],
-    comms: &[u8],
-    incoming: &[u8],
-    starts: &[usize],
-    lens: &[usize],
-    n: usize,
-    i: usize,
-    l: usize,
-) -> Fault
-    requires { ⌜ Hashes n i l (now hs) ⌝ }
-    requires { ⌜ length (now comms) ≡ n * (Plan.leaky l * 32) ⌝ }
-    requires { ⌜ Mail.Arrived n i (8 + Plan.leaky l * 16) (now incoming) (now starts) (now lens) ⌝ }
-    ensures { λ r. ⌜ Finds (r .code) (r .party) (F.hFaults (frame n l i) (now (hs .entry)) (now (comms .entry))
-        (Mail.letter (now (incoming .entry)) (now (starts .entry)) (now (lens .entry)))) ⌝ }
+pub fn judge(work: &[u8], incoming: &[u8], mail: Mail, f: Frame) -> Fault
+    requires { ⌜ Work f (now work) ⌝ }
+    requires { ⌜ Arrived f (8 + leaky (f .l) * 16) (now incoming) mail ⌝ }
+    ensures { λ r. ⌜ Finds (r .code) (r .party) (F.hFaults f (at f HS (now (work .entry))) (at f H-COMMS (now (work .entry)))
+        (letter (now (incoming .entry)) mail)) ⌝ }
 {
-    let e = open(comms, incoming, starts, lens, n, i, l);
+    let i = f.i;
+    let hs = area::section(work, f, area::HS);
+    let comms = area::section(work, f, area::H_COMMS);
+    let e = open(comms, incoming, mail, f);
     if e.code != 0 {
         return e;
     }
-    if zero_sum(hs, incoming, starts, lens, n, i, l) {
+    if zero_sum(hs, incoming, mail, f) {
         return Fault { code: 0, party: i };
     }
     Fault { code: 10, party: i }

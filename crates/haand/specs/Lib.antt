@@ -1,4 +1,3 @@
 pub mod Given
-pub mod GivenLaws
 pub mod Parts
 pub mod Sent

@@ -3,16 +3,16 @@ use mathlib.Core.Path.{_≡_, refl, sym, ap, ap₂, _∙_}
 use mathlib.Core.Bool.{Bool, true, false}
 use mathlib.Core.Logic.{_≢_}
 use mathlib.Core.List.{List, [], _∷_, _++_, append-assoc}
-use Prim.Native.Nat.{ℕ, zero, suc, _+_, _-_, _*_, _<_, _≤_}
+use Prim.Native.Nat.{ℕ, _+_, _-_, _*_, _<_, _≤_}
 use lib.ListN.{length, take, drop, replicate, length-append}
 use lib.Seq.{take-at, take-all, drop-at, drop-drop, length-take-le}
 use borrow.Rule.Slice.PartMut.{putMid}
 use native.Mathlib.Nat.{mul-assoc, mul-le-mul-left}
 use native.Mathlib.Omega.{arith}
 use Rattle.lists.specs.Pick.{pick}
-use Rattle.lists.specs.Over.{cat, over-next, over-full}
+use Rattle.lists.specs.Over.{cat, over-next}
 use Rattle.lists.specs.Rows.{cat-ext}
-use Rattle.algebra.specs.Group.{XorGroup, num}
+use Rattle.algebra.specs.Group.{num}
 use Rattle.algebra.specs.Sum.{neq, Same, apart, apart?, others, others-ext}
 use Rattle.block.specs.declared.Block.{Block}
 use Rattle.block.specs.Block.{bytesOf}
@@ -27,12 +27,6 @@ use Rattle.rounds.specs.Haand.{x, G, u, phi, leakyEntry}
 use Rattle.haand_hash.specs.Window.{hashes, gAt, hAt}
 use Rattle.haand_hash.specs.WindowLaws.{g-is, h-is}
 
--- a buffer that is written in two parts
-pub two-parts : (a b : ℕ) (x y x′ y′ l : List ℕ) → length l ≡ a + b → length x ≡ a → x′ ≡ x → y′ ≡ y → putMid a b (putMid 0 a l x′) y′ ≡ x ++ y
-two-parts a b x y x′ y′ l h hx ex ey =
-    over-next x y y′ l (putMid 0 a l x′) a b (a + b) (ap (λ (p : List ℕ). putMid 0 a l p) ex) hx ey refl
-    ∙ over-full (x ++ y) l (a + b) (omega arith)
-
 -- a buffer of which the back is written first, then two parts of a bytes before it
 pub three-parts : (a m : ℕ) (x y z x′ y′ z′ l : List ℕ) → a + a ≤ length l → length x ≡ a → x′ ≡ x → y′ ≡ y → z′ ≡ z
     → putMid a a (putMid 0 a (putMid (a + a) m l z′) x′) y′ ≡ (x ++ (y ++ z)) ++ drop (a + a + m) l
@@ -41,14 +35,10 @@ three-parts a m x y z x′ y′ z′ l h hx ex ey ez =
     let n : length (take (a + a) l) ≡ a + a = length-take-le (a + a) l h in
     ap (λ (r : List ℕ). putMid a a (putMid 0 a (putMid (a + a) m l r) x′) y′) ez
     ∙ over-next x y y′ w (putMid 0 a w x′) a a (a + a) (ap (λ (p : List ℕ). putMid 0 a w p) ex) hx ey refl
-    ∙ ap (λ (r : List ℕ). (x ++ y) ++ r) (drop-at (take (a + a) l) (z ++ drop m (drop (a + a) l)) (a + a) n ∙ ap (λ (r : List ℕ). z ++ r) (drop-drop m (a + a) l))
+    ∙ ap (λ (r : List ℕ). (x ++ y) ++ r) (drop-at (take (a + a) l) (z ++ drop m (drop (a + a) l)) (a + a) n
+    ∙ ap (λ (r : List ℕ). z ++ r) (drop-drop m (a + a) l))
     ∙ append-assoc x y (z ++ drop (a + a + m) l) ∙ ap (λ (r : List ℕ). x ++ r) (sym (append-assoc y z (drop (a + a + m) l)))
     ∙ sym (append-assoc x (y ++ z) (drop (a + a + m) l))
-
-pub drop-replicate : (k m v : ℕ) → drop k (replicate m v) ≡ replicate (m - k) v
-drop-replicate zero m v = ap (λ j. replicate j v) (let e : m ≡ m - 0 = omega arith in e)
-drop-replicate (suc k) zero v = ap (λ j. replicate j v) (let e : 0 ≡ 0 - suc k = omega arith in e)
-drop-replicate (suc k) (suc m) v = drop-replicate k m v ∙ ap (λ j. replicate j v) (let e : m - k ≡ suc m - suc k = omega arith in e)
 
 -- an entry of a row of LEAKY: G and H of a party's x key and of that key plus delta, and phi
 unfoldable pub entryOf : Block → Block → Block → Bool → Bool → List ℕ
@@ -73,8 +63,8 @@ row-ext i m g h k e = go (neq i k) (apart? i k)
 
 -- ---- where they are the hashes of position t
 module _ (f : Frame) (delta : Block) (recs : List ℕ) (t : ℕ) (keys sums : List ℕ) (own : f .i < f .n)
-    (ek : keys ≡ hashes (f .n) (f .i) (keyAt recs (t * recordLen (f .n))))
-    (es : sums ≡ hashes (f .n) (f .i) (λ k. blocks .op (keyAt recs (t * recordLen (f .n)) k) delta)) where
+    (ek : keys ≡ hashes f (keyAt recs (t * recordLen (f .n))))
+    (es : sums ≡ hashes f (λ k. blocks .op (keyAt recs (t * recordLen (f .n)) k) delta)) where
   abbrev key : ℕ → Block
   key = keyAt recs (t * recordLen (f .n))
 
@@ -83,9 +73,9 @@ module _ (f : Frame) (delta : Block) (recs : List ℕ) (t : ℕ) (keys sums : Li
   entry-is k l ne =
       ap₂ (λ (a b : List ℕ). a ++ b)
       (ap₂ (λ (a b : Block). bytesOf (blocks .op (blocks .op a b) (phi f delta recs t)))
-      (g-is (f .n) (f .i) k key keys ek own l ne) (g-is (f .n) (f .i) k (λ k. blocks .op (key k) delta) sums es own l ne))
+      (g-is f k key keys ek own l ne) (g-is f k (λ k. blocks .op (key k) delta) sums es own l ne))
       (ap₂ (λ (a b : Bool). num a ∷ num b ∷ [])
-      (h-is (f .n) (f .i) k key keys ek own l ne) (h-is (f .n) (f .i) k (λ k. blocks .op (key k) delta) sums es own l ne))
+      (h-is f k key keys ek own l ne) (h-is f k (λ k. blocks .op (key k) delta) sums es own l ne))
 
   -- as the rows of LEAKY have them
   pub entries-of : cat (f .n) (rowOf (f .i) 18 (entryAt (f .i) keys sums (phi f delta recs t))) ≡ rows f 18 (leakyEntry f delta recs t)
@@ -93,7 +83,7 @@ module _ (f : Frame) (delta : Block) (recs : List ℕ) (t : ℕ) (keys sums : Li
 
   pub sums-of : others blocks (f .i) (f .n) (gAt (f .i) keys) ≡ others blocks (f .i) (f .n) (λ k. G (x f recs t .key k))
   unfolding x shareAt
-  sums-of = others-ext blocks (f .i) (f .n) (gAt (f .i) keys) (λ k. G (key k)) (λ k l ne. g-is (f .n) (f .i) k key keys ek own l ne)
+  sums-of = others-ext blocks (f .i) (f .n) (gAt (f .i) keys) (λ k. G (key k)) (λ k l ne. g-is f k key keys ek own l ne)
 
 -- ---- the rows of a window
 -- they fit into the room that those of 32 positions of 2 parties take
@@ -102,10 +92,6 @@ unfolding leakyLen
 rows-fit n m two fits =
     let each : 32 + n * 18 ≤ (n - 1) * 68 = omega arith in
     omega (arith, mul-le-mul-left m each, mul-assoc m (n - 1) 68)
-
--- the row that was copied out of an array
-pub row-copied : (m k : ℕ) (x r z row : List ℕ) → x ≡ take m row → row ≡ r ++ z → length r ≡ k → m ≡ k → x ≡ r
-row-copied m k x r z row hx hr hk hm = hx ∙ ap₂ take hm hr ∙ take-at r z k hk
 
 -- the rows of a window that were made in front of a buffer and copied from there
 pub window-copied : (m k size : ℕ) (y x r rows : List ℕ) → y ≡ take m (take k (x ++ r)) → x ≡ rows → length rows ≡ size → m ≡ size → k

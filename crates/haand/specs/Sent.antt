@@ -1,12 +1,12 @@
 -- The messages of round 14, made from the rows of LEAKY instead of hashing again.
-use mathlib.Core.Path.{_≡_, refl, sym, ap, ap₂, _∙_}
-use mathlib.Core.Bool.{Bool, true, false, not, Bool·beq}
+use mathlib.Core.Path.{_≡_, refl, ap, ap₂, _∙_}
+use mathlib.Core.Bool.{Bool}
 use mathlib.Core.Logic.{_≢_}
 use mathlib.Core.List.{List, _++_}
 use Prim.Native.Nat.{ℕ, _+_, _*_, _<_}
 use lib.ListN.{length, getD}
 use Rattle.lists.specs.Rows.{cat-ext}
-use Rattle.algebra.specs.Group.{XorGroup, addb, odd, num, odd-num}
+use Rattle.algebra.specs.Group.{addb, odd, odd-num}
 use Rattle.block.specs.declared.Block.{Block}
 use Rattle.block.specs.Block.{le8}
 use Rattle.block.specs.Group.{blocks}
@@ -44,25 +44,22 @@ pub length-message : (f : Frame) (rows masks recs : List ℕ) (j : ℕ)
 unfolding message
 length-message f rows masks recs j = length-encode (leaky (f .l)) 2 (item f rows masks recs j) (λ t h. length-item f rows masks recs j t)
 
--- `^` of two bools
-pub xor-addb : (a b : Bool) → not (Bool·beq a b) ≡ addb a b
-xor-addb true true = refl
-xor-addb true false = refl
-xor-addb false true = refl
-xor-addb false false = refl
-
 module _ (f : Frame) (delta : Block) (rows masks recs : List ℕ) (e : rows ≡ leakyRows f delta recs) where
-  item-is : (j t : ℕ) → j < f .n → f .i ≢ j → t < leaky (f .l) → item f rows masks recs j t ≡ twoBits (h0 f masks recs j t) (h1 f delta masks recs j t)
+  item-is : (j t : ℕ) → j < f .n → f .i ≢ j → t < leaky (f .l) → item f rows masks recs j t ≡ twoBits (h0 f masks recs j t)
+      (h1 f delta masks recs j t)
   unfolding item firstAt secondAt h0 h1
   item-is j t lj ne lt =
       let a : odd (getD rows (t * leakyLen (f .n) + (32 + j * 18) + 16) 0) ≡ H (x f recs t .key j) =
-      ap odd (ap (λ (s : List ℕ). getD s (t * leakyLen (f .n) + (32 + j * 18) + 16) 0) e ∙ first-byte f delta recs t j _ lt lj ne refl) ∙ odd-num _ in
+      ap odd (ap (λ (s : List ℕ). getD s (t * leakyLen (f .n) + (32 + j * 18) + 16) 0) e ∙ first-byte f delta recs t j _ lt lj ne refl)
+      ∙ odd-num _ in
       let b : odd (getD rows (t * leakyLen (f .n) + (32 + j * 18) + 17) 0) ≡ H (blocks .op (x f recs t .key j) delta) =
-      ap odd (ap (λ (s : List ℕ). getD s (t * leakyLen (f .n) + (32 + j * 18) + 17) 0) e ∙ second-byte f delta recs t j _ lt lj ne refl) ∙ odd-num _ in
+      ap odd (ap (λ (s : List ℕ). getD s (t * leakyLen (f .n) + (32 + j * 18) + 17) 0) e ∙ second-byte f delta recs t j _ lt lj ne refl)
+      ∙ odd-num _ in
       ap₂ (λ (a b : Bool). twoBits (addb a (mask f masks j t)) (addb (addb b (mask f masks j t)) (y f recs t .bit))) a b
 
-  -- where the rows are those that `keep_leaky` keeps, these are the messages of the definition
+  -- where the rows are those that `hold` keeps, these are the messages of the definition
   pub sent-is : toOthers (f .n) (f .i) (message f rows masks recs) ≡ toOthers (f .n) (f .i) (haandMsg f delta masks recs)
   unfolding message haandMsg encode
   sent-is =
-      toOthers-ext (f .n) (f .i) _ _ (λ k lk ne. ap (λ (s : List ℕ). le8 (leaky (f .l)) ++ s) (cat-ext (leaky (f .l)) _ _ (λ t lt. item-is k t lk ne lt)))
+      toOthers-ext (f .n) (f .i) _ _ (λ k lk ne. ap (λ (s : List ℕ). le8 (leaky (f .l)) ++ s)
+      (cat-ext (leaky (f .l)) _ _ (λ t lt. item-is k t lk ne lt)))

@@ -11,8 +11,11 @@ use Rattle.block.specs.declared.Block.{Block}
 use Rattle.block.specs.Block.{blockAt, bytesOf}
 use Rattle.blake3.specs.Tree.{hash}
 use Rattle.share.specs.Record.{recordLen, macAt, keyAt}
+use Rattle.plan.specs.Plan.{leaky, bitsCount}
+use Rattle.engine.specs.declared.Frame.{Frame}
 use Rattle.engine.specs.Step.{stretch}
 use Rattle.engine.specs.Area.{toOthers}
+use Rattle.area.specs.Given.{Ranged}
 
 -- the place of party k among those but i
 abbrev pub place : ℕ → ℕ → ℕ
@@ -22,21 +25,20 @@ place i k = pick (ltb k i) k (k - 1)
 abbrev pub partOf : Bool → List ℕ → ℕ → ℕ → Block
 partOf keys s at k = pick keys (keyAt s at k) (macAt s at k)
 
--- m positions from t on: their records lie within recs, and there is a lane for each other party of each
-pub record Window (lanes n t m : ℕ) (recs : List ℕ) : Type 0 where
-  pub two : 2 ≤ n
-  pub eight : n ≤ 8
-  pub fits : m * (n - 1) ≤ lanes
-  pub inside : (t + m) * recordLen n ≤ length recs
+-- m positions from t on, and the records
+pub record Positions (f : Frame) (t m : ℕ) (recs : List ℕ) : Type 0 where
+  pub ranges : Ranged f
+  pub records : length recs ≡ bitsCount (f .l) * recordLen (f .n)
+  pub below : t + m ≤ leaky (f .l)
 
--- the hashes of f k, for each party k but i
-abbrev pub hashes : ℕ → ℕ → (ℕ → Block) → List ℕ
-hashes n i f = toOthers n i (λ k. hash (bytesOf (f k)))
+-- the hashes of g k, for each party k but i
+abbrev pub hashes : Frame → (ℕ → Block) → List ℕ
+hashes f g = toOthers (f .n) (f .i) (λ k. hash (bytesOf (g k)))
 
--- a window's hashes: from byte `from` on, those of f p for each of m positions p
-pub record Hashed (n i m from : ℕ) (f : ℕ → ℕ → Block) (s : List ℕ) : Type 0 where
+-- a window's hashes: from byte `from` on, those of g p for each of m positions p
+pub record Hashed (f : Frame) (m from : ℕ) (g : ℕ → ℕ → Block) (s : List ℕ) : Type 0 where
   pub long : length s ≡ 2048
-  pub at : (p : ℕ) → p < m → take ((n - 1) * 32) (drop (from + p * ((n - 1) * 32)) s) ≡ hashes n i (f p)
+  pub at : (p : ℕ) → p < m → take ((f .n - 1) * 32) (drop (from + p * ((f .n - 1) * 32)) s) ≡ hashes f (g p)
 
 -- G and H of party k, read from the hashes of a position
 unfoldable pub gAt : ℕ → List ℕ → ℕ → Block

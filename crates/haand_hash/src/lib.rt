@@ -6,18 +6,28 @@ ghost use mathlib.Core.Logic.{_≢_};
 ghost use Prim.Native.Nat.{_+_, _-_, _*_, _<_, _≤_};
 ghost use lib.ListN.{length};
 ghost use Rattle.lists.specs.Over.{cat};
-ghost use Rattle.algebra.specs.Group.{XorGroup};
 ghost use Rattle.block.specs.Block.{blockAt, bytesOf};
 ghost use Rattle.block.specs.Group.{blocks};
 ghost use Rattle.share.specs.Record.{recordLen, macAt, keyAt};
 ghost use Rattle.engine.specs.Area.{toOthers};
 ghost use Rattle.haand_hash.specs.Window as W;
-ghost use Rattle.haand_hash.specs.Window.{Window, Hashed, partOf, gAt, hAt};
+ghost use Rattle.haand_hash.specs.Window.{Positions, Hashed, partOf, gAt, hAt};
+use blake3_lanes::LANES;
 use block::Block;
+use engine::Frame;
 use share::Delta;
 
-// Half the lanes: keys stand in the first, the same keys plus delta in the second.
+// The bytes of a window's Blocks, and of their hashes.
+const BLOCKS_LEN: usize = LANES * 16;
+
+pub const HASHES_LEN: usize = LANES * 32;
+
+// Half the lanes: keys stand in the first, the same keys plus delta in the second; and where the Blocks and the hashes of the second start.
 pub const HALF: usize = 32;
+
+const HALF_BLOCKS: usize = HALF * 16;
+
+pub const HALF_HASHES: usize = HALF * 32;
 
 // How many of the `left` positions that are left have their Blocks in the next window of `lanes` lanes.
 pub fn window(lanes: usize, n: usize, left: usize) -> usize
@@ -62,11 +72,13 @@ fn part_of(recs: &[u8], at: usize, k: usize, keys: bool) -> Block
 }
 
 // Those of all other parties.
-fn put_parts(out: &mut [u8], recs: &[u8], at: usize, n: usize, i: usize, keys: bool)
-    requires { ⌜ (1 ≤ n) × ((n ≤ 8) × (length (now out) ≡ (n - 1) * 16)) ⌝ }
-    requires { ⌜ at + recordLen n ≤ length (now recs) ⌝ }
-    ensures { λ _. ⌜ now (out .exit) ≡ toOthers n i (λ k. bytesOf (partOf keys (now (recs .entry)) at k)) ⌝ }
+fn put_parts(out: &mut [u8], recs: &[u8], at: usize, f: Frame, keys: bool)
+    requires { ⌜ (1 ≤ f .n) × ((f .n ≤ 8) × (length (now out) ≡ (f .n - 1) * 16)) ⌝ }
+    requires { ⌜ at + recordLen (f .n) ≤ length (now recs) ⌝ }
+    ensures { λ _. ⌜ now (out .exit) ≡ toOthers (f .n) (f .i) (λ k. bytesOf (partOf keys (now (recs .entry)) at k)) ⌝ }
 {
+    let n = f.n;
+    let i = f.i;
     let last = n - 1;
     let mut q = 0;
     while q < last {
@@ -80,31 +92,32 @@ fn put_parts(out: &mut [u8], recs: &[u8], at: usize, n: usize, i: usize, keys: b
 }
 
 // Those of the m positions from t on.
-fn gather(out: &mut [u8], recs: &[u8], n: usize, i: usize, t: usize, m: usize, keys: bool)
-    requires { ⌜ (2 ≤ n) × ((n ≤ 8) × (length (now out) ≡ m * ((n - 1) * 16))) ⌝ }
-    requires { ⌜ (t + m) * recordLen n ≤ length (now recs) ⌝ }
-    ensures { λ _. ⌜ now (out .exit) ≡ cat m (λ p. toOthers n i
-        (λ k. bytesOf (partOf keys (now (recs .entry)) ((t + p) * recordLen n) k))) ⌝ }
+fn gather(out: &mut [u8], recs: &[u8], f: Frame, t: usize, m: usize, keys: bool)
+    requires { ⌜ Positions f t m (now recs) ⌝ }
+    requires { ⌜ length (now out) ≡ m * ((f .n - 1) * 16) ⌝ }
+    ensures { λ _. ⌜ now (out .exit) ≡ cat m (λ p. toOthers (f .n) (f .i)
+        (λ k. bytesOf (partOf keys (now (recs .entry)) ((t + p) * recordLen (f .n)) k))) ⌝ }
 {
+    let n = f.n;
     let len = (n - 1) * 16;
-    let step = share::record_len(n);
     let mut p = 0;
     while p < m {
         let a = p * len;
         let e = a + len;
-        put_parts(&mut out[a..e], recs, (t + p) * step, n, i, keys);
+        put_parts(&mut out[a..e], recs, area::x_at(f, t + p), f, keys);
         p += 1;
     }
 }
 
 // The hashes of the x MACs of the m positions from t on.
-pub fn hash_macs(out: &mut [u8; 2048], recs: &[u8], n: usize, i: usize, t: usize, m: usize)
-    requires { ⌜ Window 64 n t m (now recs) ⌝ }
-    ensures { λ _. ⌜ Hashed n i m 0 (λ p. macAt (now (recs .entry)) ((t + p) * recordLen n)) (now (out .exit)) ⌝ }
+pub fn hash_macs(out: &mut [u8; HASHES_LEN], recs: &[u8], f: Frame, t: usize, m: usize)
+    requires { ⌜ (Positions f t m (now recs)) × (m * (f .n - 1) ≤ 64) ⌝ }
+    ensures { λ _. ⌜ Hashed f m 0 (λ p. macAt (now (recs .entry)) ((t + p) * recordLen (f .n))) (now (out .exit)) ⌝ }
 {
-    let mut blocks = [0u8; 1024];
+    let n = f.n;
+    let mut blocks = [0u8; BLOCKS_LEN];
     let len = m * ((n - 1) * 16);
-    gather(&mut blocks[..len], recs, n, i, t, m, false);
+    gather(&mut blocks[..len], recs, f, t, m, false);
     blake3_lanes::hash_window(out, &blocks);
 }
 
@@ -123,25 +136,25 @@ fn add(out: &mut [u8], s: &[u8], d: Block)
     }
 }
 
-// The hashes of the x keys of the m positions from t on, and from byte 1024 on those of the keys plus delta.
+// The hashes of the x keys of the m positions from t on, and in the second half those of the keys plus delta.
 pub fn hash_keys(
-    out: &mut [u8; 2048],
+    out: &mut [u8; HASHES_LEN],
     recs: &[u8],
     delta: Delta,
-    n: usize,
-    i: usize,
+    f: Frame,
     t: usize,
     m: usize,
 )
-    requires { ⌜ Window 32 n t m (now recs) ⌝ }
-    ensures { λ _. ⌜ Hashed n i m 0 (λ p. keyAt (now (recs .entry)) ((t + p) * recordLen n)) (now (out .exit)) ⌝ }
-    ensures { λ _. ⌜ Hashed n i m 1024
-        (λ p k. blocks .op (keyAt (now (recs .entry)) ((t + p) * recordLen n) k) (delta .0)) (now (out .exit)) ⌝ }
+    requires { ⌜ (Positions f t m (now recs)) × (m * (f .n - 1) ≤ 32) ⌝ }
+    ensures { λ _. ⌜ Hashed f m 0 (λ p. keyAt (now (recs .entry)) ((t + p) * recordLen (f .n))) (now (out .exit)) ⌝ }
+    ensures { λ _. ⌜ Hashed f m 1024
+        (λ p k. blocks .op (keyAt (now (recs .entry)) ((t + p) * recordLen (f .n)) k) (delta .0)) (now (out .exit)) ⌝ }
 {
-    let mut blocks = [0u8; 1024];
+    let n = f.n;
+    let mut blocks = [0u8; BLOCKS_LEN];
     let len = m * ((n - 1) * 16);
-    gather(&mut blocks[..len], recs, n, i, t, m, true);
+    gather(&mut blocks[..len], recs, f, t, m, true);
     let keys = blocks;
-    add(&mut blocks[512..1024], &keys, delta.0);
+    add(&mut blocks[HALF_BLOCKS..BLOCKS_LEN], &keys, delta.0);
     blake3_lanes::hash_window(out, &blocks);
 }

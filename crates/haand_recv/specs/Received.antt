@@ -43,7 +43,7 @@ v-is f masks recs m t =
     (λ j l ne. left-comm bits (h j) (mask f masks j t) (r j))
 
 -- the row of position t, from the hashes of its x MACs
-pub z-row-is : (f : Frame) (masks recs : List ℕ) (m : ℕ → List ℕ) (t : ℕ) (s : List ℕ) → f .i < f .n → s ≡ hashes (f .n) (f .i)
+pub z-row-is : (f : Frame) (masks recs : List ℕ) (m : ℕ → List ℕ) (t : ℕ) (s : List ℕ) → f .i < f .n → s ≡ hashes f
     (macAt recs (t * recordLen (f .n)))
     → bitBlock (addb (others bits (f .i) (f .n) (hAt (f .i) s)) (told f masks recs m t)) (others blocks (f .i) (f .n) (gAt (f .i) s))
     ≡ zRow f masks recs m t
@@ -52,11 +52,11 @@ z-row-is f masks recs m t s own e =
     let mac : ℕ → Block = macAt recs (t * recordLen (f .n)) in
     ap₂ bitBlock
     (ap (λ (h : Bool). addb h (told f masks recs m t))
-    (others-ext bits (f .i) (f .n) (hAt (f .i) s) (λ j. H (mac j)) (λ j l ne. h-is (f .n) (f .i) j mac s e own l ne))
+    (others-ext bits (f .i) (f .n) (hAt (f .i) s) (λ j. H (mac j)) (λ j l ne. h-is f j mac s e own l ne))
     ∙ sym (addb-assoc (others bits (f .i) (f .n) (λ j. H (mac j))) (others bits (f .i) (f .n) (toldBy f masks recs m t))
     (sel bits (x f recs t .bit) (y f recs t .bit)))
     ∙ ap (λ (h : Bool). addb h (sel bits (x f recs t .bit) (y f recs t .bit))) (v-is f masks recs m t))
-    (others-ext blocks (f .i) (f .n) (gAt (f .i) s) (λ j. G (mac j)) (λ j l ne. g-is (f .n) (f .i) j mac s e own l ne))
+    (others-ext blocks (f .i) (f .n) (gAt (f .i) s) (λ j. G (mac j)) (λ j l ne. g-is f j mac s e own l ne))
 
 -- a choice by arithmetic
 pub chosen : (x a b : Bool) → not (Bool·beq a (x && not (Bool·beq a b))) ≡ cond x b a

@@ -29,8 +29,8 @@ use Rattle.encode.specs.Coded.{Coded, length-encode}
 use Rattle.encode.specs.RoundTrip.{Trip, trip-whole}
 use Rattle.plan.specs.Plan.{listLen}
 use Rattle.engine.specs.declared.Frame.{Frame}
-use Rattle.engine.specs.Step.{Fault, orElse, scan, byParty}
-use Rattle.engine.specs.StepLaws.{other-cases, or-none}
+use Rattle.engine.specs.Step.{Fault, orElse, byParty}
+use Rattle.engine.specs.StepLaws.{other-cases, or-none, scan-ext}
 use Rattle.engine.specs.Sheet.{Store, Known, staysTest}
 use Rattle.engine.specs.Honest.{before, due, storeOf, SendAt, RecvAt, ListAt, LastAt}
 use Rattle.rounds.specs.Area.{DELTA, SEED, PAIRS, MASKS, BITS, ALPHA, BETA, COMMS, PAIR-COMMS, KEY-SUMS, SHARE-COMMS, DMS, LEAKY, ZS, ES, HS, H-COMMS, PERM, DS, TRIPLES, ROUNDS-OWN, sizeOf, at, keep, firstOf}
@@ -42,12 +42,6 @@ use Rattle.honest.specs.Script as S
 use Rattle.honest.specs.Inputs.{Run, box}
 
 -- ---- checks by party
-scan-ext : (n : ℕ) (c d : ℕ → ℕ) → ((k : ℕ) → k < n → c k ≡ d k) → scan n c ≡ scan n d
-unfolding scan
-scan-ext zero c d h = refl
-scan-ext (suc n) c d h =
-    ap₂ (λ (a : Fault) e. orElse a (record { code = e; party = n })) (scan-ext n c d (λ k l. h k (omega arith))) (h n (le-refl (suc n)))
-
 pub by-ext : (f : Frame) (c d : ℕ → ℕ) → ((k : ℕ) → k < f .n → f .i ≢ k → c k ≡ d k) → byParty f c ≡ byParty f d
 unfolding byParty
 by-ext f c d h = scan-ext (f .n) _ _ (λ k l. other-cases f k (λ b. pick b (c k) 0 ≡ pick b (d k) 0) (λ l′ ne. h k l′ ne) refl)

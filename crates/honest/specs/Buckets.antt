@@ -34,7 +34,7 @@ use Rattle.plan.specs.PlanLaws.{bucket-high}
 use Rattle.engine.specs.StepLaws.{by-none}
 use Rattle.engine.specs.Area.{mem}
 use Rattle.engine.specs.Sheet.{staysTest, Mail}
-use Rattle.engine.specs.Plain.{isEcho}
+use Rattle.engine.specs.Order.{echoIn}
 use Rattle.engine.specs.Honest.{before, due, plainAfter}
 use Rattle.rounds.specs.Area.{PERM, DS, sizes, sizeOf}
 use Rattle.rounds.specs.Table.{judge, kept, held, written}
@@ -302,7 +302,7 @@ module _ (R : Run) (I : Inputs R) where
   }
 
   pub recv-21 : Receives R 21
-  unfolding plainAfter isEcho mem staysTest allOf S.since S.holds S.sent judge kept
+  unfolding plainAfter echoIn mem staysTest allOf S.since S.holds S.sent judge kept
   recv-21 = record {
     heard = record {
       lens = λ j r lj lr ne. dvalue-len j r;

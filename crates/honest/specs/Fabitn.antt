@@ -24,7 +24,7 @@ use Rattle.plan.specs.Plan.{kindOf, countDue, msgLen, bitsCount}
 use Rattle.engine.specs.StepLaws.{by-none}
 use Rattle.engine.specs.Area.{mem}
 use Rattle.engine.specs.Sheet.{staysTest}
-use Rattle.engine.specs.Plain.{isEcho}
+use Rattle.engine.specs.Order.{echoIn}
 use Rattle.engine.specs.Honest.{before, due, plainAfter}
 use Rattle.rounds.specs.Area.{KEY-SUMS, sizes, sizeOf}
 use Rattle.rounds.specs.Table.{judge, kept, held, written}
@@ -114,7 +114,7 @@ module _ (R : Run) (X : Boxes R) where
   }
 
   pub recv-6 : Receives R 6
-  unfolding plainAfter isEcho mem staysTest allOf S.since S.sent S.sent6 S.keySums judge kept abits
+  unfolding plainAfter echoIn mem staysTest allOf S.since S.sent S.sent6 S.keySums judge kept abits
   recv-6 = record {
     heard = record {
       lens = λ j r lj lr ne. abit-len j r;

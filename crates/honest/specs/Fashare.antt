@@ -39,14 +39,14 @@ use Rattle.engine.specs.declared.Frame.{Frame}
 use Rattle.engine.specs.StepLaws.{by-none}
 use Rattle.engine.specs.Area.{mem, get-get}
 use Rattle.engine.specs.Sheet.{staysTest}
-use Rattle.engine.specs.Plain.{isEcho}
+use Rattle.engine.specs.Order.{echoIn}
 use Rattle.engine.specs.Honest.{before, due, plainAfter}
 use Rattle.rounds.specs.Area.{SHARE-COMMS, DMS, sizes, sizeOf, rows}
 use Rattle.rounds.specs.Table.{judge, kept, held, written}
 use Rattle.rounds.specs.Fashare.{own, d0, d1, dm, dmMac, commMsg, commRows, verMsg, dmAt, dmFault, dmFaults, dmRows, dmRow, others1, dibiMsg, macsFor, dibiFault, dibiFaults}
 use Rattle.alone.specs.Base.{rows-ext}
 use Rattle.alone.specs.FashareLaws.{dm-some}
-use Rattle.rounds.specs.FashareLaws.{length-hash}
+use Rattle.blake3.specs.ByteLaws.{length-hash}
 use Rattle.rounds.specs.EchoLaws.{length-hashVec}
 use Rattle.honest.specs.Script as S
 use Rattle.honest.specs.Inputs.{Run, box, Boxes, deltas, bitsOf}
@@ -234,7 +234,7 @@ module _ (R : Run) (X : Boxes R) where
   }
 
   pub recv-8 : Receives R 8
-  unfolding plainAfter isEcho mem staysTest allOf S.since S.holds S.sent S.sent8 judge kept
+  unfolding plainAfter echoIn mem staysTest allOf S.since S.holds S.sent S.sent8 judge kept
   recv-8 = record {
     heard = record {
       lens = λ j r lj lr ne. comm-len (box R j) (deltas R j) (inputs j .bits) n l;
@@ -295,7 +295,7 @@ module _ (R : Run) (X : Boxes R) where
   }
 
   pub recv-10 : Receives R 10
-  unfolding plainAfter isEcho mem staysTest allOf S.since S.holds S.sent S.sent10 judge kept dmFaults
+  unfolding plainAfter echoIn mem staysTest allOf S.since S.holds S.sent S.sent10 judge kept dmFaults
   recv-10 = record {
     heard = record {
       lens = λ j r lj lr ne. ver-len (box R j) (inputs j .bits) (X .range .eight) l;
@@ -444,7 +444,7 @@ module _ (R : Run) (X : Boxes R) where
   }
 
   pub recv-12 : Receives R 12
-  unfolding plainAfter isEcho mem staysTest allOf S.since S.sent S.sent12 judge kept dibiFaults
+  unfolding plainAfter echoIn mem staysTest allOf S.since S.sent S.sent12 judge kept dibiFaults
   recv-12 = record {
     heard = record {
       lens = λ j r lj lr ne. dibi-len j;

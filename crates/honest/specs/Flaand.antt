@@ -32,7 +32,7 @@ use Rattle.engine.specs.Step.{Fault}
 use Rattle.engine.specs.StepLaws.{or-none, by-none}
 use Rattle.engine.specs.Area.{mem, length-sec}
 use Rattle.engine.specs.Sheet.{Known, staysTest}
-use Rattle.engine.specs.Plain.{isEcho}
+use Rattle.engine.specs.Order.{echoIn}
 use Rattle.engine.specs.Honest.{before, due, plainAfter}
 use Rattle.rounds.specs.Area.{ES, HS, H-COMMS, SECTIONS, sizes, sizeOf, at, rows}
 use Rattle.rounds.specs.Table.{judge, kept, held, written}
@@ -42,7 +42,7 @@ use Rattle.rounds.specs.FlaandLaws.{length-ownComms}
 use Rattle.alone.specs.Base.{rows-ext}
 use Rattle.alone.specs.HaandLaws.{small-G, small-phi, small-u, phi-read, key-hash-read, u-read, mac-hash-read}
 use Rattle.alone.specs.FlaandLaws.{h-alg, block-row, length-es, e-read}
-use Rattle.rounds.specs.FashareLaws.{length-hash}
+use Rattle.blake3.specs.ByteLaws.{length-hash}
 use Rattle.rounds.specs.EchoLaws.{length-hashVec}
 use Rattle.honest.specs.Script as S
 use Rattle.honest.specs.Inputs.{Run, box, Boxes, deltas, small-delta}
@@ -217,7 +217,7 @@ module _ (R : Run) (X : Boxes R) where
   }
 
   pub recv-15 : Receives R 15
-  unfolding plainAfter isEcho mem staysTest allOf S.since S.holds S.sent S.es S.hs judge kept
+  unfolding plainAfter echoIn mem staysTest allOf S.since S.holds S.sent S.es S.hs judge kept
   recv-15 = record {
     heard = record {
       lens = λ j r lj lr ne. flaand-len j r;
@@ -285,7 +285,7 @@ module _ (R : Run) (X : Boxes R) where
   }
 
   pub recv-17 : Receives R 17
-  unfolding plainAfter isEcho mem staysTest allOf S.since S.holds S.sent S.hComms judge kept commRows
+  unfolding plainAfter echoIn mem staysTest allOf S.since S.holds S.sent S.hComms judge kept commRows
   recv-17 = record {
     heard = record {
       lens = λ j r lj lr ne. comm-len j r;
@@ -350,7 +350,7 @@ module _ (R : Run) (X : Boxes R) where
   }
 
   pub recv-19 : Receives R 19
-  unfolding plainAfter isEcho mem staysTest allOf S.since S.sent judge kept hFaults
+  unfolding plainAfter echoIn mem staysTest allOf S.since S.sent judge kept hFaults
   recv-19 = record {
     heard = record {
       lens = λ j r lj lr ne. hash-len j r;

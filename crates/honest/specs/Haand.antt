@@ -27,7 +27,7 @@ use Rattle.plan.specs.PlanLaws.{leaky-most}
 use Rattle.engine.specs.declared.Frame.{Frame}
 use Rattle.engine.specs.Area.{mem}
 use Rattle.engine.specs.Sheet.{staysTest}
-use Rattle.engine.specs.Plain.{isEcho}
+use Rattle.engine.specs.Order.{echoIn}
 use Rattle.engine.specs.Honest.{before, due, plainAfter}
 use Rattle.rounds.specs.Area.{LEAKY, ZS, sizes, sizeOf}
 use Rattle.rounds.specs.Table.{judge, kept, held, written}
@@ -105,7 +105,7 @@ module _ (R : Run) (X : Boxes R) where
   }
 
   pub recv-14 : Receives R 14
-  unfolding plainAfter isEcho mem staysTest allOf S.since S.holds S.sent S.zRows judge kept
+  unfolding plainAfter echoIn mem staysTest allOf S.since S.holds S.sent S.zRows judge kept
   recv-14 = record {
     heard = record {
       lens = λ j r lj lr ne. haand-len j r;

@@ -1,14 +1,14 @@
 -- The premises of demand 3 in its own words: "inputs that 01 gives opening no reason to refuse" are those that Inputs.antt lists.
 use mathlib.Core.Path.{_≡_, refl, sym, ap, _∙_, subst}
-use mathlib.Core.Bool.{Bool, true, false, _&&_}
+use mathlib.Core.Bool.{Bool, true, _&&_}
 use mathlib.Core.Logic.{_≢_}
 use Prim.Native.Nat.{ℕ, suc, _+_, _-_, _*_, _<_, _≤_}
 use native.Mathlib.Omega.{arith}
 use lib.ListN.{length, getD, length-replicate}
 use lib.Dec.{ltb, leb, eqb}
-use borrow.Author.Tests.{leb-true, eqb-true, eqb-false}
+use borrow.Author.Tests.{leb-true, eqb-true}
 use Rattle.lists.specs.Pick.{pick, pick-then, pick-else}
-use Rattle.lists.specs.All.{allOf, of-all, true-false}
+use Rattle.lists.specs.All.{allOf, of-all, and-both}
 use Rattle.lists.specs.Bytes.{Bytes}
 use Rattle.algebra.specs.Sum.{neq, neq-true}
 use Rattle.algebra.specs.Share.{Good}
@@ -18,7 +18,7 @@ use Rattle.share.specs.RecordLaws.{faults-valid}
 use Rattle.plan.specs.Plan.{InRange, leaky, bitsCount, msgLen}
 use Rattle.engine.specs.declared.Frame.{Frame}
 use Rattle.rounds.specs.Area.{workLen}
-use Rattle.rounds.specs.Opening.{Args, listsDue, buffersDue, masksFault, orFault, bytesFault, lengthsFault, reason}
+use Rattle.rounds.specs.Opening.{Args, neither, listsDue, buffersDue, masksFault, bytesFault, lengthsFault, reason}
 use Rattle.honest.specs.Inputs.{Run, box, Own, Boxes, deltas, bitsOf, alphasOf, betasOf}
 use Rattle.honest.specs.Course.{lawful}
 use Rattle.honest.specs.Opening.{Given, honest-opening}
@@ -47,21 +47,8 @@ pub record Premises (R : Run) : Type 0 where
   pub beta-mac : (t : ℕ) → t < R .l → Good blocks (R .n) (deltas R) (betasOf R t)
 
 -- ---- what an opening without a reason was given
-both : (p q : Bool) → (p && q) ≡ true → (p ≡ true) × (q ≡ true)
-both true true h = (h, h)
-both true false h = absurd (true-false (sym h))
-both false q h = absurd (true-false (sym h))
-
 not-zero : (k : ℕ) → _≡_ {A = ℕ} (suc k) 0 → ⊥
 not-zero k e = omega arith
-
-neither : (x y : ℕ) → orFault x y ≡ 0 → (x ≡ 0) × (y ≡ 0)
-unfolding orFault
-neither x y = go (eqb x 0) refl
-  where
-    go : (b : Bool) → eqb x 0 ≡ b → pick b y x ≡ 0 → (x ≡ 0) × (y ≡ 0)
-    go true e h = (eqb-true x 0 e, h)
-    go false e h = absurd (eqb-false x 0 e h)
 
 -- what is left of the reasons, one after another
 record Passed (a : Args) : Type 0 where
@@ -99,8 +86,8 @@ record Lists (a : Args) : Type 0 where
 lists-of : (a : Args) → listsDue (a .party) (length (a .bits)) (length (a .alpha)) (length (a .beta)) ≡ true → Lists a
 unfolding listsDue
 lists-of a h =
-    let p = both _ (eqb (length (a .beta)) (a .party .l * recordLen (a .party .n))) h in
-    let q = both (eqb (length (a .bits)) (bitsCount (a .party .l) * recordLen (a .party .n))) _ (p .0) in
+    let p = and-both _ (eqb (length (a .beta)) (a .party .l * recordLen (a .party .n))) h in
+    let q = and-both (eqb (length (a .bits)) (bitsCount (a .party .l) * recordLen (a .party .n))) _ (p .0) in
     record { bits = eqb-true _ _ (q .0); alpha = eqb-true _ _ (q .1); beta = eqb-true _ _ (p .1) }
 
 record Buffers (a : Args) : Type 0 where
@@ -114,11 +101,11 @@ record Buffers (a : Args) : Type 0 where
 buffers-of : (a : Args) → buffersDue a ≡ true → Buffers a
 unfolding buffersDue
 buffers-of a h =
-    let o = both _ (eqb (length (a .out)) ((a .party .n - 1) * msgLen (a .party .n) (a .party .l) 1)) h in
-    let w = both _ (eqb (length (a .work)) (workLen (a .party))) (o .0) in
-    let m = both _ (eqb (length (a .masks)) (a .party .n * leaky (a .party .l))) (w .0) in
-    let p = both _ (eqb (length (a .pairs)) (32 * a .party .n)) (m .0) in
-    let s = both (eqb (length (a .delta)) 16) (eqb (length (a .seed)) 32) (p .0) in
+    let o = and-both _ (eqb (length (a .out)) ((a .party .n - 1) * msgLen (a .party .n) (a .party .l) 1)) h in
+    let w = and-both _ (eqb (length (a .work)) (workLen (a .party))) (o .0) in
+    let m = and-both _ (eqb (length (a .masks)) (a .party .n * leaky (a .party .l))) (w .0) in
+    let p = and-both _ (eqb (length (a .pairs)) (32 * a .party .n)) (m .0) in
+    let s = and-both (eqb (length (a .delta)) 16) (eqb (length (a .seed)) 32) (p .0) in
     record {
       delta = eqb-true _ _ (s .0);
       seed = eqb-true _ _ (s .1);

@@ -23,7 +23,8 @@ use Rattle.engine.specs.World.{Box, Call, Scene, start, runs, FairList, AllRigh
 use Rattle.engine.specs.Engine.{Duty, every-call, every-done, every-long}
 use Rattle.engine.specs.Live.{Cast, robin, fair-robin, robin-done}
 use Rattle.engine.specs.Area.{mem, also}
-use Rattle.engine.specs.Plain.{isEcho, stepsOf, protocolOf}
+use Rattle.engine.specs.Order.{echoIn}
+use Rattle.engine.specs.Plain.{stepsOf, protocolOf}
 use Rattle.engine.specs.Honest.{Lawful, plainAfter, Honest}
 use Rattle.engine.specs.PlainSession.{HonestOpening, sceneOf, dutyOf, every-written, castOf}
 use Rattle.rounds.specs.Area.{workLen}
@@ -98,7 +99,7 @@ module _ (R : Run) (I : Inputs R) where
   X = I .boxes
 
   pub honest : Honest subject (S.script R) n l
-  unfolding plainAfter isEcho mem allOf
+  unfolding plainAfter echoIn mem allOf
   honest = record {
     plain = 1 ∷ 3 ∷ 4 ∷ 5 ∷ 6 ∷ 8 ∷ 10 ∷ 12 ∷ 14 ∷ 15 ∷ 17 ∷ 19 ∷ 21 ∷ [];
     whole = refl;

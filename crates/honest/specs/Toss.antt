@@ -27,13 +27,13 @@ use Rattle.engine.specs.declared.Frame.{Frame}
 use Rattle.engine.specs.StepLaws.{by-none}
 use Rattle.engine.specs.Area.{mem}
 use Rattle.engine.specs.Sheet.{staysTest}
-use Rattle.engine.specs.Plain.{isEcho}
+use Rattle.engine.specs.Order.{echoIn}
 use Rattle.engine.specs.Honest.{before, due, plainAfter}
 use Rattle.rounds.specs.Area.{COMMS, JOINT, PAIR-COMMS, PAIRWISE, sizes, sizeOf}
 use Rattle.rounds.specs.Table.{judge, kept, held, written}
 use Rattle.rounds.specs.Toss.{commitment, commMsg, verMsg, told, toldRows, opening, jointSeed, pairwiseSeeds}
 use Rattle.alone.specs.Base.{rows-ext, length-rows, chunk-rows}
-use Rattle.rounds.specs.FashareLaws.{length-hash}
+use Rattle.blake3.specs.ByteLaws.{length-hash}
 use Rattle.rounds.specs.EchoLaws.{length-hashVec}
 use Rattle.honest.specs.Script as S
 use Rattle.honest.specs.Inputs.{Run, box, Boxes}
@@ -143,7 +143,7 @@ module _ (R : Run) (X : Boxes R) where
   fit-comms = (omega arith, λ i li. length-told (box R i) (λ j. S.sent1 R j i) (λ k. inputs k .seed) (λ k lk ne. refl))
 
   pub recv-1 : Receives R 1
-  unfolding plainAfter isEcho mem staysTest allOf S.since S.holds S.sent S.sent1 S.comms judge kept
+  unfolding plainAfter echoIn mem staysTest allOf S.since S.holds S.sent S.sent1 S.comms judge kept
   recv-1 = record {
     heard = record {
       lens = λ j r lj lr ne. comm-len (inputs j .seed) j n l;
@@ -177,7 +177,7 @@ module _ (R : Run) (X : Boxes R) where
   told-seed j lj m e = ap told e ∙ told-ver (inputs j .seed) (X .own j lj .seed-len)
 
   pub recv-3 : Receives R 3
-  unfolding plainAfter isEcho mem staysTest allOf S.since S.holds S.sent S.sent1 S.sent3 S.comms S.joint judge kept
+  unfolding plainAfter echoIn mem staysTest allOf S.since S.holds S.sent S.sent1 S.sent3 S.comms S.joint judge kept
   recv-3 = record {
     heard = record {
       lens = λ j r lj lr ne. ver-len (inputs j .seed) n l;
@@ -211,7 +211,7 @@ module _ (R : Run) (X : Boxes R) where
   )
 
   pub recv-4 : Receives R 4
-  unfolding plainAfter isEcho mem staysTest allOf S.since S.holds S.sent S.sent4 S.pairComms judge kept msgLen countDue kindOf
+  unfolding plainAfter echoIn mem staysTest allOf S.since S.holds S.sent S.sent4 S.pairComms judge kept msgLen countDue kindOf
   recv-4 = record {
     heard = record {
       lens = λ j r lj lr ne. comm-len (pair j r) j n l;
@@ -240,7 +240,7 @@ module _ (R : Run) (X : Boxes R) where
       ap told e ∙ told-ver (pair j i) (length-chunk 32 n i (inputs j .pairs) li (omega (arith, X .own j lj .pairs-len)))
 
   pub recv-5 : Receives R 5
-  unfolding plainAfter isEcho mem staysTest allOf S.since S.holds S.sent S.sent4 S.sent5 S.pairComms S.pairwise judge kept msgLen countDue kindOf
+  unfolding plainAfter echoIn mem staysTest allOf S.since S.holds S.sent S.sent4 S.sent5 S.pairComms S.pairwise judge kept msgLen countDue kindOf
   recv-5 = record {
     heard = record {
       lens = λ j r lj lr ne. ver-len (pair j r) n l;

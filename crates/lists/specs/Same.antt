@@ -1,13 +1,16 @@
 -- The test whether two lists of numbers are equal.
 use mathlib.Core.Path.{_≡_, refl, sym, ap, ap₂, _∙_, subst}
 use mathlib.Core.Bool.{Bool, true, false, _&&_}
-use mathlib.Core.List.{List, [], _∷_}
-use Prim.Native.Nat.{ℕ}
-use lib.ListN.{length, getD}
-use lib.Seq.{ext-getD}
+use mathlib.Core.List.{List, [], _∷_, _++_}
+use Prim.Native.Nat.{ℕ, zero, suc, _+_, _*_, _<_, _≤_}
+use native.Mathlib.Nat.{zero-mul, suc-mul}
+use native.Mathlib.Omega.{arith}
+use lib.ListN.{length, take, drop}
+use lib.Seq.{take-add, length-take-le}
 use lib.Dec.{eqb}
 use borrow.Author.Tests.{eq-eqb, eqb-true}
-use Rattle.lists.specs.All.{allOf, all-of, of-all, true-false}
+use Rattle.lists.specs.All.{allOf, true-false, and-assoc}
+use Rattle.lists.specs.Over.{cat, length-cat}
 
 unfoldable pub same? : List ℕ → List ℕ → Bool
 same? [] [] = true
@@ -36,3 +39,25 @@ same-eq a b e = subst (λ x. same? a x ≡ true) e (same-refl a)
 
 pub same-false : (a b : List ℕ) → same? a b ≡ false → a ≡ b → ⊥
 same-false a b h e = true-false (sym (same-eq a b e) ∙ h)
+
+-- ---- lists that are compared part by part
+pub same-append : (a b x y : List ℕ) → length a ≡ length b → same? (a ++ x) (b ++ y) ≡ (same? a b && same? x y)
+unfolding same?
+same-append [] [] x y h = refl
+same-append [] (b ∷ m) x y h = absurd (omega arith)
+same-append (a ∷ l) [] x y h = absurd (omega arith)
+same-append (a ∷ l) (b ∷ m) x y h =
+    ap (λ (t : Bool). eqb a b && t) (same-append l m x y (omega arith)) ∙ sym (and-assoc (eqb a b) (same? l m) (same? x y))
+
+-- chunks of m
+pub same-cat : (n m : ℕ) (g : ℕ → List ℕ) (y : List ℕ) → ((j : ℕ) → j < n → length (g j) ≡ m) → n * m ≤ length y
+    → same? (cat n g) (take (n * m) y) ≡ allOf n (λ q. same? (g q) (take m (drop (q * m) y)))
+unfolding cat allOf same?
+same-cat zero m g y h w = ap (λ j. same? [] (take j y)) (zero-mul m)
+same-cat (suc n) m g y h w =
+    let k : suc n * m ≡ n * m + m = suc-mul n m in
+    let long : length (cat n g) ≡ length (take (n * m) y) =
+    length-cat n m g (λ j l. h j (omega arith)) ∙ sym (length-take-le (n * m) y (omega arith)) in
+    ap (same? (cat n g ++ g n)) (ap (λ j. take j y) k ∙ take-add (n * m) m y)
+    ∙ same-append (cat n g) (take (n * m) y) (g n) (take m (drop (n * m) y)) long
+    ∙ ap (λ (t : Bool). t && same? (g n) (take m (drop (n * m) y))) (same-cat n m g y (λ j l. h j (omega arith)) (omega arith))

@@ -12,7 +12,7 @@ use lib.Seq.{getD-drop}
 use lib.Dec.{ltb, leb, eqb}
 use borrow.Author.Tests.{lt-ltb, le-ltb, le-leb, lt-leb, eq-eqb, ne-eqb, ltb-true, ltb-false, leb-true, leb-false, eqb-true, eqb-false}
 use Rattle.lists.specs.Pick.{pick, pick-then}
-use Rattle.lists.specs.All.{all-of, of-all, all-false, true-false}
+use Rattle.lists.specs.All.{all-of, of-all, all-false, true-false, and-first, and-second}
 use Rattle.block.specs.Block.{wordAt}
 use Rattle.block.specs.Trip.{word-drop}
 use Rattle.message.specs.declared.Kind.{Kind}
@@ -22,14 +22,6 @@ use Rattle.message.specs.Format.{bools, vecLen, bothLen, itemLen, itemAt
 -- ---- two tests at once
 pub and-true : (a b : Bool) → a ≡ true → b ≡ true → (a && b) ≡ true
 and-true a b p q = ap₂ _&&_ p q
-
-pub and-first : (a b : Bool) → (a && b) ≡ true → a ≡ true
-and-first true b h = refl
-and-first false b h = h
-
-pub and-second : (a b : Bool) → (a && b) ≡ true → b ≡ true
-and-second true b h = h
-and-second false b h = absurd (true-false (sym h))
 
 pub first-false : (a b : Bool) → a ≡ false → (a && b) ≡ false
 first-false a b p = ap (λ (x : Bool). x && b) p

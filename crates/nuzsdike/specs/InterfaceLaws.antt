@@ -17,7 +17,8 @@ use Rattle.engine.specs.declared.Session.{Session}
 use Rattle.engine.specs.Step.{Lent, Reply, Accepted, Refused, Outcome, outcome, reasonOf, faultOf, refused, accepted, roundSpec}
 use Rattle.engine.specs.StepLaws.{round-faults, round-cases}
 use Rattle.engine.specs.Area.{off, sec}
-use Rattle.engine.specs.Plain.{nextOf, isEcho, pending, protocolOf}
+use Rattle.engine.specs.Order.{nextIn}
+use Rattle.engine.specs.Plain.{nextOf, pending, protocolOf}
 use Rattle.rounds.specs.Area.{PENDING, sizeOf}
 use Rattle.rounds.specs.Opening as Opening
 use Rattle.rounds.specs.Opening.{Args, orFault, listsDue, lengthsFault, buffersDue, bytesFault, reason}
@@ -152,8 +153,8 @@ combines a n o v en e = ap (λ m. combined m o) en ∙ ap (λ (x : Combine.Outco
 -- ---- what fits
 module _ (s : Session) (k : ℕ) (q : Lent) (w : List ℕ) where
   next-small : k ≤ 22 → (b : Bool) → nextOf table b k < 0x1_0000_0000
-  unfolding nextOf
-  next-small h b = go (eqb k 22) (b && isEcho table (suc k))
+  unfolding nextIn
+  next-small h b = go (leb 22 k) (b && echo? (suc k))
     where
       go : (x y : Bool) → pick x 0 (pick y (suc (suc k)) (suc k)) < 0x1_0000_0000
       go true y = omega arith
@@ -178,7 +179,7 @@ module _ (s : Session) (k : ℕ) (q : Lent) (w : List ℕ) where
       round-cases (protocolOf table) s k q w (λ (o : Outcome). named (o .reply) ≤ NO-PARTY) (λ ne. omega (arith, h .i-fits))
       (λ z ne. rw (round-faults (protocolOf table) s k q w z ne)
       (let A = reason-zero s k q w z in
-      omega (arith, fault-named (s .party) (A .ranges .own) k q w ne, A .ranges .eight)))
+      omega (arith, fault-named (s .party) (A .ranges .own) k q w ne, A .ranges .range .eight)))
       (λ z f. omega arith)
 
 pub combine-named : (a : Combine.Args) (v : Reply) (o : List ℕ) → Combine.outcome v o ≡ Combine.spec a → a .i < 0x1_0000_0000 → named v ≤ NO-PARTY
@@ -229,10 +230,10 @@ bucket-small l = go (leb 280000 l) (leb 3100 l)
     go false false = omega arith
 
 pub writes-small : (n k : ℕ) → writes n k < 0x1_0000_0000
-unfolding writes nextRound
-writes-small n k = go (eqb k 0 || isRound n k) (leb 22 k) refl (eqb n 2 && echo? (k + 1))
+unfolding writes nextIn
+writes-small n k = go (eqb k 0 || isRound n k) (leb 22 k) refl (eqb n 2 && echo? (suc k))
   where
-    go : (a b : Bool) → leb 22 k ≡ b → (e : Bool) → pick a (pick b 0 (pick e (k + 2) (k + 1))) 0 < 0x1_0000_0000
+    go : (a b : Bool) → leb 22 k ≡ b → (e : Bool) → pick a (pick b 0 (pick e (suc (suc k)) (suc k))) 0 < 0x1_0000_0000
     go false b h e = omega arith
     go true true h e = omega arith
     go true false h true = omega (arith, leb-false 22 k h)

@@ -10,7 +10,7 @@ ghost use Rattle.engine.specs.Area.{off};
 ghost use Rattle.rounds.specs.Area.{sizeOf, workLen};
 ghost use Rattle.rounds.specs.Combine as Combine;
 ghost use Rattle.opening.specs.Given.{args};
-ghost use Rattle.session.specs.Given.{lent};
+ghost use Rattle.admit.specs.Admit.{given};
 ghost use Rattle.nuzsdike.specs.Interface.{sessionAt, numbersOf, packedOf, NO-PARTY, exported, openC, roundC, combined, combineC, dueOf};
 ghost use Rattle.nuzsdike.specs.Interface.{roundAfter, messageLen, nameByte, recordBytes, bucketOf, jointAt, pairwiseAt};
 ghost use Rattle.nuzsdike.specs.Narrow.{Narrow, named};
@@ -20,11 +20,6 @@ use engine::Verdict;
 
 // Above every 32-bit number: an answer that names no party.
 const NO_PARTY: usize = 0x1_0000_0000;
-
-// Sections of the work area.
-const JOINT: usize = 8;
-
-const PAIRWISE: usize = 10;
 
 // ---- sessions and answers
 
@@ -99,15 +94,12 @@ pub extern "C" fn nuzsdike_open(
 {
     let own = i as usize;
     if session.len() != 4 {
-        let code = opening::lengths_fault(
-            n as usize,
-            own,
-            l as usize,
-            bits.len(),
-            alpha.len(),
-            beta.len(),
-            false,
-        );
+        let f = Frame {
+            n: n as usize,
+            i: own,
+            l: l as usize,
+        };
+        let code = opening::lengths_fault(f, bits.len(), alpha.len(), beta.len(), false);
         return packed(code, own);
     }
     let a = opening::open(
@@ -150,7 +142,7 @@ pub extern "C" fn nuzsdike_round(
     out: &mut [u8],
 ) -> u64
     ensures { λ a. ⌜ exported a (now (session .exit)) (now (work .exit)) (now (out .exit)) ≡ roundC (now (session .entry)) round
-        (lent (now (incoming .entry)) (now (starts .entry)) (now (lens .entry)) (now (missing .entry)) (now (r .entry)) (now (perm .entry)) (now (out .entry)))
+        (given (now (incoming .entry)) (now (starts .entry)) (now (lens .entry)) (now (missing .entry)) (now (r .entry)) (now (perm .entry)) (now (out .entry)))
         (now (work .entry)) ⌝ }
 {
     if session.len() != 4 {
@@ -281,7 +273,12 @@ fn section_at(n: u32, l: u32, s: usize) -> usize
     ensures { λ r. ⌜ r ≡ within n l (off (sizeOf (frame n l 0)) s) ⌝ }
 {
     if plan::in_range(n as usize, l as usize) {
-        area::section_at(n as usize, l as usize, s)
+        let f = Frame {
+            n: n as usize,
+            i: 0,
+            l: l as usize,
+        };
+        area::section_at(f, s)
     } else {
         0
     }
@@ -292,14 +289,14 @@ fn section_at(n: u32, l: u32, s: usize) -> usize
 pub extern "C" fn nuzsdike_joint_seed_at(n: u32, l: u32) -> usize
     ensures { λ r. ⌜ r ≡ jointAt n l ⌝ }
 {
-    section_at(n, l, JOINT)
+    section_at(n, l, area::JOINT)
 }
 
 #[no_mangle]
 pub extern "C" fn nuzsdike_pairwise_seeds_at(n: u32, l: u32) -> usize
     ensures { λ r. ⌜ r ≡ pairwiseAt n l ⌝ }
 {
-    section_at(n, l, PAIRWISE)
+    section_at(n, l, area::PAIRWISE)
 }
 
 // ---- rounds and buckets

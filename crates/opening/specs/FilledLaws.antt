@@ -1,7 +1,7 @@
 -- The work area as opening fills it: the inputs one behind another, zeros behind them.
 use mathlib.Core.Path.{_≡_, refl, sym, ap, ap₂, _∙_}
-use mathlib.Core.List.{List, [], _++_, append-assoc, append-nil}
-use Prim.Native.Nat.{ℕ, zero, suc, _+_, _-_, _*_, _<_, _≤_}
+use mathlib.Core.List.{List, _++_, append-assoc, append-nil}
+use Prim.Native.Nat.{ℕ, zero, suc, _+_, _-_, _<_, _≤_}
 use native.Mathlib.Nat.{add-zero, add-suc, add-assoc}
 use native.Mathlib.Numerals.{add-one}
 use native.Mathlib.Omega.{arith}
@@ -10,19 +10,18 @@ use lib.Seq.{take-at}
 use borrow.Author.Tests.{ne-eqb}
 use borrow.Rule.Slice.PartMut.{putMid}
 use Rattle.lists.specs.Over.{cat, Written, written-zero, written-turn}
+use Rattle.lists.specs.Rows.{cat-part}
 use Rattle.lists.specs.Sect.{get, put, length-get}
-use Rattle.share.specs.Record.{recordLen}
-use Rattle.plan.specs.Plan.{leaky, bitsCount, kindOf, countDue, listLen, msgLen}
 use Rattle.engine.specs.declared.Frame.{Frame}
-use Rattle.engine.specs.Step.{frame, Accepted, outcome}
-use Rattle.engine.specs.Area.{off, putSec, toOthers}
-use Rattle.rounds.specs.Area.{BITS, SECTIONS, sizes, sizeOf, workLen, keep}
-use Rattle.rounds.specs.AreaLaws.{section-in}
+use Rattle.engine.specs.Step.{Accepted, outcome}
+use Rattle.engine.specs.Area.{off, sec, putSec, toOthers}
+use Rattle.rounds.specs.Area.{SEED, BITS, SECTIONS, sizes, sizeOf, workLen, at, keep}
 use Rattle.rounds.specs.Toss as Toss
 use Rattle.rounds.specs.Opening.{Args, section, area, spec}
-use Rattle.area.specs.AreaLaws.{work-any}
-use Rattle.opening.specs.Given.{EMPTY, cleared, withSeeds, withLists, Seeds, Lists, lens, found}
-use Rattle.opening.specs.OpeningLaws.{Due, accepts}
+use Rattle.area.specs.Given.{Work}
+use Rattle.area.specs.GivenLaws.{section-inside}
+use Rattle.opening.specs.Given.{EMPTY, cleared, withSeeds, withLists, Due, lens, found}
+use Rattle.opening.specs.OpeningLaws.{accepts}
 
 -- ---- any sections
 module _ (size : ℕ → ℕ) (g : ℕ → List ℕ) where
@@ -83,98 +82,84 @@ section-zero a s h =
       ne-eqb s 6 (omega arith),
     ) refl
 
-module _ (a : Args) (w : List ℕ) (whole : length w ≡ workLen (a .party)) where
-  abbrev party : Frame
-  party = a .party
+-- where nothing is refused
+module _ (a : Args) (D : Due (a .party) (lens a)) where
+  abbrev f : Frame
+  f = a .party
+
+  pub given : Work f (a .work)
+  given = record { ranges = D .ranges; whole = D .work }
 
   abbrev Got : ℕ → List ℕ → Type 0
-  Got s x = Written (section a) s (off (sizeOf party) s) w x
+  Got s x = Written (section a) s (off (sizeOf f) s) (a .work) x
 
-  got-more : (s : ℕ) (x y : List ℕ) → s < SECTIONS → Got s x → section a s ≡ y → length y ≡ sizeOf party s → Got (suc s) (keep party s y x)
+  got-more : (s : ℕ) (x y : List ℕ) → s < SECTIONS → Got s x → section a s ≡ y → length y ≡ sizeOf f s → Got (suc s) (keep f s y x)
   unfolding keep
   got-more s x y h p e long =
-      rw e at (filled-turn (sizeOf party) (section a) s w x p (ap length e ∙ long) (omega (arith, section-in party s h)))
+      rw e at (filled-turn (sizeOf f) (section a) s (a .work) x p (ap length e ∙ long) (section-inside given s h))
 
-  module _ (long-delta : length (a .delta) ≡ 16) (long-seed : length (a .seed) ≡ 32) (long-pairs : length (a .pairs) ≡ 32 * party .n)
-      (long-masks : length (a .masks) ≡ party .n * leaky (party .l)) (long-bits : length (a .bits) ≡ bitsCount (party .l) * recordLen (party .n))
-      (long-alpha : length (a .alpha) ≡ party .l * recordLen (party .n)) (long-beta : length (a .beta) ≡ party .l * recordLen (party .n)) where
-    got-seeds : Got BITS (withSeeds party (a .delta) (a .seed) (a .pairs) (a .masks) w)
-    unfolding withSeeds section sizeOf sizes
-    got-seeds =
-        got-more 3 _ (a .masks) (omega arith)
-        (got-more 2 _ (a .pairs) (omega arith)
-        (got-more 1 _ (a .seed) (omega arith)
-        (got-more 0 _ (a .delta) (omega arith) (filled-zero (sizeOf party) (section a) w) refl long-delta)
-        refl long-seed)
-        refl long-pairs)
-        refl long-masks
+  abbrev seeded : List ℕ
+  seeded = withSeeds f (a .delta) (a .seed) (a .pairs) (a .masks) (a .work)
 
-    abbrev seeded : List ℕ
-    seeded = withSeeds party (a .delta) (a .seed) (a .pairs) (a .masks) w
+  got-seeds : Got BITS seeded
+  unfolding withSeeds section
+  got-seeds =
+      got-more 3 _ (a .masks) (omega arith)
+      (got-more 2 _ (a .pairs) (omega arith)
+      (got-more 1 _ (a .seed) (omega arith)
+      (got-more 0 _ (a .delta) (omega arith) (filled-zero (sizeOf f) (section a) (a .work)) refl (D .seeds .delta))
+      refl (D .seeds .seed))
+      refl (D .seeds .pairs))
+      refl (D .seeds .masks)
 
-    got-lists : Got EMPTY (withLists party (a .bits) (a .alpha) (a .beta) seeded)
-    unfolding withLists section sizeOf sizes
-    got-lists =
-        got-more 6 _ (a .beta) (omega arith)
-        (got-more 5 _ (a .alpha) (omega arith)
-        (got-more 4 _ (a .bits) (omega arith) got-seeds refl long-bits)
-        refl long-alpha)
-        refl long-beta
+  -- the inputs
+  abbrev pub inputs : List ℕ
+  inputs = withLists f (a .bits) (a .alpha) (a .beta) seeded
 
-    pub filled : cleared party (withLists party (a .bits) (a .alpha) (a .beta) seeded) ≡ area a
-    unfolding cleared area workLen
-    filled =
-        ap (λ (x : List ℕ). x ++ replicate (off (sizeOf party) SECTIONS - off (sizeOf party) EMPTY) 0)
-        (ap (take (off (sizeOf party) EMPTY)) (got-lists .here)
-        ∙ take-at (cat EMPTY (section a)) (drop (off (sizeOf party) EMPTY) w) (off (sizeOf party) EMPTY) (got-lists .at))
-        ∙ sym (zeros-behind (sizeOf party) (section a) EMPTY (section-zero a) SECTIONS (omega arith))
+  got-lists : Got EMPTY inputs
+  unfolding withLists section
+  got-lists =
+      got-more 6 _ (a .beta) (omega arith)
+      (got-more 5 _ (a .alpha) (omega arith)
+      (got-more 4 _ (a .bits) (omega arith) got-seeds refl (D .lists .bits))
+      refl (D .lists .alpha))
+      refl (D .lists .beta)
+
+  filled : cleared f inputs ≡ area a
+  unfolding cleared area workLen
+  filled =
+      ap (λ (x : List ℕ). x ++ replicate (off (sizeOf f) SECTIONS - off (sizeOf f) EMPTY) 0)
+      (ap (take (off (sizeOf f) EMPTY)) (got-lists .here)
+      ∙ take-at (cat EMPTY (section a)) (drop (off (sizeOf f) EMPTY) (a .work)) (off (sizeOf f) EMPTY) (got-lists .at))
+      ∙ sym (zeros-behind (sizeOf f) (section a) EMPTY (section-zero a) SECTIONS (omega arith))
+
+  -- the seed stands behind delta
+  before-seed : length (cat SEED (section a)) ≡ off (sizeOf f) SEED
+  unfolding cat section off sizeOf sizes
+  before-seed = D .seeds .delta
+
+  seed-kept : at f SEED (area a) ≡ a .seed
+  unfolding at sec area section
+  seed-kept =
+      ap₂ (λ o m. take m (drop o (cat SECTIONS (section a)))) (sym before-seed) (sym (D .seeds .seed))
+      ∙ cat-part SECTIONS (section a) SEED (omega arith)
+
+  pub left : (code : ℕ) (w o : List ℕ) → code ≡ found a → code ≡ 0 → w ≡ cleared f inputs
+      → o ≡ toOthers (f .n) (f .i) (λ r. Toss.commMsg (at f SEED w) (f .i))
+      → outcome (record { party = f; due = 1 }) Accepted w o ≡ spec a
+  left code w o e z hw ho =
+      let h = hw ∙ filled in
+      ap₂ (λ (x y : List ℕ). outcome (record { party = f; due = 1 }) Accepted x y) h
+      (ho ∙ ap (λ (x : List ℕ). toOthers (f .n) (f .i) (λ r. Toss.commMsg x (f .i))) (ap (at f SEED) h ∙ seed-kept))
+      ∙ sym (accepts a code e z)
 
 -- `&mut w[o..]` left as zeros
-pub clears : (f : Frame) (o : ℕ) (z w : List ℕ) → o ≡ off (sizeOf f) EMPTY → o ≤ length w → length w ≡ workLen f
+pub clears : {f : Frame} {w : List ℕ} → Work f w → (o : ℕ) (z : List ℕ) → o ≡ off (sizeOf f) EMPTY → o ≤ length w
     → z ≡ replicate (length (get o (length w - o) w)) 0 → put o (length w - o) z w ≡ cleared f w
 unfolding cleared
-clears f o z w ho h whole hz =
+clears {f} {w} k o z ho h hz =
     let m : length (get o (length w - o) w) ≡ length w - o = length-get o (length w - o) w (omega arith) in
-    let e : z ≡ replicate (workLen f - off (sizeOf f) EMPTY) 0 = hz ∙ ap (λ k. replicate k 0) (m ∙ ap₂ _-_ whole ho) in
-    let r : drop (length w - o) (drop o w) ≡ [] = drop-of-length-le (drop o w) (let q : length (drop o w) ≤ length w - o = omega (arith, length-drop o w) in q) in
-    ap (λ (x : List ℕ). take o w ++ (z ++ x)) r ∙ ap (λ (x : List ℕ). take o w ++ x) (append-nil z ∙ e)
+    let e : z ≡ replicate (workLen f - off (sizeOf f) EMPTY) 0 = hz ∙ ap (λ k. replicate k 0) (m ∙ ap₂ _-_ (k .whole) ho) in
+    let q : length (drop o w) ≤ length w - o = omega (arith, length-drop o w) in
+    ap (λ (x : List ℕ). take o w ++ (z ++ x)) (drop-of-length-le (drop o w) q) ∙ ap (λ (x : List ℕ). take o w ++ x) (append-nil z ∙ e)
     ∙ ap (λ k. take k w ++ replicate (workLen f - off (sizeOf f) EMPTY) 0) ho
-
-pub empty-within : (f : Frame) → off (sizeOf f) EMPTY ≤ workLen f
-empty-within f = omega (arith, section-in f EMPTY (omega arith))
-
--- the layout goes by n and l
-any-party : (n l i : ℕ) (d s p m b x y w : List ℕ) → cleared (frame n l 0) (withLists (frame n l 0) b x y (withSeeds (frame n l 0) d s p m w))
-    ≡ cleared (frame n l i) (withLists (frame n l i) b x y (withSeeds (frame n l i) d s p m w))
-unfolding cleared withLists withSeeds keep workLen sizeOf sizes
-any-party n l i d s p m b x y w = refl
-
--- ---- opening, where it refuses nothing
-module _ (a : Args) (D : Due (a .party .n) (a .party .i) (a .party .l) (lens a)) where
-  pub seeds-given : Seeds (a .party .n) (a .party .l) (length (a .delta)) (length (a .seed)) (length (a .pairs)) (length (a .masks)) (length (a .work))
-  seeds-given = record { range = D .range; delta = D .delta; seed = D .seed; pairs = D .pairs; masks = D .masks; whole = D .work }
-
-  pub lists-given : Lists (a .party .n) (a .party .l) (length (a .bits)) (length (a .alpha)) (length (a .beta)) (length (a .work))
-  lists-given = record { range = D .range; bits = D .bits; alpha = D .alpha; beta = D .beta; whole = D .work }
-
-  pub out-given : length (a .out) ≡ (a .party .n - 1) * 40
-  unfolding msgLen listLen countDue kindOf
-  out-given = D .out
-
-  pub area-left : cleared (frame (a .party .n) (a .party .l) 0)
-      (withLists (frame (a .party .n) (a .party .l) 0) (a .bits) (a .alpha) (a .beta)
-      (withSeeds (frame (a .party .n) (a .party .l) 0) (a .delta) (a .seed) (a .pairs) (a .masks) (a .work)))
-      ≡ area a
-  area-left =
-      any-party (a .party .n) (a .party .l) (a .party .i) (a .delta) (a .seed) (a .pairs) (a .masks) (a .bits) (a .alpha) (a .beta) (a .work)
-      ∙ filled a (a .work) (D .work ∙ work-any (a .party .n) (a .party .l) 0 (a .party .i))
-      (D .delta) (D .seed) (D .pairs) (D .masks) (D .bits) (D .alpha) (D .beta)
-
-  pub left : (code : ℕ) (w o : List ℕ) → code ≡ found a → code ≡ 0
-      → w ≡ cleared (frame (a .party .n) (a .party .l) 0)
-      (withLists (frame (a .party .n) (a .party .l) 0) (a .bits) (a .alpha) (a .beta)
-      (withSeeds (frame (a .party .n) (a .party .l) 0) (a .delta) (a .seed) (a .pairs) (a .masks) (a .work)))
-      → o ≡ toOthers (a .party .n) (a .party .i) (λ r. Toss.commMsg (a .seed) (a .party .i))
-      → outcome (record { party = a .party; due = 1 }) Accepted w o ≡ spec a
-  left code w o e z hw ho =
-      ap₂ (λ (x y : List ℕ). outcome (record { party = a .party; due = 1 }) Accepted x y) (hw ∙ area-left) ho ∙ sym (accepts a code e z)

@@ -2,19 +2,20 @@
 use mathlib.Core.Bool.{Bool, true, _&&_}
 use mathlib.Core.List.{List, _++_}
 use mathlib.Core.Path.{_≡_}
-use Prim.Native.Nat.{ℕ, _+_, _-_, _*_, _<_}
+use Prim.Native.Nat.{ℕ, _+_, _-_, _*_}
 use lib.ListN.{length, getD, take, replicate}
-use lib.Dec.{ltb, leb, eqb}
+use lib.Dec.{leb, eqb}
 use Rattle.lists.specs.Pick.{pick}
 use Rattle.lists.specs.All.{allOf}
 use Rattle.algebra.specs.Sum.{neq}
-use Rattle.share.specs.Record.{recordLen, recordsFault}
-use Rattle.plan.specs.Plan.{InRange, leaky, bitsCount, inRange, parties?, bitsLen, sharesLen, pairsLen, masksLen, outLen}
+use Rattle.share.specs.Record.{recordsFault}
+use Rattle.plan.specs.Plan.{leaky, bitsCount, inRange, bitsLen, sharesLen, pairsLen, masksLen, outLen, msgLen}
 use Rattle.engine.specs.declared.Frame.{Frame}
 use Rattle.engine.specs.Step.{frame}
 use Rattle.engine.specs.Area.{off}
-use Rattle.rounds.specs.Area.{DELTA, SEED, PAIRS, MASKS, BITS, ALPHA, BETA, SECTIONS, sizeOf, workLen, keep}
+use Rattle.rounds.specs.Area.{DELTA, SEED, PAIRS, MASKS, BITS, ALPHA, BETA, COMMS, sizeOf, workLen, keep}
 use Rattle.rounds.specs.Opening.{Args, orFault, lengthsFault}
+use Rattle.area.specs.Given.{Ranged}
 pub use Rattle.opening.specs.declared.Lens.{Lens}
 
 abbrev pub args : ℕ → ℕ → ℕ → List ℕ → List ℕ → List ℕ → List ℕ → List ℕ → List ℕ → List ℕ → List ℕ → List ℕ → Args
@@ -47,34 +48,35 @@ lens a =
     }
 
 -- ---- by the numbers and the lengths. Where n or l is refused, the lengths due are 0; then 15, 16 or 3 stands before what they say.
-unfoldable pub lists? : ℕ → ℕ → ℕ → ℕ → ℕ → Bool
-lists? n l bits alpha beta = eqb bits (bitsLen n l) && eqb alpha (sharesLen n l) && eqb beta (sharesLen n l)
+unfoldable pub lists? : Frame → ℕ → ℕ → ℕ → Bool
+lists? f bits alpha beta =
+    eqb bits (bitsLen (f .n) (f .l)) && eqb alpha (sharesLen (f .n) (f .l)) && eqb beta (sharesLen (f .n) (f .l))
 
-unfoldable pub buffers? : ℕ → ℕ → Lens → Bool
-buffers? n l v =
-    eqb (v .delta) 16 && eqb (v .seed) 32 && eqb (v .pairs) (pairsLen n) && eqb (v .masks) (masksLen n l)
-    && eqb (v .work) (pick (inRange n l) (workLen (frame n l 0)) 0) && eqb (v .out) (outLen n l 0)
+unfoldable pub buffers? : Frame → Lens → Bool
+buffers? f v =
+    eqb (v .delta) 16 && eqb (v .seed) 32 && eqb (v .pairs) (pairsLen (f .n)) && eqb (v .masks) (masksLen (f .n) (f .l))
+    && eqb (v .work) (pick (inRange (f .n) (f .l)) (workLen f) 0) && eqb (v .out) (outLen (f .n) (f .l) 0)
 
 -- ---- by the bytes
 -- no byte of row k of the masks is above 1; the own row isn't looked at
-unfoldable pub row? : ℕ → ℕ → List ℕ → ℕ → Bool
-row? i l masks k = pick (neq i k) (allOf (leaky l) (λ t. leb (getD masks (k * leaky l + t) 0) 1)) true
+unfoldable pub row? : Frame → List ℕ → ℕ → Bool
+row? f masks k = pick (neq (f .i) k) (allOf (leaky (f .l)) (λ t. leb (getD masks (k * leaky (f .l) + t) 0) 1)) true
 
-unfoldable pub masks? : ℕ → ℕ → ℕ → List ℕ → Bool
-masks? n i l masks = allOf n (row? i l masks)
+unfoldable pub masks? : Frame → List ℕ → Bool
+masks? f masks = allOf (f .n) (row? f masks)
 
 -- 1 or 4
-unfoldable pub bytesOf : ℕ → ℕ → ℕ → List ℕ → List ℕ → List ℕ → List ℕ → ℕ
-bytesOf n i l bits alpha beta masks =
-    orFault (recordsFault n i bits (bitsCount l))
-    (orFault (recordsFault n i alpha l)
-    (orFault (recordsFault n i beta l)
-    (pick (masks? n i l masks) 0 1)))
+unfoldable pub bytesOf : Frame → List ℕ → List ℕ → List ℕ → List ℕ → ℕ
+bytesOf f bits alpha beta masks =
+    orFault (recordsFault (f .n) (f .i) bits (bitsCount (f .l)))
+    (orFault (recordsFault (f .n) (f .i) alpha (f .l))
+    (orFault (recordsFault (f .n) (f .i) beta (f .l))
+    (pick (masks? f masks) 0 1)))
 
 -- ---- the work area
 -- the first section that is no input
 abbrev pub EMPTY : ℕ
-EMPTY = 7
+EMPTY = COMMS
 
 -- zeros from there on
 unfoldable pub cleared : Frame → List ℕ → List ℕ
@@ -86,41 +88,29 @@ withSeeds f delta seed pairs masks w = keep f MASKS masks (keep f PAIRS pairs (k
 unfoldable pub withLists : Frame → List ℕ → List ℕ → List ℕ → List ℕ → List ℕ
 withLists f bits alpha beta w = keep f BETA beta (keep f ALPHA alpha (keep f BITS bits w))
 
--- section s takes so many bytes, and the work area is as long as it should
-pub record Room (n l s x w : ℕ) : Type 0 where
-  pub range : InRange n l
-  pub below : s < SECTIONS
-  pub long : x ≡ sizeOf (frame n l 0) s
-  pub whole : w ≡ workLen (frame n l 0)
-
--- delta, the seeds and the masks are as long as they should
-pub record Seeds (n l d s p m w : ℕ) : Type 0 where
-  pub range : InRange n l
-  pub delta : d ≡ 16
-  pub seed : s ≡ 32
-  pub pairs : p ≡ 32 * n
-  pub masks : m ≡ n * leaky l
-  pub whole : w ≡ workLen (frame n l 0)
+-- delta, the seeds and the masks are as long as their sections
+pub record Seeds (f : Frame) (d s p m : ℕ) : Type 0 where
+  pub delta : d ≡ sizeOf f DELTA
+  pub seed : s ≡ sizeOf f SEED
+  pub pairs : p ≡ sizeOf f PAIRS
+  pub masks : m ≡ sizeOf f MASKS
 
 -- the share lists are
-pub record Lists (n l b x y w : ℕ) : Type 0 where
-  pub range : InRange n l
-  pub bits : b ≡ bitsCount l * recordLen n
-  pub alpha : x ≡ l * recordLen n
-  pub beta : y ≡ l * recordLen n
-  pub whole : w ≡ workLen (frame n l 0)
+pub record Lists (f : Frame) (b x y : ℕ) : Type 0 where
+  pub bits : b ≡ sizeOf f BITS
+  pub alpha : x ≡ sizeOf f ALPHA
+  pub beta : y ≡ sizeOf f BETA
 
--- what the test of the bytes may lean on, by the lengths of the lists
-pub record Asked (n i l b x y m : ℕ) : Type 0 where
-  pub range : InRange n l
-  pub own : i < n
-  pub bits : b ≡ bitsCount l * recordLen n
-  pub alpha : x ≡ l * recordLen n
-  pub beta : y ≡ l * recordLen n
-  pub masks : m ≡ n * leaky l
+-- all is
+pub record Due (f : Frame) (v : Lens) : Type 0 where
+  pub ranges : Ranged f
+  pub seeds : Seeds f (v .delta) (v .seed) (v .pairs) (v .masks)
+  pub lists : Lists f (v .bits) (v .alpha) (v .beta)
+  pub work : v .work ≡ workLen f
+  pub out : v .out ≡ (f .n - 1) * msgLen (f .n) (f .l) 1
 
 -- the first reason, as the code finds it
 abbrev pub found : Args → ℕ
 found a =
-    orFault (lengthsFault (a .party) (length (a .bits)) (length (a .alpha)) (length (a .beta)) (buffers? (a .party .n) (a .party .l) (lens a)))
-    (bytesOf (a .party .n) (a .party .i) (a .party .l) (a .bits) (a .alpha) (a .beta) (a .masks))
+    orFault (lengthsFault (a .party) (length (a .bits)) (length (a .alpha)) (length (a .beta)) (buffers? (a .party) (lens a)))
+    (bytesOf (a .party) (a .bits) (a .alpha) (a .beta) (a .masks))

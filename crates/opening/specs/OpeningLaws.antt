@@ -3,24 +3,24 @@ use mathlib.Core.Path.{_≡_, refl, sym, ap, ap₂, _∙_}
 use mathlib.Core.Bool.{Bool, true, false, not, _&&_}
 use mathlib.Core.Logic.{_≢_}
 use mathlib.Core.List.{List}
-use Prim.Native.Nat.{ℕ, zero, suc, _+_, _-_, _*_, _<_}
+use Prim.Native.Nat.{ℕ, suc, _+_, _-_, _*_}
 use native.Mathlib.Omega.{arith}
 use lib.ListN.{length, getD}
 use lib.Dec.{ltb, leb, eqb}
 use borrow.Author.Tests.{eq-eqb, ne-eqb, eqb-true, eqb-false, leb-true, ltb-true}
 use Rattle.lists.specs.Pick.{pick, pick-then, pick-else}
-use Rattle.lists.specs.All.{allOf, true-false, all-turn}
+use Rattle.lists.specs.All.{allOf, all-turn, all-more, and-first, and-second}
 use Rattle.algebra.specs.Sum.{neq-true, neq-self}
-use Rattle.share.specs.Record.{recordLen}
-use Rattle.plan.specs.Plan.{InRange, parties?, inRange, leaky, bitsCount, outLen, msgLen}
+use Rattle.plan.specs.Plan.{InRange, parties?, inRange, leaky, outLen, msgLen}
 use Rattle.plan.specs.PlanLaws.{in-range, bits-len, shares-len, masks-len, pairs-len, out-len, order-first}
-use Rattle.engine.specs.Step.{frame, Accepted, Refused, outcome}
+use Rattle.engine.specs.declared.Frame.{Frame}
+use Rattle.engine.specs.Step.{Accepted, Refused, outcome}
 use Rattle.engine.specs.Area.{toOthers}
-use Rattle.rounds.specs.Area.{workLen}
+use Rattle.rounds.specs.Area.{sizes, sizeOf, workLen}
 use Rattle.rounds.specs.Opening.{Args, orFault, listsDue, buffersDue, masksFault, bytesFault, lengthsFault, reason, area, spec}
 use Rattle.rounds.specs.Toss as Toss
-use Rattle.area.specs.AreaLaws.{work-any}
-use Rattle.opening.specs.Given.{Lens, lens, found, lists?, buffers?, row?, masks?, bytesOf, Asked}
+use Rattle.area.specs.Given.{Ranged}
+use Rattle.opening.specs.Given.{Lens, lens, found, lists?, buffers?, row?, masks?, bytesOf, Due}
 
 -- ---- a chain of reasons
 or-none : (x y : ℕ) → orFault x y ≡ 0 → (x ≡ 0) × (y ≡ 0)
@@ -42,113 +42,37 @@ or-right x y h = rw (eq-eqb x 0 h) refl
 not-zero : (k : ℕ) → _≡_ {A = ℕ} (suc k) 0 → ⊥
 not-zero k e = omega arith
 
-and-left : (p q : Bool) → (p && q) ≡ true → p ≡ true
-and-left true q e = refl
-and-left false q e = e
-
-and-right : (p q : Bool) → (p && q) ≡ true → q ≡ true
-and-right true q e = e
-and-right false q e = absurd (true-false (sym e))
-
 and-true : (b : Bool) → b ≡ (b && true)
 and-true true = refl
 and-true false = refl
 
 and-3 : (p q r : Bool) → (p && q && r) ≡ true → (p ≡ true) × (q ≡ true) × (r ≡ true)
-and-3 p q r e = let d = and-left (p && q) r e in (and-left p q d, and-right p q d, and-right (p && q) r e)
+and-3 p q r e = let d = and-first (p && q) r e in (and-first p q d, and-second p q d, and-second (p && q) r e)
 
 and-6 : (p q r s t u : Bool) → (p && q && r && s && t && u) ≡ true
     → (p ≡ true) × (q ≡ true) × (r ≡ true) × (s ≡ true) × (t ≡ true) × (u ≡ true)
 and-6 p q r s t u e =
     let a = and-3 (p && q && r && s) t u e in
     let b = and-3 (p && q) r s (a .0) in
-    (and-left p q (b .0), and-right p q (b .0), b .1, b .2, a .1, a .2)
-
--- one test more, all looked at
-pub all-more : (f : ℕ → Bool) (t : ℕ) (good b : Bool) → good ≡ allOf t f → b ≡ f t → (good && b) ≡ allOf (t + 1) f
-all-more f t good b h e = ap₂ _&&_ h e ∙ sym (all-turn t f)
+    (and-first p q (b .0), and-second p q (b .0), b .1, b .2, a .1, a .2)
 
 -- ---- the rows of the masks
-module _ (i l : ℕ) (masks : List ℕ) (k : ℕ) (good : Bool) (h : good ≡ allOf k (row? i l masks)) where
-  pub row-other : (count : ℕ) (r : Bool) → i ≢ k → count ≡ leaky l → r ≡ allOf count (λ t. leb (getD masks (k * count + t) 0) 1)
-      → (good && r) ≡ allOf (k + 1) (row? i l masks)
+module _ (f : Frame) (masks : List ℕ) (k : ℕ) (good : Bool) (h : good ≡ allOf k (row? f masks)) where
+  pub row-other : (count : ℕ) (r : Bool) → f .i ≢ k → count ≡ leaky (f .l) → r ≡ allOf count (λ t. leb (getD masks (k * count + t) 0) 1)
+      → (good && r) ≡ allOf (k + 1) (row? f masks)
   unfolding row?
   row-other count r ne e hr =
-      all-more (row? i l masks) k good r h
-      (hr ∙ ap (λ m. allOf m (λ t. leb (getD masks (k * m + t) 0) 1)) e ∙ rw (neq-true i k ne) refl)
+      all-more (row? f masks) k good r h
+      (hr ∙ ap (λ m. allOf m (λ t. leb (getD masks (k * m + t) 0) 1)) e ∙ rw (neq-true (f .i) k ne) refl)
 
-  pub row-own : i ≡ k → good ≡ allOf (k + 1) (row? i l masks)
+  pub row-own : f .i ≡ k → good ≡ allOf (k + 1) (row? f masks)
   unfolding row?
   row-own e =
-      let own : true ≡ row? i l masks k = rw (e, neq-self k) refl in
-      h ∙ and-true (allOf k (row? i l masks)) ∙ ap (λ b. allOf k (row? i l masks) && b) own ∙ sym (all-turn k (row? i l masks))
-
--- ---- what stands behind the tests of the numbers and the lengths
-module _ (n i l : ℕ) (v : Lens) where
-  pub record Due : Type 0 where
-    pub range : InRange n l
-    pub own : i < n
-    pub bits : v .bits ≡ bitsCount l * recordLen n
-    pub alpha : v .alpha ≡ l * recordLen n
-    pub beta : v .beta ≡ l * recordLen n
-    pub delta : v .delta ≡ 16
-    pub seed : v .seed ≡ 32
-    pub pairs : v .pairs ≡ 32 * n
-    pub masks : v .masks ≡ n * leaky l
-    pub work : v .work ≡ workLen (frame n l 0)
-    pub out : v .out ≡ (n - 1) * msgLen n l 1
-
-  out-due : InRange n l → outLen n l 0 ≡ (n - 1) * msgLen n l 1
-  out-due r = out-len n l r 0 (omega arith) refl ∙ ap (λ k. (n - 1) * msgLen n l k) (order-first n)
-
-  work-due : InRange n l → pick (inRange n l) (workLen (frame n l 0)) 0 ≡ workLen (frame n l 0)
-  work-due r = rw (in-range n l r) refl
-
-  pub due-of : lengthsFault (frame n l i) (v .bits) (v .alpha) (v .beta) (buffers? n l v) ≡ 0 → Due
-  unfolding lengthsFault listsDue buffers?
-  due-of h =
-      let e15 = pick-then (leb 2 n && leb n 8 && ltb i n) _ _ _ (not-zero 14) h in
-      let e16 = pick-then (leb l 300000) _ _ _ (not-zero 15) (e15 .1) in
-      let e3 = pick-else (eqb l 0) _ _ _ (not-zero 2) (e16 .1) in
-      let e6 = pick-then (listsDue (frame n l i) (v .bits) (v .alpha) (v .beta)) _ _ _ (not-zero 5) (e3 .1) in
-      let e17 = pick-then (buffers? n l v) _ _ _ (not-zero 16) (e6 .1) in
-      let p = and-3 (leb 2 n) (leb n 8) (ltb i n) (e15 .0) in
-      let r : InRange n l =
-      record { two = leb-true 2 n (p .0); eight = leb-true n 8 (p .1); one = omega (arith, eqb-false l 0 (e3 .0)); most = leb-true l 300000 (e16 .0) } in
-      let s = and-3 _ _ _ (e6 .0) in
-      let b = and-6 _ _ _ _ _ _ (e17 .0) in
-      record {
-        range = r;
-        own = ltb-true i n (p .2);
-        bits = eqb-true _ _ (s .0);
-        alpha = eqb-true _ _ (s .1);
-        beta = eqb-true _ _ (s .2);
-        delta = eqb-true _ _ (b .0);
-        seed = eqb-true _ _ (b .1);
-        pairs = eqb-true _ _ (b .2) ∙ pairs-len n l r;
-        masks = eqb-true _ _ (b .3) ∙ masks-len n l r;
-        work = eqb-true _ _ (b .4) ∙ work-due r;
-        out = eqb-true _ _ (b .5) ∙ out-due r;
-      }
-
-  pub asked-of : (b x y m : ℕ) → v .bits ≡ b → v .alpha ≡ x → v .beta ≡ y → v .masks ≡ m → Due → Asked n i l b x y m
-  asked-of b x y m hb hx hy hm d =
-      record {
-        range = d .range;
-        own = d .own;
-        bits = sym hb ∙ d .bits;
-        alpha = sym hx ∙ d .alpha;
-        beta = sym hy ∙ d .beta;
-        masks = sym hm ∙ d .masks;
-      }
+      let own : true ≡ row? f masks k = rw (e, neq-self k) refl in
+      h ∙ and-true (allOf k (row? f masks)) ∙ ap (λ b. allOf k (row? f masks) && b) own ∙ sym (all-turn k (row? f masks))
 
 -- ---- the chain of the definition
 -- p: n and i are in range; m: l is at most 300000; z: l is 0. What stands behind these tests may lean on them.
-in-chain : (n i l : ℕ) → (leb 2 n && leb n 8 && ltb i n) ≡ true → leb l 300000 ≡ true → eqb l 0 ≡ false → InRange n l
-in-chain n i l p m z =
-    let q = and-3 (leb 2 n) (leb n 8) (ltb i n) p in
-    record { two = leb-true 2 n (q .0); eight = leb-true n 8 (q .1); one = omega (arith, eqb-false l 0 z); most = leb-true l 300000 m }
-
 abbrev chain? : Bool → Bool → Bool → Bool → Bool → ℕ
 chain? p m z lists rest = pick p (pick m (pick z 3 (pick lists (pick rest 0 17) 6)) 16) 15
 
@@ -169,31 +93,81 @@ chained true true true lists rest = refl
 chained true true false false rest = refl
 chained true true false true rest = refl
 
--- the tests of the numbers and of the lengths, one after another
-pub tested : (n i l bits alpha beta : ℕ) (rest : Bool)
-    → orFault (pick (parties? n && ltb i n) 0 15) (orFault (pick (leb l 300000) 0 16) (orFault (pick (not (eqb l 0)) 0 3)
-    (orFault (pick (lists? n l bits alpha beta) 0 6) (pick rest 0 17)))) ≡ lengthsFault (frame n l i) bits alpha beta rest
-unfolding lengthsFault listsDue lists? parties?
-tested n i l bits alpha beta rest =
-    chained (leb 2 n && leb n 8 && ltb i n) (leb l 300000) (eqb l 0) (lists? n l bits alpha beta) rest
-    ∙ chain (leb 2 n && leb n 8 && ltb i n) (leb l 300000) (eqb l 0) (lists? n l bits alpha beta) (listsDue (frame n l i) bits alpha beta) rest rest
-    (λ p m z. let r = in-chain n i l p m z in (rw (bits-len n l r, shares-len n l r) refl, refl))
-
-module _ (a : Args) where
+-- ---- what stands behind the tests of the numbers and the lengths
+module _ (f : Frame) where
   abbrev n : ℕ
-  n = a .party .n
+  n = f .n
 
   abbrev i : ℕ
-  i = a .party .i
+  i = f .i
 
   abbrev l : ℕ
-  l = a .party .l
+  l = f .l
 
-  buffers-same : InRange n l → buffersDue a ≡ buffers? n l (lens a)
+  -- n and i are in range, l is at most 300000 and isn't 0
+  in-chain : (leb 2 n && leb n 8 && ltb i n) ≡ true → leb l 300000 ≡ true → eqb l 0 ≡ false → Ranged f
+  in-chain p m z =
+      let q = and-3 (leb 2 n) (leb n 8) (ltb i n) p in
+      record {
+        own = ltb-true i n (q .2);
+        range = record {
+          two = leb-true 2 n (q .0);
+          eight = leb-true n 8 (q .1);
+          one = omega (arith, eqb-false l 0 z);
+          most = leb-true l 300000 m;
+        };
+      }
+
+  out-due : InRange n l → outLen n l 0 ≡ (n - 1) * msgLen n l 1
+  out-due r = out-len n l r 0 (omega arith) refl ∙ ap (λ k. (n - 1) * msgLen n l k) (order-first n)
+
+  work-due : InRange n l → pick (inRange n l) (workLen f) 0 ≡ workLen f
+  work-due r = rw (in-range n l r) refl
+
+  pub due-of : (v : Lens) → lengthsFault f (v .bits) (v .alpha) (v .beta) (buffers? f v) ≡ 0 → Due f v
+  unfolding lengthsFault listsDue buffers? sizeOf sizes
+  due-of v h =
+      let e15 = pick-then (leb 2 n && leb n 8 && ltb i n) _ _ _ (not-zero 14) h in
+      let e16 = pick-then (leb l 300000) _ _ _ (not-zero 15) (e15 .1) in
+      let e3 = pick-else (eqb l 0) _ _ _ (not-zero 2) (e16 .1) in
+      let e6 = pick-then (listsDue f (v .bits) (v .alpha) (v .beta)) _ _ _ (not-zero 5) (e3 .1) in
+      let e17 = pick-then (buffers? f v) _ _ _ (not-zero 16) (e6 .1) in
+      let k = in-chain (e15 .0) (e16 .0) (e3 .0) in
+      let r = k .range in
+      let s = and-3 _ _ _ (e6 .0) in
+      let b = and-6 _ _ _ _ _ _ (e17 .0) in
+      record {
+        ranges = k;
+        lists = record { bits = eqb-true _ _ (s .0); alpha = eqb-true _ _ (s .1); beta = eqb-true _ _ (s .2) };
+        seeds = record {
+          delta = eqb-true _ _ (b .0);
+          seed = eqb-true _ _ (b .1);
+          pairs = eqb-true _ _ (b .2) ∙ pairs-len n l r;
+          masks = eqb-true _ _ (b .3) ∙ masks-len n l r;
+        };
+        work = eqb-true _ _ (b .4) ∙ work-due r;
+        out = eqb-true _ _ (b .5) ∙ out-due r;
+      }
+
+  -- the tests of the numbers and of the lengths, one after another
+  pub tested : (bits alpha beta : ℕ) (rest : Bool)
+      → orFault (pick (parties? n && ltb i n) 0 15) (orFault (pick (leb l 300000) 0 16) (orFault (pick (not (eqb l 0)) 0 3)
+      (orFault (pick (lists? f bits alpha beta) 0 6) (pick rest 0 17)))) ≡ lengthsFault f bits alpha beta rest
+  unfolding lengthsFault listsDue lists? parties?
+  tested bits alpha beta rest =
+      chained (leb 2 n && leb n 8 && ltb i n) (leb l 300000) (eqb l 0) (lists? f bits alpha beta) rest
+      ∙ chain (leb 2 n && leb n 8 && ltb i n) (leb l 300000) (eqb l 0) (lists? f bits alpha beta) (listsDue f bits alpha beta) rest rest
+      (λ p m z. let r = in-chain p m z .range in (rw (bits-len n l r, shares-len n l r) refl, refl))
+
+module _ (a : Args) where
+  abbrev f : Frame
+  f = a .party
+
+  buffers-same : InRange (f .n) (f .l) → buffersDue a ≡ buffers? f (lens a)
   unfolding buffersDue buffers?
-  buffers-same r = rw (pairs-len n l r, masks-len n l r, work-due n i l (lens a) r, out-due n i l (lens a) r, work-any n l 0 i) refl
+  buffers-same r = rw (pairs-len (f .n) (f .l) r, masks-len (f .n) (f .l) r, work-due f r, out-due f r) refl
 
-  bytes-same : bytesFault a ≡ bytesOf n i l (a .bits) (a .alpha) (a .beta) (a .masks)
+  bytes-same : bytesFault a ≡ bytesOf f (a .bits) (a .alpha) (a .beta) (a .masks)
   unfolding bytesFault masksFault bytesOf masks? row?
   bytes-same = refl
 
@@ -201,23 +175,24 @@ module _ (a : Args) where
   unfolding reason lengthsFault
   reason-found =
       ap₂ orFault
-      (chain (leb 2 n && leb n 8 && ltb i n) (leb l 300000) (eqb l 0) (listsDue (a .party) (length (a .bits)) (length (a .alpha)) (length (a .beta))) _
-      (buffersDue a) (buffers? n l (lens a)) (λ p m z. (refl, buffers-same (in-chain n i l p m z))))
+      (chain (leb 2 (f .n) && leb (f .n) 8 && ltb (f .i) (f .n)) (leb (f .l) 300000) (eqb (f .l) 0)
+      (listsDue f (length (a .bits)) (length (a .alpha)) (length (a .beta))) _
+      (buffersDue a) (buffers? f (lens a)) (λ p m z. (refl, buffers-same (in-chain f p m z .range))))
       bytes-same
 
   -- it is refused
   pub refuses : (code : ℕ) → code ≡ found a → code ≢ 0
-      → outcome (record { party = a .party; due = 0 }) (Refused code i) (a .work) (a .out) ≡ spec a
+      → outcome (record { party = f; due = 0 }) (Refused code (f .i)) (a .work) (a .out) ≡ spec a
   unfolding spec
   refuses code e h =
       let q : code ≡ reason a = e ∙ sym reason-found in
-      rw (ne-eqb (reason a) 0 (λ z. h (q ∙ z))) (ap (λ k. outcome (record { party = a .party; due = 0 }) (Refused k i) (a .work) (a .out)) q)
+      rw (ne-eqb (reason a) 0 (λ z. h (q ∙ z))) (ap (λ k. outcome (record { party = f; due = 0 }) (Refused k (f .i)) (a .work) (a .out)) q)
 
   -- it is not
   pub accepts : (code : ℕ) → code ≡ found a → code ≡ 0
-      → spec a ≡ outcome (record { party = a .party; due = 1 }) Accepted (area a) (toOthers n i (λ r. Toss.commMsg (a .seed) i))
+      → spec a ≡ outcome (record { party = f; due = 1 }) Accepted (area a) (toOthers (f .n) (f .i) (λ r. Toss.commMsg (a .seed) (f .i)))
   unfolding spec
   accepts code e h = rw (eq-eqb (reason a) 0 (reason-found ∙ sym e ∙ h)) refl
 
-  pub due : (code : ℕ) → code ≡ found a → code ≡ 0 → Due n i l (lens a)
-  due code e h = due-of n i l (lens a) (or-none _ _ (sym e ∙ h) .0)
+  pub due : (code : ℕ) → code ≡ found a → code ≡ 0 → Due f (lens a)
+  due code e h = due-of f (lens a) (or-none _ _ (sym e ∙ h) .0)

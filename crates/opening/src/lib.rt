@@ -1,39 +1,24 @@
-// Opening a session (document 01, "The call"): what is refused, what is kept of the inputs, and the first messages. The definition stands in
-// crates/rounds (Opening). Secret bytes decide nothing but a refusal: bit bytes, own entries and mask bytes (1, 4).
+// Opening a session (document 01, "The call"): what is refused, what is kept of the inputs, and the first messages. The definition
+// stands in crates/rounds (Opening). Secret bytes decide nothing but a refusal: bit bytes, own entries and mask bytes (1, 4).
 ghost use mathlib.Core.Path.{_≡_};
-ghost use Prim.Native.Nat.{_+_, _*_, _≤_};
+ghost use Prim.Native.Nat.{_+_, _*_, _≤_, _<_};
 ghost use lib.ListN.{length, getD};
 ghost use lib.Dec.{leb};
 ghost use Rattle.lists.specs.All.{allOf};
 ghost use Rattle.lists.specs.Pick.{pick};
-ghost use Rattle.plan.specs.Plan as Plan;
-ghost use Rattle.plan.specs.Plan.{InRange};
-ghost use Rattle.engine.specs.Step.{frame, replyOf, outcome};
-ghost use Rattle.rounds.specs.Area.{workLen, keep};
+ghost use Rattle.engine.specs.Step.{replyOf, outcome};
+ghost use Rattle.rounds.specs.Area.{MASKS, SECTIONS, sizeOf, keep};
 ghost use Rattle.rounds.specs.Opening as Opening;
 ghost use Rattle.rounds.specs.Opening.{orFault, lengthsFault};
-ghost use Rattle.opening.specs.Given.{args, lists?, buffers?, masks?, bytesOf, cleared, withSeeds, withLists, Room, Seeds, Lists, Asked};
+ghost use Rattle.area.specs.Given.{Ranged, Work};
+ghost use Rattle.opening.specs.Given.{args, lists?, buffers?, masks?, bytesOf, cleared, withSeeds, withLists, Seeds, Lists};
 use engine::Answer;
 use engine::Frame;
 use engine::Session;
 use engine::Verdict;
 
-// Sections of the work area. What holds no input starts at EMPTY.
-const DELTA: usize = 0;
-
-const SEED: usize = 1;
-
-const PAIRS: usize = 2;
-
-const MASKS: usize = 3;
-
-const BITS: usize = 4;
-
-const ALPHA: usize = 5;
-
-const BETA: usize = 6;
-
-const EMPTY: usize = 7;
+// The first section that holds no input.
+const EMPTY: usize = area::COMMS;
 
 // ---- what is refused
 
@@ -65,17 +50,21 @@ fn first(a: u8, b: u8) -> u8
 }
 
 // Whether the share lists are as long as they should.
-fn lists_due(n: usize, l: usize, bits: usize, alpha: usize, beta: usize) -> bool
-    ensures { λ r. ⌜ r ≡ lists? n l bits alpha beta ⌝ }
+fn lists_due(f: Frame, bits: usize, alpha: usize, beta: usize) -> bool
+    ensures { λ r. ⌜ r ≡ lists? f bits alpha beta ⌝ }
 {
+    let n = f.n;
+    let l = f.l;
     let shares = plan::shares_len(n, l);
     (bits == plan::bits_len(n, l)) & (alpha == shares) & (beta == shares)
 }
 
 // Whether all else that is lent is.
-fn buffers_due(n: usize, l: usize, v: Lens) -> bool
-    ensures { λ r. ⌜ r ≡ buffers? n l v ⌝ }
+fn buffers_due(f: Frame, v: Lens) -> bool
+    ensures { λ r. ⌜ r ≡ buffers? f v ⌝ }
 {
+    let n = f.n;
+    let l = f.l;
     (v.delta == 16)
         & (v.seed == 32)
         & (v.pairs == plan::pairs_len(n))
@@ -84,23 +73,18 @@ fn buffers_due(n: usize, l: usize, v: Lens) -> bool
         & (v.out == plan::out_len(n, l, 0))
 }
 
-// The first reason that the numbers and the lengths give, 15, 16, 3, 6, 17, by the lengths of the share lists and whether the rest is as long as it should.
-// Where n or l is refused, the lengths due mean nothing.
-pub fn lengths_fault(
-    n: usize,
-    i: usize,
-    l: usize,
-    bits: usize,
-    alpha: usize,
-    beta: usize,
-    rest: bool,
-) -> u8
-    ensures { λ r. ⌜ r ≡ lengthsFault (frame n l i) bits alpha beta rest ⌝ }
+// The first reason that the numbers and the lengths give, 15, 16, 3, 6, 17, by the lengths of the share lists and whether the rest is
+// as long as it should. Where n or l is refused, the lengths due mean nothing.
+pub fn lengths_fault(f: Frame, bits: usize, alpha: usize, beta: usize, rest: bool) -> u8
+    ensures { λ r. ⌜ r ≡ lengthsFault f bits alpha beta rest ⌝ }
 {
+    let n = f.n;
+    let i = f.i;
+    let l = f.l;
     let party = unless(plan::parties(n) & (i < n), 15);
     let most = unless(l <= 300000, 16);
     let some = unless(l != 0, 3);
-    let lists = unless(lists_due(n, l, bits, alpha, beta), 6);
+    let lists = unless(lists_due(f, bits, alpha, beta), 6);
     let buffers = unless(rest, 17);
     first(party, first(most, first(some, first(lists, buffers))))
 }
@@ -120,10 +104,13 @@ fn row_good(masks: &[u8], at: usize, count: usize) -> bool
 }
 
 // Whether all mask bytes are, the own row left out.
-fn masks_good(masks: &[u8], n: usize, i: usize, l: usize) -> bool
-    requires { ⌜ (l ≤ 300000) × (length (now masks) ≡ n * Plan.leaky l) ⌝ }
-    ensures { λ r. ⌜ r ≡ masks? n i l (now (masks .entry)) ⌝ }
+fn masks_good(masks: &[u8], f: Frame) -> bool
+    requires { ⌜ (Ranged f) × (length (now masks) ≡ sizeOf f MASKS) ⌝ }
+    ensures { λ r. ⌜ r ≡ masks? f (now (masks .entry)) ⌝ }
 {
+    let n = f.n;
+    let i = f.i;
+    let l = f.l;
     let count = plan::leaky(l);
     let mut good = true;
     let mut k = 0;
@@ -137,95 +124,77 @@ fn masks_good(masks: &[u8], n: usize, i: usize, l: usize) -> bool
 }
 
 // The first reason that the lent bytes give: bits, alpha, beta, then masks.
-fn bytes_fault(
-    n: usize,
-    i: usize,
-    l: usize,
-    bits: &[u8],
-    alpha: &[u8],
-    beta: &[u8],
-    masks: &[u8],
-) -> u8
-    requires { ⌜ Asked n i l (length (now bits)) (length (now alpha)) (length (now beta)) (length (now masks)) ⌝ }
-    ensures { λ r. ⌜ r ≡ bytesOf n i l (now (bits .entry)) (now (alpha .entry)) (now (beta .entry)) (now (masks .entry)) ⌝ }
+fn bytes_fault(f: Frame, bits: &[u8], alpha: &[u8], beta: &[u8], masks: &[u8]) -> u8
+    requires { ⌜ (Ranged f) × Lists f (length (now bits)) (length (now alpha)) (length (now beta))
+        × (length (now masks) ≡ sizeOf f MASKS) ⌝ }
+    ensures { λ r. ⌜ r ≡ bytesOf f (now (bits .entry)) (now (alpha .entry)) (now (beta .entry)) (now (masks .entry)) ⌝ }
 {
+    let n = f.n;
+    let i = f.i;
+    let l = f.l;
     let b = share::check_records(bits, n, i, plan::bits_count(l));
     let x = share::check_records(alpha, n, i, l);
     let y = share::check_records(beta, n, i, l);
-    let m = unless(masks_good(masks, n, i, l), 1);
+    let m = unless(masks_good(masks, f), 1);
     first(b, first(x, first(y, m)))
 }
 
 // The first reason to refuse, 0 for none.
-fn reason(
-    n: usize,
-    i: usize,
-    l: usize,
-    v: Lens,
-    bits: &[u8],
-    alpha: &[u8],
-    beta: &[u8],
-    masks: &[u8],
-) -> u8
-    requires { ⌜ (v .bits ≡ length (now bits)) × (v .alpha ≡ length (now alpha)) × (v .beta ≡ length (now beta)) × (v .masks ≡ length (now masks)) ⌝ }
-    ensures { λ r. ⌜ r ≡ orFault (lengthsFault (frame n l i) (v .bits) (v .alpha) (v .beta) (buffers? n l v))
-        (bytesOf n i l (now (bits .entry)) (now (alpha .entry)) (now (beta .entry)) (now (masks .entry))) ⌝ }
+fn reason(f: Frame, v: Lens, bits: &[u8], alpha: &[u8], beta: &[u8], masks: &[u8]) -> u8
+    requires { ⌜ (v .bits ≡ length (now bits)) × (v .alpha ≡ length (now alpha)) × (v .beta ≡ length (now beta))
+        × (v .masks ≡ length (now masks)) ⌝ }
+    ensures { λ r. ⌜ r ≡ orFault (lengthsFault f (v .bits) (v .alpha) (v .beta) (buffers? f v))
+        (bytesOf f (now (bits .entry)) (now (alpha .entry)) (now (beta .entry)) (now (masks .entry))) ⌝ }
 {
-    let code = lengths_fault(n, i, l, v.bits, v.alpha, v.beta, buffers_due(n, l, v));
+    let code = lengths_fault(f, v.bits, v.alpha, v.beta, buffers_due(f, v));
     if code != 0 {
         return code;
     }
-    bytes_fault(n, i, l, bits, alpha, beta, masks)
+    bytes_fault(f, bits, alpha, beta, masks)
 }
 
 // ---- what is kept
 
 // x as section s of the work area.
-fn put_section(work: &mut [u8], x: &[u8], n: usize, l: usize, s: usize)
-    requires { ⌜ Room n l s (length (now x)) (length (now work)) ⌝ }
-    ensures { λ _. ⌜ now (work .exit) ≡ keep (frame n l 0) s (now (x .entry)) (now (work .entry)) ⌝ }
+fn put_section(work: &mut [u8], x: &[u8], f: Frame, s: usize)
+    requires { ⌜ (Work f (now work)) × (s < SECTIONS) × (length (now x) ≡ sizeOf f s) ⌝ }
+    ensures { λ _. ⌜ now (work .exit) ≡ keep f s (now (x .entry)) (now (work .entry)) ⌝ }
 {
-    let a = area::section_at(n, l, s);
-    let e = a + x.len();
+    let p = area::place(f, s);
+    let a = p.0;
+    let e = p.1;
     fill::copy(&mut work[a..e], x);
 }
 
 // Zeros from the first section on that is no input.
-fn clear_rest(work: &mut [u8], n: usize, l: usize)
-    requires { ⌜ InRange n l × (length (now work) ≡ workLen (frame n l 0)) ⌝ }
-    ensures { λ _. ⌜ now (work .exit) ≡ cleared (frame n l 0) (now (work .entry)) ⌝ }
+fn clear_rest(work: &mut [u8], f: Frame)
+    requires { ⌜ Work f (now work) ⌝ }
+    ensures { λ _. ⌜ now (work .exit) ≡ cleared f (now (work .entry)) ⌝ }
 {
-    let a = area::section_at(n, l, EMPTY);
+    let a = area::section_at(f, EMPTY);
     fill::clear(&mut work[a..]);
 }
 
 // Delta, the seeds and the masks.
-fn put_seeds(
-    work: &mut [u8],
-    delta: &[u8],
-    seed: &[u8],
-    pairs: &[u8],
-    masks: &[u8],
-    n: usize,
-    l: usize,
-)
-    requires { ⌜ Seeds n l (length (now delta)) (length (now seed)) (length (now pairs)) (length (now masks)) (length (now work)) ⌝ }
-    ensures { λ _. ⌜ now (work .exit) ≡ withSeeds (frame n l 0) (now (delta .entry)) (now (seed .entry)) (now (pairs .entry)) (now (masks .entry)) (now (work .entry)) ⌝ }
+fn put_seeds(work: &mut [u8], delta: &[u8], seed: &[u8], pairs: &[u8], masks: &[u8], f: Frame)
+    requires { ⌜ (Work f (now work)) × Seeds f (length (now delta)) (length (now seed)) (length (now pairs)) (length (now masks)) ⌝ }
+    ensures { λ _. ⌜ now (work .exit) ≡ withSeeds f (now (delta .entry)) (now (seed .entry)) (now (pairs .entry)) (now (masks .entry))
+        (now (work .entry)) ⌝ }
 {
-    put_section(work, delta, n, l, DELTA);
-    put_section(work, seed, n, l, SEED);
-    put_section(work, pairs, n, l, PAIRS);
-    put_section(work, masks, n, l, MASKS);
+    put_section(work, delta, f, area::DELTA);
+    put_section(work, seed, f, area::SEED);
+    put_section(work, pairs, f, area::PAIRS);
+    put_section(work, masks, f, area::MASKS);
 }
 
 // The share lists.
-fn put_lists(work: &mut [u8], bits: &[u8], alpha: &[u8], beta: &[u8], n: usize, l: usize)
-    requires { ⌜ Lists n l (length (now bits)) (length (now alpha)) (length (now beta)) (length (now work)) ⌝ }
-    ensures { λ _. ⌜ now (work .exit) ≡ withLists (frame n l 0) (now (bits .entry)) (now (alpha .entry)) (now (beta .entry)) (now (work .entry)) ⌝ }
+fn put_lists(work: &mut [u8], bits: &[u8], alpha: &[u8], beta: &[u8], f: Frame)
+    requires { ⌜ (Work f (now work)) × Lists f (length (now bits)) (length (now alpha)) (length (now beta)) ⌝ }
+    ensures { λ _. ⌜ now (work .exit) ≡ withLists f (now (bits .entry)) (now (alpha .entry)) (now (beta .entry)) (now (work .entry)) ⌝ }
 {
-    put_section(work, bits, n, l, BITS);
-    put_section(work, alpha, n, l, ALPHA);
-    put_section(work, beta, n, l, BETA);
+    put_section(work, bits, f, area::BITS);
+    put_section(work, alpha, f, area::ALPHA);
+    put_section(work, beta, f, area::BETA);
 }
 
 // The inputs, and zeros behind them.
@@ -238,17 +207,16 @@ fn fill(
     alpha: &[u8],
     beta: &[u8],
     masks: &[u8],
-    n: usize,
-    l: usize,
+    f: Frame,
 )
-    requires { ⌜ Seeds n l (length (now delta)) (length (now seed)) (length (now pairs)) (length (now masks)) (length (now work)) ⌝ }
-    requires { ⌜ Lists n l (length (now bits)) (length (now alpha)) (length (now beta)) (length (now work)) ⌝ }
-    ensures { λ _. ⌜ now (work .exit) ≡ cleared (frame n l 0) (withLists (frame n l 0) (now (bits .entry)) (now (alpha .entry)) (now (beta .entry))
-        (withSeeds (frame n l 0) (now (delta .entry)) (now (seed .entry)) (now (pairs .entry)) (now (masks .entry)) (now (work .entry)))) ⌝ }
+    requires { ⌜ (Work f (now work)) × Seeds f (length (now delta)) (length (now seed)) (length (now pairs)) (length (now masks)) ⌝ }
+    requires { ⌜ Lists f (length (now bits)) (length (now alpha)) (length (now beta)) ⌝ }
+    ensures { λ _. ⌜ now (work .exit) ≡ cleared f (withLists f (now (bits .entry)) (now (alpha .entry)) (now (beta .entry))
+        (withSeeds f (now (delta .entry)) (now (seed .entry)) (now (pairs .entry)) (now (masks .entry)) (now (work .entry)))) ⌝ }
 {
-    put_seeds(work, delta, seed, pairs, masks, n, l);
-    put_lists(work, bits, alpha, beta, n, l);
-    clear_rest(work, n, l);
+    put_seeds(work, delta, seed, pairs, masks, f);
+    put_lists(work, bits, alpha, beta, f);
+    clear_rest(work, f);
 }
 
 // Opens a session: document 01, "The call". A refused opening leaves the work area and the outgoing buffer as they were.
@@ -281,24 +249,18 @@ pub fn open(
         work: work.len(),
         out: out.len(),
     };
-    let party = Frame { n: n, i: i, l: l };
-    let code = reason(n, i, l, v, bits, alpha, beta, masks);
+    let f = Frame { n: n, i: i, l: l };
+    let code = reason(f, v, bits, alpha, beta, masks);
     if code != 0 {
         return Answer {
-            session: Session {
-                party: party,
-                due: 0,
-            },
+            session: Session { party: f, due: 0 },
             verdict: Verdict::Refused(code, i),
         };
     }
-    fill(work, delta, seed, pairs, bits, alpha, beta, masks, n, l);
-    toss::write_commitments(out, seed, n, i);
+    fill(work, delta, seed, pairs, bits, alpha, beta, masks, f);
+    toss::write_commitments(out, work, f);
     Answer {
-        session: Session {
-            party: party,
-            due: 1,
-        },
+        session: Session { party: f, due: 1 },
         verdict: Verdict::Accepted,
     }
 }

@@ -1,26 +1,30 @@
 -- The numbers of a session (document 01, "The call", "What each round means"): the order of the rounds, what each round's messages are, and
 -- the length of each lent buffer. n is the number of parties, l the number of results, k a round.
 use Prim.Native.Nat.{ℕ, zero, suc, _+_, _-_, _*_, _/_, _≤_}
-use mathlib.Core.Bool.{Bool, true, false, not, _&&_, _||_}
+use mathlib.Core.Bool.{Bool, true, false, _&&_, _||_}
 use mathlib.Core.List.{List, [], _∷_}
 use lib.Dec.{ltb, leb, eqb}
 use Rattle.lists.specs.Pick.{pick}
 use Rattle.message.specs.declared.Kind.{Kind}
 use Rattle.message.specs.declared.Kind.the-variants.{Items, Dms, Dvalues, Options}
 use Rattle.share.specs.Record.{recordLen}
+use Rattle.engine.specs.Order.{Order, echoIn, roundIn, nextIn}
 
 -- ---- the order of the rounds
 
-unfoldable pub echo? : ℕ → Bool
-echo? k = eqb k 2 || eqb k 7 || eqb k 9 || eqb k 11 || eqb k 13 || eqb k 16 || eqb k 18 || eqb k 20
+abbrev pub theRounds : Order
+theRounds = record { last = 22; echoes = 2 ∷ 7 ∷ 9 ∷ 11 ∷ 13 ∷ 16 ∷ 18 ∷ 20 ∷ [] }
 
--- round k takes place: "For n = 2 the echoes are skipped."
-unfoldable pub isRound : ℕ → ℕ → Bool
-isRound n k = leb 1 k && leb k 22 && not (eqb n 2 && echo? k)
+abbrev pub echo? : ℕ → Bool
+echo? k = echoIn theRounds k
+
+-- round k takes place
+abbrev pub isRound : ℕ → ℕ → Bool
+isRound n k = roundIn theRounds (eqb n 2) k
 
 -- the round after k, the first after opening (k = 0), and 0 after the last
-unfoldable pub nextRound : ℕ → ℕ → ℕ
-nextRound n k = pick (leb 22 k) 0 (pick (eqb n 2 && echo? (k + 1)) (k + 2) (k + 1))
+abbrev pub nextRound : ℕ → ℕ → ℕ
+nextRound n k = nextIn theRounds (eqb n 2) k
 
 -- the rounds in order, for two parties and for more: nextRound walks through them (PlanLaws, `order-next`)
 unfoldable pub order : Bool → List ℕ
@@ -136,7 +140,8 @@ masksLen n l = within n l (n * leaky l)
 unfoldable pub pairsLen : ℕ → ℕ
 pairsLen n = pick (parties? n) (32 * n) 0
 
--- the outgoing buffer of the call for round k (k = 0: opening): "just the messages that call writes, by party, own left out, or the results"
+-- the outgoing buffer of the call for round k (k = 0: opening): "just the messages that call writes, by party, own left out, or the
+-- results"
 unfoldable pub outLen : ℕ → ℕ → ℕ → ℕ
 outLen n l k =
     pick (eqb k 22) (sharesLen n l)

@@ -1,8 +1,7 @@
 -- What the numbers of a session are good for: the order of the rounds, and bounds, so that no product wraps.
 use mathlib.Core.Path.{_≡_, refl, sym, ap, _∙_, subst}
 use mathlib.Core.Logic.{_≢_}
-use mathlib.Core.Bool.{Bool, Bool·beq, true, false, not, _&&_, _||_}
-use mathlib.Core.List.{List}
+use mathlib.Core.Bool.{Bool, Bool·beq, true, false, _&&_, _||_}
 use Prim.Native.Nat.{ℕ, zero, suc, _+_, _-_, _*_, _≤_, _<_}
 use native.Mathlib.Nat.{add-zero, mul-le-mul}
 use native.Mathlib.Numerals.{add-one}
@@ -10,56 +9,64 @@ use native.Mathlib.Omega.{arith}
 use lib.ListN.{length, getD}
 use lib.Dec.{ltb, leb, eqb}
 use borrow.Author.Tests.{ltb-true, ltb-false, leb-true, le-ltb, le-leb, lt-leb, eqb-true, eqb-false, ne-eqb}
-use Rattle.lists.specs.Pick.{pick, tests}
-use Rattle.lists.specs.All.{allOf, of-all, true-false}
+use Rattle.lists.specs.Pick.{pick}
+use Rattle.lists.specs.All.{allOf, of-all, true-false, and-first, and-second}
 use Rattle.message.specs.declared.Kind.{Kind}
 use Rattle.message.specs.declared.Kind.the-variants.{Items, Dms, Dvalues, Options}
 use Rattle.share.specs.Record.{recordLen}
-use Rattle.plan.specs.Plan.{echo?, isRound, nextRound, order, writes, other, bucketSize, leaky, bitsCount, rBlocks, rLen, kindOf, countDue, dmLen, listLen, Listed, msgLen, parties?, inRange, InRange, bitsLen, sharesLen, masksLen, pairsLen, outLen, rDue, permDue, sentUpTo}
+use Rattle.engine.specs.Area.{mem}
+use Rattle.engine.specs.Order.{echoIn, roundIn, nextIn}
+use Rattle.plan.specs.Plan.{theRounds, echo?, isRound, nextRound, order, writes, other, bucketSize, leaky, bitsCount, rBlocks, rLen, kindOf, countDue, dmLen, listLen, Listed, msgLen, parties?, inRange, InRange, bitsLen, sharesLen, masksLen, pairsLen, outLen, rDue, permDue, sentUpTo}
 
 -- ---- the order of the rounds
 
--- as isRound and nextRound, by whether there are two parties
-roundIf : Bool → ℕ → Bool
-roundIf two k = leb 1 k && leb k 22 && not (two && echo? k)
+-- the code's tests are those of the list
+pub echo-tests : (k : ℕ) → (eqb k 2 || eqb k 7 || eqb k 9 || eqb k 11 || eqb k 13 || eqb k 16 || eqb k 18 || eqb k 20) ≡ echo? k
+unfolding echoIn mem
+echo-tests k = go (eqb k 2) (eqb k 7) (eqb k 9) (eqb k 11) (eqb k 13) (eqb k 16) (eqb k 18) (eqb k 20)
+  where
+    go : (a b c d e f g h : Bool)
+        → (a || b || c || d || e || f || g || h)
+        ≡ pick a true (pick b true (pick c true (pick d true (pick e true (pick f true (pick g true (pick h true false)))))))
+    go true b c d e f g h = refl
+    go false true c d e f g h = refl
+    go false false true d e f g h = refl
+    go false false false true e f g h = refl
+    go false false false false true f g h = refl
+    go false false false false false true g h = refl
+    go false false false false false false true h = refl
+    go false false false false false false false true = refl
+    go false false false false false false false false = refl
 
-nextIf : Bool → ℕ → ℕ
-nextIf two k = pick (leb 22 k) 0 (pick (two && echo? (k + 1)) (k + 2) (k + 1))
-
+-- as writes, by whether there are two parties
 writesIf : Bool → ℕ → ℕ
-writesIf two k = pick (eqb k 0 || roundIf two k) (nextIf two k) 0
+writesIf two k = pick (eqb k 0 || roundIn theRounds two k) (nextIn theRounds two k) 0
 
 -- each round in order is a round, and the one after it is the next in order; past the last stands 0
 step? : Bool → ℕ → Bool
-step? two d = roundIf two (getD (order two) d 0) && eqb (nextIf two (getD (order two) d 0)) (getD (order two) (suc d) 0)
+step? two d =
+    roundIn theRounds two (getD (order two) d 0) && eqb (nextIn theRounds two (getD (order two) d 0)) (getD (order two) (suc d) 0)
 
 steps : (two : Bool) → allOf (length (order two)) (step? two) ≡ true
-unfolding allOf step? order roundIf nextIf echo?
+unfolding allOf step? order roundIn nextIn echoIn mem
 steps true = refl
 steps false = refl
 
-and-left : (a b : Bool) → (a && b) ≡ true → a ≡ true
-and-left true b h = refl
-and-left false b h = h
-
-and-right : (a b : Bool) → (a && b) ≡ true → b ≡ true
-and-right true b h = h
-and-right false b h = absurd (true-false (sym h))
-
 module _ (n d : ℕ) (h : d < length (order (eqb n 2))) where
   pub order-round : isRound n (getD (order (eqb n 2)) d 0) ≡ true
-  unfolding isRound step? roundIf
-  order-round = and-left _ _ (of-all _ (step? (eqb n 2)) (steps (eqb n 2)) d h)
+  unfolding step?
+  order-round = and-first _ _ (of-all _ (step? (eqb n 2)) (steps (eqb n 2)) d h)
 
   pub order-next : nextRound n (getD (order (eqb n 2)) d 0) ≡ getD (order (eqb n 2)) (suc d) 0
-  unfolding nextRound step? nextIf
-  order-next = eqb-true _ _ (and-right (roundIf (eqb n 2) (getD (order (eqb n 2)) d 0)) _ (of-all _ (step? (eqb n 2)) (steps (eqb n 2)) d h))
+  unfolding step?
+  order-next =
+      eqb-true _ _ (and-second (isRound n (getD (order (eqb n 2)) d 0)) _ (of-all _ (step? (eqb n 2)) (steps (eqb n 2)) d h))
 
 pub order-first : (n : ℕ) → nextRound n 0 ≡ 1
-unfolding nextRound nextIf echo?
+unfolding nextIn echoIn mem
 order-first n = go (eqb n 2)
   where
-    go : (two : Bool) → nextIf two 0 ≡ 1
+    go : (two : Bool) → nextIn theRounds two 0 ≡ 1
     go true = refl
     go false = refl
 
@@ -68,12 +75,12 @@ lent? : Bool → ℕ → Bool
 lent? two k = Bool·beq (eqb (writesIf two k) 6) (eqb k 5) && Bool·beq (eqb (writesIf two k) 21) (eqb k (pick two 19 20))
 
 lents : (two : Bool) → allOf 23 (lent? two) ≡ true
-unfolding allOf lent? writesIf roundIf nextIf echo?
+unfolding allOf lent? writesIf roundIn nextIn echoIn mem
 lents true = refl
 lents false = refl
 
 pub writes-past : (n k : ℕ) → 22 < k → writes n k ≡ 0
-unfolding writes isRound
+unfolding writes roundIn
 writes-past n k h = rw (ne-eqb k 0 (omega arith), le-leb 1 k (omega arith), lt-leb k 22 h) refl
 
 beq-true : (a b : Bool) → Bool·beq a b ≡ true → a ≡ b
@@ -84,17 +91,17 @@ beq-true false false h = refl
 
 -- "the call that writes `fabitn`" is the one for round 5, "the one that writes `dvalue`" that for round 20, or 19 for two parties
 pub writes-fabitn : (n k : ℕ) → eqb (writes n k) 6 ≡ eqb k 5
-unfolding writes isRound nextRound lent? writesIf roundIf nextIf
+unfolding writes lent? writesIf
 writes-fabitn n k = go (ltb k 23) refl
   where
     go : (b : Bool) → ltb k 23 ≡ b → eqb (writes n k) 6 ≡ eqb k 5
-    go true e = beq-true _ _ (and-left _ _ (of-all 23 (lent? (eqb n 2)) (lents (eqb n 2)) k (ltb-true k 23 e)))
+    go true e = beq-true _ _ (and-first _ _ (of-all 23 (lent? (eqb n 2)) (lents (eqb n 2)) k (ltb-true k 23 e)))
     go false e =
         let h : 22 < k = omega (arith, ltb-false k 23 e) in
         ap (λ w. eqb w 6) (writes-past n k h) ∙ sym (ne-eqb k 5 (omega arith))
 
 pub writes-dvalue : (n k : ℕ) → eqb (writes n k) 21 ≡ eqb k (pick (eqb n 2) 19 20)
-unfolding writes isRound nextRound lent? writesIf roundIf nextIf
+unfolding writes lent? writesIf
 writes-dvalue n k = go (ltb k 23) refl
   where
     far : (two : Bool) → 22 < k → eqb k (pick two 19 20) ≡ false
@@ -102,21 +109,33 @@ writes-dvalue n k = go (ltb k 23) refl
     far false h = ne-eqb k 20 (omega arith)
 
     go : (b : Bool) → ltb k 23 ≡ b → eqb (writes n k) 21 ≡ eqb k (pick (eqb n 2) 19 20)
-    go true e = beq-true _ _ (and-right (Bool·beq (eqb (writesIf (eqb n 2) k) 6) (eqb k 5)) _ (of-all 23 (lent? (eqb n 2)) (lents (eqb n 2)) k (ltb-true k 23 e)))
+    go true e =
+        beq-true _ _ (and-second (Bool·beq (eqb (writesIf (eqb n 2) k) 6) (eqb k 5)) _
+        (of-all 23 (lent? (eqb n 2)) (lents (eqb n 2)) k (ltb-true k 23 e)))
     go false e =
         let h : 22 < k = omega (arith, ltb-false k 23 e) in
         ap (λ w. eqb w 21) (writes-past n k h) ∙ sym (far (eqb n 2) h)
 
+-- the next round, as the code finds it
+module _ (n k : ℕ) (b : Bool) (h : k < 22) (e : b ≡ echo? (k + 1)) where
+  pub next-skips : (eqb n 2 && b) ≡ true → k + 2 ≡ nextRound n k
+  unfolding nextIn
+  next-skips s = rw (lt-leb 22 k h, sym (ap (λ x. eqb n 2 && x) (e ∙ ap echo? (add-one k))) ∙ s) (omega arith)
+
+  pub next-on : (eqb n 2 && b) ≡ false → k + 1 ≡ nextRound n k
+  unfolding nextIn
+  next-on s = rw (lt-leb 22 k h, sym (ap (λ x. eqb n 2 && x) (e ∙ ap echo? (add-one k))) ∙ s) (omega arith)
+
 pub next-some : (n k : ℕ) → k < 22 → nextRound n k ≢ 0
-unfolding nextRound
-next-some n k h = rw (lt-leb 22 k h) (go (eqb n 2 && echo? (k + 1)))
+unfolding nextIn
+next-some n k h = rw (lt-leb 22 k h) (go (eqb n 2 && echo? (suc k)))
   where
-    go : (b : Bool) → pick b (k + 2) (k + 1) ≢ 0
+    go : (b : Bool) → pick b (suc (suc k)) (suc k) ≢ 0
     go true = omega arith
     go false = omega arith
 
 pub no-echo : (k : ℕ) → 20 < k → echo? k ≡ false
-unfolding echo?
+unfolding echoIn mem
 no-echo k h =
     rw (
       ne-eqb k 2 (omega arith),
@@ -170,14 +189,19 @@ pick-most false x h = omega arith
 
 pub parties-true : (n : ℕ) → parties? n ≡ true → (2 ≤ n) × (n ≤ 8)
 unfolding parties?
-parties-true n h = (leb-true 2 n (and-left _ _ h), leb-true n 8 (and-right (leb 2 n) _ h))
+parties-true n h = (leb-true 2 n (and-first _ _ h), leb-true n 8 (and-second (leb 2 n) _ h))
 
 pub in-range-true : (n l : ℕ) → inRange n l ≡ true → InRange n l
 unfolding inRange
 in-range-true n l h =
-    let p = and-left (parties? n && leb 1 l) _ h in
-    let q = parties-true n (and-left (parties? n) _ p) in
-    record { two = q .0; eight = q .1; one = leb-true 1 l (and-right (parties? n) _ p); most = leb-true l 300000 (and-right (parties? n && leb 1 l) _ h) }
+    let p = and-first (parties? n && leb 1 l) _ h in
+    let q = parties-true n (and-first (parties? n) _ p) in
+    record {
+      two = q .0;
+      eight = q .1;
+      one = leb-true 1 l (and-second (parties? n) _ p);
+      most = leb-true l 300000 (and-second (parties? n && leb 1 l) _ h);
+    }
 
 pub in-range : (n l : ℕ) → InRange n l → inRange n l ≡ true
 unfolding inRange parties?

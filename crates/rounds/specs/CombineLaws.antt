@@ -9,7 +9,7 @@ use lib.ListN.{length, getD}
 use lib.Dec.{ltb, leb, eqb}
 use borrow.Author.Tests.{lt-ltb, le-leb, eq-eqb, ne-eqb, eqb-true, eqb-false, leb-true, ltb-true}
 use Rattle.lists.specs.Pick.{pick, pick-then, pick-else}
-use Rattle.lists.specs.All.{allOf, true-false}
+use Rattle.lists.specs.All.{allOf, true-false, and-first, and-second}
 use Rattle.share.specs.Record.{recordLen, recordsFault}
 use Rattle.engine.specs.Step.{Accepted, Refused}
 use Rattle.rounds.specs.Opening.{orFault}
@@ -76,14 +76,6 @@ pub record Due (a : Args) : Type 0 where
 not-zero : (n : ℕ) → _≡_ {A = ℕ} (suc n) 0 → ⊥
 not-zero n z = omega arith
 
-and-left : (p q : Bool) → (p && q) ≡ true → p ≡ true
-and-left true q e = refl
-and-left false q e = e
-
-and-right : (p q : Bool) → (p && q) ≡ true → q ≡ true
-and-right true q e = e
-and-right false q e = absurd (true-false (sym e))
-
 pub due-of : (a : Args) → reason a ≡ 0 → Due a
 unfolding reason
 due-of a h =
@@ -94,14 +86,14 @@ due-of a h =
     let e5 = pick-then (eqb (length (a .out)) (3 * recordLen (a .n))) _ _ _ (not-zero 16) (e4 .1) in
     record {
       ranged = record {
-        two = leb-true 2 (a .n) (and-left (leb 2 (a .n)) (leb (a .n) 8) (and-left (leb 2 (a .n) && leb (a .n) 8) (ltb (a .i) (a .n)) (e1 .0)));
-        eight = leb-true (a .n) 8 (and-right (leb 2 (a .n)) (leb (a .n) 8) (and-left (leb 2 (a .n) && leb (a .n) 8) (ltb (a .i) (a .n)) (e1 .0)));
-        party = ltb-true (a .i) (a .n) (and-right (leb 2 (a .n) && leb (a .n) 8) (ltb (a .i) (a .n)) (e1 .0));
+        two = leb-true 2 (a .n) (and-first (leb 2 (a .n)) (leb (a .n) 8) (and-first (leb 2 (a .n) && leb (a .n) 8) (ltb (a .i) (a .n)) (e1 .0)));
+        eight = leb-true (a .n) 8 (and-second (leb 2 (a .n)) (leb (a .n) 8) (and-first (leb 2 (a .n) && leb (a .n) 8) (ltb (a .i) (a .n)) (e1 .0)));
+        party = ltb-true (a .i) (a .n) (and-second (leb 2 (a .n) && leb (a .n) 8) (ltb (a .i) (a .n)) (e1 .0));
         some = eqb-false (a .count) 0 (e2 .0);
         five = leb-true (a .count) 5 (e3 .0);
       };
-      triples = eqb-true _ _ (and-left (eqb (length (a .triples)) (3 * a .count * recordLen (a .n))) (eqb (length (a .d)) (a .count - 1)) (e4 .0));
-      d = eqb-true _ _ (and-right (eqb (length (a .triples)) (3 * a .count * recordLen (a .n))) (eqb (length (a .d)) (a .count - 1)) (e4 .0));
+      triples = eqb-true _ _ (and-first (eqb (length (a .triples)) (3 * a .count * recordLen (a .n))) (eqb (length (a .d)) (a .count - 1)) (e4 .0));
+      d = eqb-true _ _ (and-second (eqb (length (a .triples)) (3 * a .count * recordLen (a .n))) (eqb (length (a .d)) (a .count - 1)) (e4 .0));
       out = eqb-true _ _ (e5 .0);
       bytes = e5 .1;
     }

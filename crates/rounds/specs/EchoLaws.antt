@@ -30,17 +30,18 @@ use Rattle.message.specs.FormatLaws.{list-pos, list-le, formed-item, Entry, ent
 use Rattle.encode.specs.Encode.{noneItem, someItem}
 use Rattle.plan.specs.Plan as Plan
 use Rattle.plan.specs.Plan.{kindOf, countDue, msgLen}
+use Rattle.engine.specs.declared.Frame.{Frame}
 use Rattle.engine.specs.Step.{frame, scan}
 use Rattle.engine.specs.StepLaws.{scan-first}
 use Rattle.engine.specs.Plain.{rowsOf}
-use Rattle.rounds.specs.Mail.{letter, Arrived}
+use Rattle.rounds.specs.Mail.{Mail, letter, Arrived}
 use Rattle.rounds.specs.RowsLaws.{other-neq}
 use Rattle.rounds.specs.Echo.{hashVec, entryFault, echoFault}
 
 -- what a call has made sure of before it looks at the content: every other party's message lies inside, and is a list of the right form
-pub record Received (K : Kind) (count n i : ℕ) (incoming starts lens : List ℕ) : Type 0 where
-  pub arrived : Arrived n i 0 incoming starts lens
-  pub formed-is : (k : ℕ) → k < n → i ≢ k → formOf K count (letter incoming starts lens k) ≡ 0
+pub record Received (K : Kind) (count : ℕ) (f : Frame) (incoming : List ℕ) (mail : Mail) : Type 0 where
+  pub arrived : Arrived f 0 incoming mail
+  pub formed-is : (k : ℕ) → k < f .n → f .i ≢ k → formOf K count (letter incoming mail k) ≡ 0
 
 -- ---- the hash of a list
 first-half : (x : List ℕ) → bytesOf (blockAt (hash x) 0) ≡ take 16 (hash x)

@@ -6,7 +6,7 @@ use Prim.Native.Nat.{ℕ, _+_, _*_}
 use lib.ListN.{getD}
 use Rattle.lists.specs.Pick.{pick}
 use Rattle.lists.specs.Over.{cat}
-use Rattle.algebra.specs.Group.{XorGroup, bits, sel, odd}
+use Rattle.algebra.specs.Group.{bits, sel, odd}
 use Rattle.algebra.specs.Sum.{sum}
 use Rattle.block.specs.declared.Block.{Block}
 use Rattle.block.specs.Block.{blockAt, bytesOf, eqBlock}
@@ -18,6 +18,19 @@ use Rattle.rbits.specs.Chosen.{chosen}
 use Rattle.engine.specs.declared.Frame.{Frame}
 use Rattle.engine.specs.Step.{Fault, byParty}
 use Rattle.rounds.specs.Area.{rows, firstOf}
+
+abbrev pub STRINGS : ℕ
+STRINGS = 120
+
+-- the bytes of an item, a bit and a Block; of a message; and of a row of key sums
+abbrev pub ITEM : ℕ
+ITEM = 17
+
+abbrev pub MSG : ℕ
+MSG = 8 + STRINGS * ITEM
+
+abbrev pub ROW : ℕ
+ROW = STRINGS * 16
 
 -- string j chooses record t
 unfoldable pub picks : Frame → List ℕ → ℕ → ℕ → Bool
@@ -35,18 +48,18 @@ keySum f r recs k j = sum blocks (bitsCount (f .l)) (λ t. sel blocks (picks f r
 
 -- "Send the chosen bits' XOR and, to k, the XOR of the chosen MACs for k."
 unfoldable pub abitMsg : Frame → List ℕ → List ℕ → ℕ → List ℕ
-abitMsg f r recs k = encode 120 (λ j. bitBlock (bitSum f r recs j) (macSum f r recs k j))
+abitMsg f r recs k = encode STRINGS (λ j. bitBlock (bitSum f r recs j) (macSum f r recs k j))
 
 -- the key sums are kept, so that r is needed in one call alone
 unfoldable pub keySums : Frame → List ℕ → List ℕ → List ℕ
-keySums f r recs = rows f (120 * 16) (λ k. cat 120 (λ j. bytesOf (keySum f r recs k j)))
+keySums f r recs = rows f ROW (λ k. cat STRINGS (λ j. bytesOf (keySum f r recs k j)))
 
 -- 8 where the sum of MACs that k sent for string j isn't the sum of keys, plus delta where k's bit is 1
 unfoldable pub abitFault : Block → List ℕ → (ℕ → List ℕ) → ℕ → ℕ → ℕ
 abitFault delta sums m j k =
-    pick (eqBlock (blockAt (m k) (8 + j * 17 + 1))
-    (blocks .op (blockAt sums ((k * 120 + j) * 16)) (sel blocks (odd (getD (m k) (8 + j * 17) 0)) delta))) 0 8
+    pick (eqBlock (blockAt (m k) (8 + j * ITEM + 1))
+    (blocks .op (blockAt sums ((k * STRINGS + j) * 16)) (sel blocks (odd (getD (m k) (8 + j * ITEM) 0)) delta))) 0 8
 
 -- string by string, party by party
 unfoldable pub abits : Frame → Block → List ℕ → (ℕ → List ℕ) → Fault
-abits f delta sums m = firstOf 120 (λ j. byParty f (abitFault delta sums m j))
+abits f delta sums m = firstOf STRINGS (λ j. byParty f (abitFault delta sums m j))

@@ -1,14 +1,14 @@
--- `fashare` (document 01, "What each round means"; WRK17b, Pi_aShare): the MACs of 40 bits, which are then dropped, are checked against the keys
--- that everybody committed to. Rounds 8, 10 and 12. `recs` is the list of records, `m k` the message of party k.
+-- `fashare` (document 01, "What each round means"; WRK17b, Pi_aShare): the MACs of 40 bits, which are then dropped, are checked against
+-- the keys that everybody committed to. Rounds 8, 10 and 12. `recs` is the list of records, `m k` the message of party k.
 use mathlib.Core.Bool.{Bool, _||_}
-use mathlib.Core.List.{List, [], _∷_, _++_}
+use mathlib.Core.List.{List, _∷_, _++_}
 use Prim.Native.Nat.{ℕ, _+_, _-_, _*_}
 use lib.ListN.{getD, take, drop}
 use lib.Dec.{ltb, leb, eqb}
 use Rattle.lists.specs.Pick.{pick}
 use Rattle.lists.specs.Over.{cat}
 use Rattle.lists.specs.Same.{same?}
-use Rattle.algebra.specs.Group.{XorGroup, bits, sel, odd, num}
+use Rattle.algebra.specs.Group.{bits, sel, odd, num}
 use Rattle.algebra.specs.Sum.{neq, others}
 use Rattle.block.specs.declared.Block.{Block}
 use Rattle.block.specs.Block.{wordAt, blockAt, bytesOf, eqBlock}
@@ -25,9 +25,28 @@ use Rattle.engine.specs.declared.Frame.{Frame}
 use Rattle.engine.specs.Step.{Fault, byParty}
 use Rattle.rounds.specs.Area.{rows, firstOf}
 
--- string q is about record 3·l·b + q
+abbrev pub STRINGS : ℕ
+STRINGS = 40
+
+-- the bytes of the three commitments to a string; of a row of commitments; and of the messages of rounds 8 and 12
+abbrev pub COMM : ℕ
+COMM = 96
+
+abbrev pub COMM-ROW : ℕ
+COMM-ROW = STRINGS * COMM
+
+abbrev pub COMM-MSG : ℕ
+COMM-MSG = 8 + COMM-ROW
+
+abbrev pub DIBI-MSG : ℕ
+DIBI-MSG = 8 + STRINGS * 16
+
+-- string q is about record 3·l·b + q: where that begins
+abbrev pub recordAt : Frame → ℕ → ℕ
+recordAt f q = (3 * leaky (f .l) + q) * recordLen (f .n)
+
 unfoldable pub own : Frame → List ℕ → ℕ → Share
-own f recs q = shareAt recs ((3 * leaky (f .l) + q) * recordLen (f .n))
+own f recs q = shareAt recs (recordAt f q)
 
 -- "dm = own bit byte, then MACs by party, own left out"
 unfoldable pub dm : Frame → List ℕ → ℕ → List ℕ
@@ -46,14 +65,18 @@ d1 f delta recs q = blocks .op (d0 f recs q) delta
 
 -- ---- round 8: "Send BLAKE3 of d0, d1, dm"
 unfoldable pub commMsg : Frame → Block → List ℕ → List ℕ
-commMsg f delta recs = encode 40 (λ q. hash (bytesOf (d0 f recs q)) ++ (hash (bytesOf (d1 f delta recs q)) ++ hash (dm f recs q)))
+commMsg f delta recs = encode STRINGS (λ q. hash (bytesOf (d0 f recs q)) ++ (hash (bytesOf (d1 f delta recs q)) ++ hash (dm f recs q)))
+
+-- the commitments in the message of party k, behind the count
+abbrev pub commsIn : (ℕ → List ℕ) → ℕ → List ℕ
+commsIn m k = take COMM-ROW (drop 8 (m k))
 
 unfoldable pub commRows : Frame → (ℕ → List ℕ) → List ℕ
-commRows f m = rows f (40 * 96) (λ k. take (40 * 96) (drop 8 (m k)))
+commRows f m = rows f COMM-ROW (commsIn m)
 
 -- ---- round 10: "then dm"
 unfoldable pub verMsg : Frame → List ℕ → List ℕ
-verMsg f recs = encode 40 (λ q. dmItem (dm f recs q))
+verMsg f recs = encode STRINGS (λ q. dmItem (dm f recs q))
 
 -- where the bytes of dm q begin in a message
 unfoldable pub dmAt : List ℕ → ℕ → ℕ
@@ -68,21 +91,25 @@ dmFault f m q k =
 
 -- string by string, party by party
 unfoldable pub dmFaults : Frame → (ℕ → List ℕ) → Fault
-dmFaults f m = firstOf 40 (λ q. byParty f (dmFault f m q))
+dmFaults f m = firstOf STRINGS (λ q. byParty f (dmFault f m q))
+
+-- the dms of a message, one after another
+abbrev pub dmsOf : ℕ → List ℕ → List ℕ
+dmsOf n m = cat STRINGS (λ q. take (dmLen n) (drop (dmAt m q) m))
 
 unfoldable pub dmRows : Frame → (ℕ → List ℕ) → List ℕ
-dmRows f m = rows f (40 * dmLen (f .n)) (λ k. cat 40 (λ q. take (dmLen (f .n)) (drop (dmAt (m k) q) (m k))))
+dmRows f m = rows f (STRINGS * dmLen (f .n)) (λ k. dmsOf (f .n) (m k))
 
 -- where dm q of party k begins in those rows
 unfoldable pub dmRow : Frame → ℕ → ℕ → ℕ
-dmRow f k q = (k * 40 + q) * dmLen (f .n)
+dmRow f k q = (k * STRINGS + q) * dmLen (f .n)
 
 -- ---- round 12: "then d0 or d1 by the XOR of the others' bits"
 unfoldable pub others1 : Frame → List ℕ → ℕ → Bool
 others1 f dms q = others bits (f .i) (f .n) (λ k. odd (getD dms (dmRow f k q) 0))
 
 unfoldable pub dibiMsg : Frame → Block → List ℕ → List ℕ → List ℕ
-dibiMsg f delta recs dms = encode 40 (λ q. bytesOf (blocks .op (d0 f recs q) (sel blocks (others1 f dms q) delta)))
+dibiMsg f delta recs dms = encode STRINGS (λ q. bytesOf (blocks .op (d0 f recs q) (sel blocks (others1 f dms q) delta)))
 
 -- the XOR of all MACs for k: the own one, and those in the dms of the others but k
 unfoldable pub macsFor : Frame → List ℕ → List ℕ → ℕ → ℕ → Block
@@ -94,10 +121,10 @@ macsFor f recs dms q k =
 unfoldable pub dibiFault : Frame → List ℕ → List ℕ → List ℕ → (ℕ → List ℕ) → ℕ → ℕ → ℕ
 dibiFault f recs comms dms m q k =
     let d = blockAt (m k) (8 + q * 16) in
-    let c = drop ((k * 40 + q) * 96) comms in
+    let c = drop ((k * STRINGS + q) * COMM) comms in
     pick (same? (hash (bytesOf d)) (take 32 c) || same? (hash (bytesOf d)) (take 32 (drop 32 c)))
     (pick (eqBlock (macsFor f recs dms q k) d) 0 9)
     2
 
 unfoldable pub dibiFaults : Frame → List ℕ → List ℕ → List ℕ → (ℕ → List ℕ) → Fault
-dibiFaults f recs comms dms m = firstOf 40 (λ q. byParty f (dibiFault f recs comms dms m q))
+dibiFaults f recs comms dms m = firstOf STRINGS (λ q. byParty f (dibiFault f recs comms dms m q))

@@ -1,13 +1,19 @@
--- What a content check answers: a number and a party. A loop over all parties that stops at the first fault finds what `byParty` says.
-use mathlib.Core.Path.{_≡_, refl, sym, ap, ap₂, _∙_}
+-- What a content check answers: a number and a party. A loop that stops at the first fault, party by party or item by item, finds what
+-- `byParty` and `firstOf` say.
+use mathlib.Core.Path.{_≡_, refl, sym, ap, ap₂, _∙_, subst}
+use mathlib.Core.Bool.{Bool, true, false}
 use mathlib.Core.Logic.{_≢_}
-use Prim.Native.Nat.{ℕ, zero, suc, _<_}
+use Prim.Native.Nat.{ℕ, zero, suc, _+_, _<_}
 use native.Mathlib.Nat.{le-refl}
+use native.Mathlib.Numerals.{add-one}
 use native.Mathlib.Omega.{arith}
+use lib.Dec.{ltb}
+use borrow.Author.Tests.{ltb-true, ltb-false}
 use Rattle.lists.specs.Pick.{pick}
 use Rattle.algebra.specs.Sum.{neq, neq-true}
 use Rattle.engine.specs.Step.{Fault, frame, orElse, scan, byParty}
-use Rattle.engine.specs.StepLaws.{scan-first}
+use Rattle.engine.specs.StepLaws.{or-none, or-first, or-zero, last-or, scan-ext, scan-first}
+use Rattle.rounds.specs.Area.{firstOf}
 use Rattle.rounds.specs.MailLaws.{neq-same}
 use Rattle.rounds.specs.RowsLaws.{other-neq}
 
@@ -16,12 +22,7 @@ pub record Finds (code party : ℕ) (e : Fault) : Type 0 where
   pub code-is : code ≡ e .code
   pub party-is : e .code ≢ 0 → party ≡ e .party
 
-scan-ext : (n : ℕ) (c d : ℕ → ℕ) → ((k : ℕ) → k < n → c k ≡ d k) → scan n c ≡ scan n d
-unfolding scan
-scan-ext zero c d h = refl
-scan-ext (suc n) c d h =
-    ap₂ orElse (scan-ext n c d (λ k l. h k (omega arith))) (ap (λ x. record { code = x; party = n }) (h n (le-refl (suc n))))
-
+-- ---- party by party
 -- the fault of party k, none of the own number
 abbrev pub faultAt : ℕ → (ℕ → ℕ) → ℕ → ℕ
 faultAt i c k = pick (neq i k) (c k) 0
@@ -52,3 +53,47 @@ module _ (n i : ℕ) (c : ℕ → ℕ) where
   finds-none l k p z e =
       let r : byParty (frame n l i) c .code ≡ 0 = ap (λ (a : Fault). a .code) (by-scan l ∙ ap (λ j. scan j (faultAt i c)) (sym e)) ∙ z in
       record { code-is = sym r; party-is = λ q. absurd (q r) }
+
+-- ---- item by item
+module _ (g : ℕ → Fault) where
+  pub first-zero : firstOf 0 g .code ≡ 0
+  unfolding firstOf
+  first-zero = refl
+
+  first-is : (n j : ℕ) → j < n → firstOf j g .code ≡ 0 → g j .code ≢ 0 → firstOf n g ≡ g j
+  unfolding firstOf
+  first-is zero j l h e = absurd (omega arith)
+  first-is (suc n) j l h e = go (ltb j n) refl (first-is n j)
+    where
+      go : (b : Bool) → ltb j n ≡ b → (j < n → firstOf j g .code ≡ 0 → g j .code ≢ 0 → firstOf n g ≡ g j) → orElse (firstOf n g) (g n) ≡ g j
+      go true q ih =
+          let r : firstOf n g ≡ g j = ih (ltb-true j n q) h e in
+          rw r (or-first (g j) (g n) e)
+      go false q ih =
+          let p : j ≡ n = omega (arith, ltb-false j n q) in
+          subst (λ i. orElse (firstOf i g) (g i) ≡ g j) p (or-none (firstOf j g) (g j) h)
+
+  -- item j has the first fault
+  pub item-first : (n j code party : ℕ) → j < n → firstOf j g .code ≡ 0 → Finds code party (g j) → code ≢ 0 → Finds code party (firstOf n g)
+  item-first n j code party l h t ne =
+      let e : g j ≡ firstOf n g = sym (first-is n j l h (λ z. ne (t .code-is ∙ z))) in
+      subst (Finds code party) e t
+
+  -- item j has none
+  pub item-next : (j code party : ℕ) → firstOf j g .code ≡ 0 → Finds code party (g j) → code ≡ 0 → firstOf (j + 1) g .code ≡ 0
+  unfolding firstOf
+  item-next j code party h t z = rw (add-one j) (ap (λ (x : Fault). x .code) (or-none (firstOf j g) (g j) h) ∙ sym (t .code-is) ∙ z)
+
+  -- no item has one
+  pub item-none : (n j p : ℕ) → j ≡ n → firstOf j g .code ≡ 0 → Finds 0 p (firstOf n g)
+  item-none n j p e h =
+      let r : firstOf n g .code ≡ 0 = subst (λ m. firstOf m g .code ≡ 0) e h in
+      record { code-is = sym r; party-is = λ q. absurd (q r) }
+
+-- what no fault says of each item
+pub first-clean : (c : ℕ) (g : ℕ → Fault) → firstOf c g .code ≡ 0 → (q : ℕ) → q < c → g q .code ≡ 0
+unfolding firstOf
+first-clean zero g z q h = absurd (omega arith)
+first-clean (suc c) g z q h =
+    let w = or-zero (firstOf c g) (g c) z in
+    last-or q c (λ j. g j .code ≡ 0) h (first-clean c g (w .0) q) (w .1)

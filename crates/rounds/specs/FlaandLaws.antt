@@ -15,7 +15,7 @@ use Rattle.blake3.specs.Tree.{hash}
 use Rattle.encode.specs.Encode.{encode}
 use Rattle.plan.specs.Plan.{leaky}
 use Rattle.engine.specs.declared.Frame.{Frame}
-use Rattle.rounds.specs.FashareLaws.{length-hash}
+use Rattle.blake3.specs.ByteLaws.{length-hash}
 use Rattle.rounds.specs.Flaand.{commMsg, comms, ownComms, hashMsg}
 
 module _ (f : Frame) (own : List ℕ) where

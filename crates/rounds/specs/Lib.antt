@@ -17,17 +17,11 @@ pub mod FaultLaws
 pub mod TossLaws
 pub mod MailLaws
 pub mod AreaLaws
-pub mod FabitnLaws
 pub mod SentLaws
-pub mod StringLaws
-pub mod LetterLaws
 pub mod HaandLaws
 pub mod Loops
-pub mod BucketsLaws
 pub mod Combine
 pub mod CombineLaws
 pub mod EchoLaws
-pub mod DibiLaws
 pub mod DmLaws
-pub mod FashareLaws
 pub mod JudgeLaws

@@ -3,12 +3,12 @@
 use mathlib.Core.Path.{_≡_, refl, sym, ap, ap₂, _∙_, subst}
 use mathlib.Core.Bool.{Bool, true, false, _&&_}
 use mathlib.Core.Logic.{_≢_}
-use mathlib.Core.List.{List, _++_, append-assoc}
-use Prim.Native.Nat.{ℕ, zero, suc, _+_, _-_, _*_, _<_, _≤_, min}
+use mathlib.Core.List.{List, _++_}
+use Prim.Native.Nat.{ℕ, _+_, _-_, _*_, _<_, _≤_}
 use native.Mathlib.Nat.{add-zero, zero-mul}
 use native.Mathlib.Numerals.{add-one}
 use native.Mathlib.Omega.{arith}
-use lib.ListN.{length, getD, take, drop, replicate, length-append, length-drop, length-take, length-replicate, take-append-drop}
+use lib.ListN.{length, take, drop, replicate, length-append, length-replicate, take-append-drop}
 use lib.Dec.{ltb}
 use borrow.Author.Tests.{lt-ltb}
 use borrow.Rule.Slice.PartMut.{putMid}
@@ -27,7 +27,6 @@ use Rattle.engine.specs.declared.Frame.{Frame}
 use Rattle.engine.specs.Step.{other}
 use Rattle.engine.specs.Area.{off, sec, putSec, nth, toOthers, length-sec, length-putSec, sec-same, sec-other, putSec-twice, put-sec}
 use Rattle.rounds.specs.Area.{rows}
-use Rattle.rounds.specs.Mail.{letter, Arrived}
 
 -- ---- sums over all parties but one
 module _ {A : Type 0} (G : XorGroup A) (i : ℕ) (f : ℕ → A) where
@@ -115,18 +114,7 @@ module _ (n i m : ℕ) (g : ℕ → List ℕ) where
     unfolding toOthers
     sent-end e = written-end _ q (n - 1) (q * m) l d w e (omega (arith, ap (λ k. k * m) e))
 
--- ---- a message that has arrived is long enough
-pub letter-long : {n i size : ℕ} {incoming starts lens : List ℕ} → Arrived n i size incoming starts lens → (k : ℕ) → k < n → i ≢ k
-    → size ≤ length (letter incoming starts lens k)
-unfolding letter
-letter-long {incoming = incoming} {starts = starts} {lens = lens} a k h ne =
-    rw (length-get (getD starts k 0) (getD lens k 0) incoming (a .inside k h ne)) (a .long k h ne)
-
 -- ---- a section, lent as `&w[a..e]`
-pub part-sec : (size : ℕ → ℕ) (s a e : ℕ) (w : List ℕ) → a ≡ off size s → e ≡ a + size s → take (e - a) (drop a w) ≡ sec size s w
-unfolding sec
-part-sec size s a e w ha he = ap₂ (λ m o. take m (drop o w)) (let q : e - a ≡ size s = omega arith in q) ha
-
 -- a part of m bytes, lent as `&mut w[p..e]`
 pub lent-part : (p m k : ℕ) (w : List ℕ) → m ≡ k → p + m ≤ length w → length (take (p + m - p) (drop p w)) ≡ k
 lent-part p m k w e h =
@@ -141,14 +129,6 @@ pub record Keeping (size : ℕ → ℕ) (S s : ℕ) (g : ℕ → List ℕ) (j a 
   pub same : length w ≡ length w₀
 
 module _ (size : ℕ → ℕ) (S s : ℕ) (in-S : s < S) (w₀ : List ℕ) (h : length w₀ ≡ off size S) where
-  -- a section that has a byte lies within
-  pub sec-inside : 0 < size s → off size s + size s ≤ length w₀
-  unfolding sec
-  sec-inside p =
-      let e : min (size s) (length w₀ - off size s) ≡ size s =
-      sym (length-take (size s) (drop (off size s) w₀) ∙ ap (min (size s)) (length-drop (off size s) w₀)) ∙ length-sec size S w₀ h s in-S in
-      omega (arith, e)
-
   module _ (g : ℕ → List ℕ) where
     whole : (j a : ℕ) → length (cat j g) ≡ a → a ≤ size s → length (cat j g ++ drop a (sec size s w₀)) ≡ size s
     whole j a n l =

@@ -1,28 +1,28 @@
 -- What `Arrived` says of the message of another party.
-use mathlib.Core.Path.{_≡_, refl, sym, ap, _∙_}
+use mathlib.Core.Path.{_≡_, sym, ap, _∙_}
 use mathlib.Core.Logic.{_≢_}
 use mathlib.Core.Bool.{false}
 use mathlib.Core.List.{List}
 use Prim.Native.Nat.{ℕ, _+_, _<_, _≤_}
 use native.Mathlib.Omega.{arith}
-use lib.ListN.{length, getD, drop, length-drop}
-use lib.Seq.{length-take-le}
+use lib.ListN.{length, getD}
+use Rattle.lists.specs.Sect.{length-get}
 use Rattle.algebra.specs.Sum.{neq, neq-self}
-use Rattle.rounds.specs.Mail.{letter, Arrived}
+use Rattle.engine.specs.declared.Frame.{Frame}
+use Rattle.rounds.specs.Mail.{Mail, letter, Arrived}
 
 -- the own number isn't another one
 pub neq-same : (i k : ℕ) → k ≡ i → neq i k ≡ false
 neq-same i k e = ap (neq i) e ∙ neq-self i
 
-module _ (n i size : ℕ) (incoming starts lens : List ℕ) (h : Arrived n i size incoming starts lens) (k : ℕ) (l : k < n) (ne : k ≢ i) where
+module _ {f : Frame} {size : ℕ} {incoming : List ℕ} {mail : Mail} (a : Arrived f size incoming mail) (k : ℕ) (h : k < f .n) (ne : k ≢ f .i) where
   -- what `letter` asks for
-  pub letter-fits : ((k < length starts) × (k < length lens)) × (getD starts k 0 + getD lens k 0 ≤ length incoming)
-  letter-fits = ((omega (arith, h .starts-n), omega (arith, h .lens-n)), h .inside k l (λ e. ne (sym e)))
+  pub letter-fits : (k < 8) × (getD (mail .starts) k 0 + getD (mail .lens) k 0 ≤ length incoming)
+  letter-fits = (omega (arith, a .eight), a .inside k h (λ e. ne (sym e)))
 
-  pub letter-long : size ≤ length (letter incoming starts lens k)
+  pub length-letter : length (letter incoming mail k) ≡ getD (mail .lens) k 0
   unfolding letter
-  letter-long =
-      let w = h .inside k l (λ e. ne (sym e)) in
-      let e : length (letter incoming starts lens k) ≡ getD lens k 0 =
-      length-take-le (getD lens k 0) (drop (getD starts k 0) incoming) (rw length-drop (omega arith)) in
-      omega (arith, e, h .long k l (λ e. ne (sym e)))
+  length-letter = length-get (getD (mail .starts) k 0) (getD (mail .lens) k 0) incoming (letter-fits .1)
+
+  pub letter-long : size ≤ length (letter incoming mail k)
+  letter-long = omega (arith, length-letter, a .long k h (λ e. ne (sym e)))

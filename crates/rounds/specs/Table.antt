@@ -11,7 +11,7 @@ use Rattle.block.specs.Block.{blockAt}
 use Rattle.share.specs.Record.{recordLen}
 use Rattle.permutation.specs.Permutation.{isPerm}
 use Rattle.message.specs.Format.{listOf, formOf}
-use Rattle.plan.specs.Plan.{kindOf, countDue, msgLen, leaky, rLen}
+use Rattle.plan.specs.Plan.{theRounds, kindOf, countDue, msgLen, leaky, rLen}
 use Rattle.engine.specs.declared.Frame.{Frame}
 use Rattle.engine.specs.Step.{Fault, none?, Loan}
 use Rattle.engine.specs.Plain.{Recv, Send, Table}
@@ -141,8 +141,7 @@ fine f = leb 2 (f .n) && leb (f .n) 8 && ltb (f .i) (f .n) && leb 1 (f .l) && le
 abbrev pub table : Table
 table = record {
   fine = fine;
-  last = 22;
-  echoes = 2 ∷ 7 ∷ 9 ∷ 11 ∷ 13 ∷ 16 ∷ 18 ∷ 20 ∷ [];
+  order = theRounds;
   count = ROUNDS-OWN;
   size = sizeOf;
   recv = recv;

@@ -47,10 +47,6 @@ pub length-commitment : (seed : List ℕ) (j : ℕ) → length (commitment seed 
 unfolding commitment hash
 length-commitment seed j = length-bytes _
 
-pub length-commMsg : (seed : List ℕ) (j : ℕ) → length (commMsg seed j) ≡ 40
-unfolding commMsg
-length-commMsg seed j = length-encode 32 1 (λ t. commitment seed j) (λ t l. length-commitment seed j)
-
 pub length-verMsg : (seed : List ℕ) → length (verMsg seed) ≡ 40
 unfolding verMsg
 length-verMsg seed = length-encode 1 32 (λ t. getD seed t 0 ∷ []) (λ t l. refl)

@@ -6,12 +6,18 @@ ghost use Prim.Native.Nat.{ℕ, _+_, _-_, _*_, _<_, _≤_};
 ghost use lib.ListN.{length, getD};
 ghost use Rattle.block.specs.Block.{le8};
 ghost use Rattle.engine.specs.Area.{toOthers};
-ghost use Rattle.rounds.specs.Mail as Mail;
+ghost use Rattle.rounds.specs.Mail as M;
 
 // A received fault: its number in document 01, 0 for none, and the party that it names.
 pub struct Fault {
     pub code: u8,
     pub party: usize,
+}
+
+// Where the messages of a round lie in the incoming buffer: a start and a length for each party.
+pub struct Mail {
+    pub starts: [usize; 8],
+    pub lens: [usize; 8],
 }
 
 // The same list to every other party, in a stretch of its own.
@@ -31,10 +37,11 @@ pub fn write_same(out: &mut [u8], count: usize, items: &[u8], n: usize)
 }
 
 // The message of party k.
-pub fn letter<'a>(incoming: &'a [u8], starts: &[usize], lens: &[usize], k: usize) -> &'a [u8]
-    requires { ⌜ (k < length (now starts)) × (k < length (now lens)) ⌝ }
-    requires { ⌜ getD (now starts) k 0 + getD (now lens) k 0 ≤ length (now incoming) ⌝ }
-    ensures { λ r. ⌜ now r ≡ Mail.letter (now (incoming .entry)) (now (starts .entry)) (now (lens .entry)) k ⌝ }
+pub fn letter(incoming: &[u8], mail: Mail, k: usize) -> &[u8]
+    requires { ⌜ (k < 8) × (getD (mail .starts) k 0 + getD (mail .lens) k 0 ≤ length (now incoming)) ⌝ }
+    ensures { λ r. ⌜ now r ≡ M.letter (now (incoming .entry)) mail k ⌝ }
 {
+    let starts = mail.starts;
+    let lens = mail.lens;
     message::part(incoming, starts[k], lens[k])
 }

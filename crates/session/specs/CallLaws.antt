@@ -2,7 +2,7 @@
 use mathlib.Core.Path.{_≡_, sym, ap, ap₂, _∙_}
 use mathlib.Core.Logic.{_≢_}
 use mathlib.Core.List.{List}
-use Prim.Native.Nat.{ℕ, _≤_}
+use Prim.Native.Nat.{ℕ}
 use lib.ListN.{length, replicate}
 use lib.Dec.{eqb}
 use Rattle.plan.specs.Plan.{nextRound}
@@ -12,7 +12,6 @@ use Rattle.engine.specs.StepLaws.{round-refuses, round-faults, round-accepts}
 use Rattle.engine.specs.Plain.{nextOf, ruleOf, protocolOf, keepOf, writeOf}
 use Rattle.rounds.specs.FaultLaws.{Finds}
 use Rattle.rounds.specs.Table.{table}
-use Rattle.admit.specs.AdmitLaws.{next-is}
 
 module _ (s : Session) (k : ℕ) (q : Lent) (w : List ℕ) where
   -- refused, and all as it was
@@ -35,13 +34,13 @@ module _ (s : Session) (k : ℕ) (q : Lent) (w : List ℕ) where
         ∙ sym (round-faults (protocolOf table) s k q w z bad)
 
     -- accepted
-    pub call-accepted : faultOf (ruleOf table k) (s .party) q w .code ≡ 0 → k ≤ 22 → (next : ℕ) → next ≡ nextRound (s .party .n) k
+    pub call-accepted : faultOf (ruleOf table k) (s .party) q w .code ≡ 0 → (next : ℕ) → next ≡ nextRound (s .party .n) k
         → (m : ℕ → List ℕ) → m ≡ mask (s .party) (heard (ruleOf table k) (s .party) q) → (v o : List ℕ)
         → v ≡ keepOf table k (s .party) (q .loan) w m → o ≡ writeOf table k (s .party) (q .loan) w m
         → outcome (record { party = s .party; due = next }) Accepted v o ≡ roundSpec (protocolOf table) s k q w
     unfolding accepted
-    call-accepted y h next e m em v o ev eo =
-        ap (λ d. outcome (record { party = s .party; due = d }) Accepted v o) (e ∙ sym (next-is (s .party .n) k h))
+    call-accepted y next e m em v o ev eo =
+        ap (λ d. outcome (record { party = s .party; due = d }) Accepted v o) e
         ∙ ap₂ (λ (a b : List ℕ). outcome (record { party = s .party; due = nextOf table (eqb (s .party .n) 2) k }) Accepted a b)
         (ev ∙ ap (keepOf table k (s .party) (q .loan) w) em) (eo ∙ ap (writeOf table k (s .party) (q .loan) w) em)
         ∙ sym (round-accepts (protocolOf table) s k q w z y)

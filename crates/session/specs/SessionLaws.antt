@@ -16,25 +16,27 @@ use Rattle.message.specs.declared.Kind.the-variants.{Options, Items}
 use Rattle.plan.specs.Plan.{echo?, nextRound, kindOf, countDue, msgLen}
 use Rattle.plan.specs.PlanLaws.{no-echo}
 use Rattle.engine.specs.declared.Frame.{Frame}
-use Rattle.engine.specs.Step.{none?, Loan, frame, mask}
-use Rattle.engine.specs.Plain.{isEcho, nextOf, toEcho, lenOf, outLenOf, lentOf, checkOf, echoCheck, held, made, keepOf, writeOf, digests}
-use Rattle.engine.specs.Area.{toOthers}
+use Rattle.engine.specs.Step.{none?, Loan, mask}
+use Rattle.engine.specs.Order.{echoIn, nextIn}
+use Rattle.engine.specs.Plain.{toEcho, lenOf, outLenOf, lentOf, checkOf, echoCheck, held, made, keepOf, writeOf, digests}
+use Rattle.engine.specs.Area.{toOthers, mem}
+use Rattle.rounds.specs.declared.Mail.{Mail}
 use Rattle.rounds.specs.Echo.{echo, echoMsg}
 use Rattle.rounds.specs.EchoLaws.{Received}
 use Rattle.rounds.specs.Table.{table}
 use Rattle.rounds.specs.Table as Table
-use Rattle.admit.specs.AdmitLaws.{echo-is, next-is, echo-kind, echo-count}
-use Rattle.receive.specs.MaskLaws as Masks
+use Rattle.admit.specs.AdmitLaws.{echo-kind, echo-count}
+use Rattle.plain.specs.MaskLaws as Masks
 
 -- ---- the order of the rounds, in plan's words
 pub to-echo-is : (n k : ℕ) (b : Bool) → b ≡ echo? (k + 1) → (not (eqb n 2) && b) ≡ toEcho table (eqb n 2) k
 unfolding toEcho
-to-echo-is n k b e = ap (λ x. not (eqb n 2) && x) (e ∙ ap echo? (add-one k) ∙ sym (echo-is (suc k)))
+to-echo-is n k b e = ap (λ x. not (eqb n 2) && x) (e ∙ ap echo? (add-one k))
 
 -- ---- what follows a call that writes no echo is no echo
 -- no two echoes stand together
 single : (k : ℕ) → k ≤ 22 → echo? k ≡ true → echo? (suc k) ≡ false
-unfolding allOf echo?
+unfolding allOf echoIn mem
 single k h e =
     let t : pick (echo? k) (not (echo? (suc k))) true ≡ true = of-all 23 (λ k. pick (echo? k) (not (echo? (suc k))) true) refl k (omega arith) in
     not-true (echo? (suc k)) (rw e at t)
@@ -43,75 +45,73 @@ single k h e =
     not-true true q = sym q
     not-true false q = refl
 
-pub next-plain : (n k : ℕ) → k < 22 → toEcho table (eqb n 2) k ≡ false → echo? (nextRound n k) ≡ false
-unfolding toEcho nextRound
-next-plain n k h e =
-    rw (lt-leb 22 k h, add-one k)
-    (go (eqb n 2) (echo? (suc k)) refl (sym (ap (λ b. not (eqb n 2) && b) (echo-is (suc k))) ∙ e))
-  where
-    go : (two b : Bool) → echo? (suc k) ≡ b → (not two && b) ≡ false → echo? (pick (two && b) (k + 2) (suc k)) ≡ false
-    go true true q z = ap echo? (let e : k + 2 ≡ suc (suc k) = omega arith in e) ∙ single (suc k) (omega arith) q
-    go true false q z = q
-    go false true q z = absurd (true-false z)
-    go false false q z = q
+module _ (n k : ℕ) (h : k < 22) where
+  pub next-plain : toEcho table (eqb n 2) k ≡ false → echo? (nextRound n k) ≡ false
+  unfolding toEcho nextIn
+  next-plain e = rw (lt-leb 22 k h) (go (eqb n 2) (echo? (suc k)) refl e)
+    where
+      go : (two b : Bool) → echo? (suc k) ≡ b → (not two && b) ≡ false → echo? (pick (two && b) (suc (suc k)) (suc k)) ≡ false
+      go true true q z = single (suc k) (omega arith) q
+      go true false q z = q
+      go false true q z = absurd (true-false z)
+      go false false q z = q
 
-pub next-low : (n k : ℕ) → k < 22 → 1 ≤ nextRound n k
-unfolding nextRound
-next-low n k h = rw (lt-leb 22 k h) (go (eqb n 2 && echo? (k + 1)))
-  where
-    go : (b : Bool) → 1 ≤ pick b (k + 2) (k + 1)
-    go true = omega arith
-    go false = omega arith
+  pub next-low : 1 ≤ nextRound n k
+  unfolding nextIn
+  next-low = rw (lt-leb 22 k h) (go (eqb n 2 && echo? (suc k)))
+    where
+      go : (b : Bool) → 1 ≤ pick b (suc (suc k)) (suc k)
+      go true = omega arith
+      go false = omega arith
 
-pub next-high : (n k : ℕ) → k < 22 → nextRound n k ≤ 22
-unfolding nextRound
-next-high n k h = rw (lt-leb 22 k h) (go (eqb n 2) (echo? (k + 1)) refl)
-  where
-    go : (two b : Bool) → echo? (k + 1) ≡ b → pick (two && b) (k + 2) (k + 1) ≤ 22
-    go true true q =
-        let ne : k ≢ 21 = λ z. true-false (sym q ∙ ap (λ j. echo? (j + 1)) z ∙ no-echo 22 (omega arith)) in
-        omega (arith, ne)
-    go true false q = omega arith
-    go false b q = omega arith
+  pub next-high : nextRound n k ≤ 22
+  unfolding nextIn
+  next-high = rw (lt-leb 22 k h) (go (eqb n 2) (echo? (suc k)) refl)
+    where
+      go : (two b : Bool) → echo? (suc k) ≡ b → pick (two && b) (suc (suc k)) (suc k) ≤ 22
+      go true true q =
+          let ne : k ≢ 21 = λ z. true-false (sym q ∙ ap (λ j. echo? (suc j)) z ∙ no-echo 22 (omega arith)) in
+          omega (arith, ne)
+      go true false q = omega arith
+      go false b q = omega arith
 
 -- ---- lengths and what is lent
-module _ (n l i k : ℕ) where
-  pub out-last : k ≡ 22 → outLenOf table k (frame n l i) ≡ l * recordLen n
+module _ (f : Frame) (k : ℕ) where
+  pub out-last : k ≡ 22 → outLenOf table k f ≡ f .l * recordLen (f .n)
   unfolding outLenOf
   out-last e = rw (eq-eqb k 22 e) refl
 
-  pub out-echo : k < 22 → toEcho table (eqb n 2) k ≡ true → outLenOf table k (frame n l i) ≡ (n - 1) * msgLen n 1 2
-  unfolding outLenOf lenOf nextOf toEcho echo
+  pub out-echo : k < 22 → toEcho table (eqb (f .n) 2) k ≡ true → outLenOf table k f ≡ (f .n - 1) * msgLen (f .n) 1 2
+  unfolding outLenOf lenOf nextIn toEcho echo
   out-echo h e =
-      let q = go (eqb n 2) (isEcho table (suc k)) e in
-      rw (ne-eqb k 22 (omega arith), q .0, q .1) refl
+      let q = go (eqb (f .n) 2) (echo? (suc k)) e in
+      rw (ne-eqb k 22 (omega arith), lt-leb 22 k h, q .0, q .1) refl
     where
       go : (two b : Bool) → (not two && b) ≡ true → (two ≡ false) × (b ≡ true)
       go true b z = absurd (true-false (sym z))
       go false b z = (refl, z)
 
-  pub out-made : k < 22 → toEcho table (eqb n 2) k ≡ false → outLenOf table k (frame n l i) ≡ (n - 1) * msgLen n l (nextRound n k)
+  pub out-made : k < 22 → toEcho table (eqb (f .n) 2) k ≡ false → outLenOf table k f ≡ (f .n - 1) * msgLen (f .n) (f .l) (nextRound (f .n) k)
   unfolding outLenOf lenOf
-  out-made h e =
-      rw (ne-eqb k 22 (omega arith), next-is n k (omega arith), echo-is (nextRound n k), next-plain n k h e) refl
+  out-made h e = rw (ne-eqb k 22 (omega arith), next-plain (f .n) k h e) refl
 
-  pub lent-made : (q : Loan) → k < 22 → toEcho table (eqb n 2) k ≡ false → lentOf table k n l q ≡ Table.lent (nextRound n k) n l q
+  pub lent-made : (q : Loan) → lentOf table k (f .n) (f .l) q ≡ Table.lent (nextRound (f .n) k) (f .n) (f .l) q
   unfolding lentOf
-  lent-made q h e = rw (next-is n k (omega arith)) refl
+  lent-made q = refl
 
 -- ---- the content
 module _ (f : Frame) (w : List ℕ) (m : ℕ → List ℕ) (k : ℕ) where
   pub check-echo : echo? k ≡ true → checkOf table k f w m ≡ echoCheck table k f w m
   unfolding checkOf
-  check-echo e = rw (echo-is k, e) refl
+  check-echo e = rw (e) refl
 
   pub check-held : echo? k ≡ false → toEcho table (eqb (f .n) 2) k ≡ true → checkOf table k f w m ≡ none?
   unfolding checkOf
-  check-held e t = rw (echo-is k, e, t) refl
+  check-held e t = rw (e, t) refl
 
   pub check-plain : echo? k ≡ false → toEcho table (eqb (f .n) 2) k ≡ false → checkOf table k f w m ≡ Table.judge k f w m
   unfolding checkOf
-  check-plain e t = rw (echo-is k, e, t) refl
+  check-plain e t = rw (e, t) refl
 
   -- ---- what is kept and written
   module _ (q : Loan) where
@@ -124,9 +124,9 @@ module _ (f : Frame) (w : List ℕ) (m : ℕ → List ℕ) (k : ℕ) where
     keep-held ne t = rw (ne-eqb k 22 ne, t) refl
 
     pub keep-made : k < 22 → toEcho table (eqb (f .n) 2) k ≡ false
-        → keepOf table k f q w m ≡ Table.held (nextRound (f .n) k) f q (pick (isEcho table k) w (Table.kept k f w m))
+        → keepOf table k f q w m ≡ Table.held (nextRound (f .n) k) f q (pick (echo? k) w (Table.kept k f w m))
     unfolding keepOf made
-    keep-made h t = rw (ne-eqb k 22 (omega arith), t, next-is (f .n) k (omega arith)) refl
+    keep-made h t = rw (ne-eqb k 22 (omega arith), t) refl
 
     pub write-last : k ≡ 22 → writeOf table k f q w m ≡ table .result f w m
     unfolding writeOf
@@ -139,17 +139,16 @@ module _ (f : Frame) (w : List ℕ) (m : ℕ → List ℕ) (k : ℕ) where
 
     pub write-made : k < 22 → toEcho table (eqb (f .n) 2) k ≡ false
         → writeOf table k f q w m ≡ toOthers (f .n) (f .i) (Table.written (nextRound (f .n) k) f q
-        (Table.held (nextRound (f .n) k) f q (pick (isEcho table k) w (Table.kept k f w m))))
+        (Table.held (nextRound (f .n) k) f q (pick (echo? k) w (Table.kept k f w m))))
     unfolding writeOf made
-    write-made h t = rw (ne-eqb k 22 (omega arith), t, next-is (f .n) k (omega arith)) refl
+    write-made h t = rw (ne-eqb k 22 (omega arith), t) refl
 
 -- ---- an echo's messages are n options
--- the messages of an echo, in form
-pub echo-received : (n i l k : ℕ) (incoming starts lens : List ℕ) → echo? k ≡ true
-    → Received (kindOf l k) (countDue n l k) n i incoming starts lens → Received Options n n i incoming starts lens
-echo-received n i l k incoming starts lens e r =
-    subst (λ c. Received Options c n i incoming starts lens) (echo-count k e n l)
-    (subst (λ K. Received K (countDue n l k) n i incoming starts lens) (echo-kind k e l) r)
+pub echo-received : (f : Frame) (k : ℕ) (incoming : List ℕ) (mail : Mail) → echo? k ≡ true
+    → Received (kindOf (f .l) k) (countDue (f .n) (f .l) k) f incoming mail → Received Options (f .n) f incoming mail
+echo-received f k incoming mail e r =
+    subst (λ c. Received Options c f incoming mail) (echo-count k e (f .n) (f .l))
+    (subst (λ K. Received K (countDue (f .n) (f .l) k) f incoming mail) (echo-kind k e (f .l)) r)
 
 -- ---- one of two work areas, by a test that was made
 pub zero-takes : (code : ℕ) (v x y : List ℕ) → code ≡ 0 → v ≡ x → v ≡ pick (eqb code 0) x y
@@ -158,17 +157,17 @@ zero-takes code v x y z e = e ∙ sym (ap (λ b. pick b x y) (eq-eqb code 0 z))
 pub other-leaves : (code : ℕ) (x y : List ℕ) → code ≢ 0 → y ≡ pick (eqb code 0) x y
 other-leaves code x y ne = sym (ap (λ b. pick b x y) (ne-eqb code 0 ne))
 
-pub plain-takes : (k : ℕ) (v x y : List ℕ) → echo? k ≡ false → v ≡ y → v ≡ pick (isEcho table k) x y
-plain-takes k v x y e q = q ∙ sym (ap (λ b. pick b x y) (echo-is k ∙ e))
+pub plain-takes : (k : ℕ) (v x y : List ℕ) → echo? k ≡ false → v ≡ y → v ≡ pick (echo? k) x y
+plain-takes k v x y e q = q ∙ sym (ap (λ b. pick b x y) e)
 
-pub echo-leaves : (k : ℕ) (x y : List ℕ) → echo? k ≡ true → x ≡ pick (isEcho table k) x y
-echo-leaves k x y e = sym (ap (λ b. pick b x y) (echo-is k ∙ e))
+pub echo-leaves : (k : ℕ) (x y : List ℕ) → echo? k ≡ true → x ≡ pick (echo? k) x y
+echo-leaves k x y e = sym (ap (λ b. pick b x y) e)
 
 -- ---- the last round
-pub last-received : (n i l : ℕ) (incoming starts lens : List ℕ) → Received (kindOf l 22) (countDue n l 22) n i incoming starts lens
-    → Received (Items 34 2) l n i incoming starts lens
+pub last-received : (f : Frame) (incoming : List ℕ) (mail : Mail) → Received (kindOf (f .l) 22) (countDue (f .n) (f .l) 22) f incoming mail
+    → Received (Items 34 2) (f .l) f incoming mail
 unfolding kindOf countDue
-last-received n i l incoming starts lens r = r
+last-received f incoming mail r = r
 
 -- the results look at other parties' messages alone
 pub results-masked : (f : Frame) (w : List ℕ) (m : ℕ → List ℕ) → table .result f w (mask f m) ≡ table .result f w m

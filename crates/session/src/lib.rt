@@ -9,23 +9,28 @@ ghost use lib.ListN.{length, replicate};
 ghost use lib.Dec.{eqb};
 ghost use Rattle.lists.specs.Pick.{pick};
 ghost use Rattle.share.specs.Record.{recordLen};
-ghost use Rattle.plan.specs.Plan.{kindOf, msgLen};
-ghost use Rattle.engine.specs.Step.{frame, mask, replyOf, outcome, faultOf, roundSpec};
-ghost use Rattle.engine.specs.Plain.{protocolOf, ruleOf, isEcho, toEcho, outLenOf, lentOf, digests, hashes, checkOf, held, made, keepOf, writeOf};
+ghost use Rattle.plan.specs.Plan.{echo?, kindOf, msgLen};
+ghost use Rattle.engine.specs.Step.{mask, replyOf, outcome, faultOf, roundSpec};
+ghost use Rattle.engine.specs.Plain.{protocolOf, ruleOf, toEcho, outLenOf, lentOf, digests, hashes, checkOf, held, made, keepOf, writeOf};
 ghost use Rattle.engine.specs.Area.{toOthers};
 ghost use Rattle.rounds.specs.Mail.{letter};
 ghost use Rattle.rounds.specs.FaultLaws.{Finds};
 ghost use Rattle.rounds.specs.Table as Table;
 ghost use Rattle.rounds.specs.Table.{table};
-ghost use Rattle.haand.specs.Given.{Work};
-ghost use Rattle.admit.specs.Admit.{usedOf};
-ghost use Rattle.send.specs.Plain.{plain};
-ghost use Rattle.session.specs.Given.{Let, Admitted, loan, lent};
+ghost use Rattle.area.specs.Given.{Work};
+ghost use Rattle.admit.specs.Admit.{loan, given, mailOf};
+ghost use Rattle.plain.specs.Plain.{plain};
+ghost use Rattle.session.specs.Given.{Let, Admitted};
 use admit::Heard;
 use engine::Answer;
+use engine::Frame;
 use engine::Session;
 use engine::Verdict;
 use rounds::Fault;
+use rounds::Mail;
+
+// The last round.
+const LAST: usize = 22;
 
 // Whether the call for round k writes an echo.
 fn to_echo(n: usize, k: usize) -> bool
@@ -35,146 +40,79 @@ fn to_echo(n: usize, k: usize) -> bool
     (n != 2) & plan::is_echo(k + 1)
 }
 
-// The content of the messages of round k, from the lists that were read: `used` bytes of each party's message. Where they are echoed, their faults
-// wait for the echo.
-fn content(
-    work: &[u8],
-    incoming: &[u8],
-    starts: &[usize],
-    used: &[usize],
-    n: usize,
-    i: usize,
-    l: usize,
-    k: usize,
-) -> Fault
-    requires { ⌜ Let n i l k (now work) (now incoming) (now starts) (now used) ⌝ }
-    ensures { λ r. ⌜ Finds (r .code) (r .party) (checkOf table k (frame n l i) (now (work .entry))
-        (mask (frame n l i) (letter (now (incoming .entry)) (now (starts .entry)) (now (used .entry))))) ⌝ }
+// The content of the messages of round k. Where they are echoed, their faults wait for the echo.
+fn content(work: &[u8], incoming: &[u8], mail: Mail, f: Frame, k: usize) -> Fault
+    requires { ⌜ Let f k (now work) (now incoming) mail ⌝ }
+    ensures { λ r. ⌜ Finds (r .code) (r .party) (checkOf table k f (now (work .entry)) (mask f (letter (now (incoming .entry)) mail))) ⌝ }
 {
+    let n = f.n;
     if plan::is_echo(k) {
-        return broadcast::check(work, incoming, starts, used, n, i, l, k);
+        return broadcast::check(work, incoming, mail, f, k);
     }
     if to_echo(n, k) {
         return Fault { code: 0, party: 0 };
     }
-    receive::judge(work, incoming, starts, used, n, i, l, k)
+    plain::judge(work, incoming, mail, f, k)
 }
 
 // What is received for round k is kept, unless its content has a fault.
-fn keep_clean(
-    work: &mut [u8],
-    code: u8,
-    incoming: &[u8],
-    starts: &[usize],
-    used: &[usize],
-    n: usize,
-    i: usize,
-    l: usize,
-    k: usize,
-)
-    requires { ⌜ Let n i l k (now work) (now incoming) (now starts) (now used) ⌝ }
-    requires { ⌜ code ≡ Table.judge k (frame n l i) (now work) (mask (frame n l i) (letter (now incoming) (now starts) (now used))) .code ⌝ }
-    ensures { λ _. ⌜ now (work .exit) ≡ pick (eqb code 0) (Table.kept k (frame n l i) (now (work .entry))
-        (mask (frame n l i) (letter (now (incoming .entry)) (now (starts .entry)) (now (used .entry))))) (now (work .entry)) ⌝ }
+fn keep_clean(work: &mut [u8], code: u8, incoming: &[u8], mail: Mail, f: Frame, k: usize)
+    requires { ⌜ Let f k (now work) (now incoming) mail ⌝ }
+    requires { ⌜ code ≡ Table.judge k f (now work) (mask f (letter (now incoming) mail)) .code ⌝ }
+    ensures { λ _. ⌜ now (work .exit) ≡ pick (eqb code 0) (Table.kept k f (now (work .entry)) (mask f (letter (now (incoming .entry)) mail)))
+        (now (work .entry)) ⌝ }
 {
     if code == 0 {
-        receive::keep(work, incoming, starts, used, n, i, l, k);
+        plain::keep(work, incoming, mail, f, k);
     }
 }
 
 // After a call that writes an echo: what was received without a fault is kept, and the hashes and the fault for the echo.
-fn hold_echo(
-    work: &mut [u8],
-    incoming: &[u8],
-    starts: &[usize],
-    used: &[usize],
-    n: usize,
-    i: usize,
-    l: usize,
-    k: usize,
-)
-    requires { ⌜ Let n i l k (now work) (now incoming) (now starts) (now used) ⌝ }
-    ensures { λ _. ⌜ (now (work .exit) ≡ held table k (frame n l i) (now (work .entry))
-        (mask (frame n l i) (letter (now (incoming .entry)) (now (starts .entry)) (now (used .entry)))))
-        × (hashes table (frame n l i) (now (work .exit)) ≡ digests table k (frame n l i)
-        (mask (frame n l i) (letter (now (incoming .entry)) (now (starts .entry)) (now (used .entry))))) ⌝ }
+fn hold_echo(work: &mut [u8], incoming: &[u8], mail: Mail, f: Frame, k: usize)
+    requires { ⌜ Let f k (now work) (now incoming) mail ⌝ }
+    ensures { λ _. ⌜ (now (work .exit) ≡ held table k f (now (work .entry)) (mask f (letter (now (incoming .entry)) mail)))
+        × (hashes table f (now (work .exit)) ≡ digests table k f (mask f (letter (now (incoming .entry)) mail))) ⌝ }
 {
-    let e = receive::judge(work, incoming, starts, used, n, i, l, k);
-    keep_clean(work, e.code, incoming, starts, used, n, i, l, k);
-    broadcast::note(work, e.code, e.party, incoming, starts, used, n, i, l, k);
+    let e = plain::judge(work, incoming, mail, f, k);
+    keep_clean(work, e.code, incoming, mail, f, k);
+    broadcast::note(work, e.code, e.party, incoming, mail, f, k);
 }
 
 // What is received for round k is kept; an echo is only compared.
-fn keep_received(
-    work: &mut [u8],
-    incoming: &[u8],
-    starts: &[usize],
-    used: &[usize],
-    n: usize,
-    i: usize,
-    l: usize,
-    k: usize,
-)
-    requires { ⌜ Let n i l k (now work) (now incoming) (now starts) (now used) ⌝ }
-    requires { ⌜ (isEcho table k ≡ false → Table.judge k (frame n l i) (now work)
-        (mask (frame n l i) (letter (now incoming) (now starts) (now used))) .code ≡ 0) ⌝ }
-    ensures { λ _. ⌜ now (work .exit) ≡ pick (isEcho table k) (now (work .entry)) (Table.kept k (frame n l i) (now (work .entry))
-        (mask (frame n l i) (letter (now (incoming .entry)) (now (starts .entry)) (now (used .entry))))) ⌝ }
+fn keep_received(work: &mut [u8], incoming: &[u8], mail: Mail, f: Frame, k: usize)
+    requires { ⌜ Let f k (now work) (now incoming) mail ⌝ }
+    requires { ⌜ (echo? k ≡ false → Table.judge k f (now work) (mask f (letter (now incoming) mail)) .code ≡ 0) ⌝ }
+    ensures { λ _. ⌜ now (work .exit) ≡ pick (echo? k) (now (work .entry))
+        (Table.kept k f (now (work .entry)) (mask f (letter (now (incoming .entry)) mail))) ⌝ }
 {
     if plan::is_echo(k) {
         return;
     }
-    receive::keep(work, incoming, starts, used, n, i, l, k);
+    plain::keep(work, incoming, mail, f, k);
 }
 
 // The messages of round `next` are made: what they need is kept, then they are written.
-fn make(
-    work: &mut [u8],
-    out: &mut [u8],
-    r: &[u8],
-    perm: &[u32],
-    n: usize,
-    i: usize,
-    l: usize,
-    next: usize,
-)
-    requires { ⌜ Work n i l (now work) ⌝ }
-    requires { ⌜ (plain next ≡ true) × (length (now out) ≡ (n - 1) * msgLen n l next) ⌝ }
-    requires { ⌜ Table.lent next n l (loan (now r) (now perm)) ≡ 0 ⌝ }
-    ensures { λ _. ⌜ (now (work .exit) ≡ Table.held next (frame n l i) (loan (now (r .entry)) (now (perm .entry))) (now (work .entry)))
-        × (now (out .exit) ≡ toOthers n i (Table.written next (frame n l i) (loan (now (r .entry)) (now (perm .entry)))
-        (Table.held next (frame n l i) (loan (now (r .entry)) (now (perm .entry))) (now (work .entry))))) ⌝ }
+fn make(work: &mut [u8], out: &mut [u8], r: &[u8], perm: &[u32], f: Frame, next: usize)
+    requires { ⌜ Work f (now work) ⌝ }
+    requires { ⌜ (plain next ≡ true) × (length (now out) ≡ (f .n - 1) * msgLen (f .n) (f .l) next) ⌝ }
+    requires { ⌜ Table.lent next (f .n) (f .l) (loan (now r) (now perm)) ≡ 0 ⌝ }
+    ensures { λ _. ⌜ (now (work .exit) ≡ Table.held next f (loan (now (r .entry)) (now (perm .entry))) (now (work .entry)))
+        × (now (out .exit) ≡ toOthers (f .n) (f .i) (Table.written next f (loan (now (r .entry)) (now (perm .entry)))
+        (Table.held next f (loan (now (r .entry)) (now (perm .entry))) (now (work .entry))))) ⌝ }
 {
-    send::hold(work, r, perm, n, i, l, next);
-    send::write(out, work, r, perm, n, i, l, next);
-}
-
-// Zeroes the work area.
-fn zero(work: &mut [u8])
-    ensures { λ _. ⌜ now (work .exit) ≡ replicate (length (now (work .entry))) 0 ⌝ }
-{
-    fill::clear(work);
+    plain::hold(work, r, perm, f, next);
+    plain::write(out, work, r, perm, f, next);
 }
 
 // The last call: the results are written, and the work area is zeroed.
-fn finish(
-    w: &mut [u8],
-    out: &mut [u8],
-    incoming: &[u8],
-    starts: &[usize],
-    used: &[usize],
-    n: usize,
-    i: usize,
-    l: usize,
-)
-    requires { ⌜ Let n i l 22 (now w) (now incoming) (now starts) (now used) ⌝ }
-    requires { ⌜ length (now out) ≡ l * recordLen n ⌝ }
+fn finish(w: &mut [u8], out: &mut [u8], incoming: &[u8], mail: Mail, f: Frame)
+    requires { ⌜ Let f 22 (now w) (now incoming) mail ⌝ }
+    requires { ⌜ length (now out) ≡ f .l * recordLen (f .n) ⌝ }
     ensures { λ _. ⌜ (now (w .exit) ≡ replicate (length (now (w .entry))) 0)
-        × (now (out .exit) ≡ table .result (frame n l i) (now (w .entry))
-        (mask (frame n l i) (letter (now (incoming .entry)) (now (starts .entry)) (now (used .entry))))) ⌝ }
+        × (now (out .exit) ≡ table .result f (now (w .entry)) (mask f (letter (now (incoming .entry)) mail))) ⌝ }
 {
-    beaver::write_results(out, w, incoming, starts, used, n, i, l);
-    zero(w);
+    faand::results(out, w, incoming, mail, f);
+    fill::clear(w);
 }
 
 // An accepted call for round k: what is kept, and what is written.
@@ -182,62 +120,58 @@ fn step(
     work: &mut [u8],
     out: &mut [u8],
     incoming: &[u8],
-    starts: &[usize],
-    used: &[usize],
+    mail: Mail,
     r: &[u8],
     perm: &[u32],
-    n: usize,
-    i: usize,
-    l: usize,
+    f: Frame,
     k: usize,
 )
-    requires { ⌜ Let n i l k (now work) (now incoming) (now starts) (now used) ⌝ }
-    requires { ⌜ checkOf table k (frame n l i) (now work) (mask (frame n l i) (letter (now incoming) (now starts) (now used))) .code ≡ 0 ⌝ }
-    requires { ⌜ (length (now out) ≡ outLenOf table k (frame n l i)) × (lentOf table k n l (loan (now r) (now perm)) ≡ 0) ⌝ }
-    ensures { λ _. ⌜ (now (work .exit) ≡ keepOf table k (frame n l i) (loan (now (r .entry)) (now (perm .entry))) (now (work .entry))
-        (mask (frame n l i) (letter (now (incoming .entry)) (now (starts .entry)) (now (used .entry)))))
-        × (now (out .exit) ≡ writeOf table k (frame n l i) (loan (now (r .entry)) (now (perm .entry))) (now (work .entry))
-        (mask (frame n l i) (letter (now (incoming .entry)) (now (starts .entry)) (now (used .entry))))) ⌝ }
+    requires { ⌜ Let f k (now work) (now incoming) mail ⌝ }
+    requires { ⌜ checkOf table k f (now work) (mask f (letter (now incoming) mail)) .code ≡ 0 ⌝ }
+    requires { ⌜ (length (now out) ≡ outLenOf table k f) × (lentOf table k (f .n) (f .l) (loan (now r) (now perm)) ≡ 0) ⌝ }
+    ensures { λ _. ⌜ (now (work .exit) ≡ keepOf table k f (loan (now (r .entry)) (now (perm .entry))) (now (work .entry))
+        (mask f (letter (now (incoming .entry)) mail)))
+        × (now (out .exit) ≡ writeOf table k f (loan (now (r .entry)) (now (perm .entry))) (now (work .entry))
+        (mask f (letter (now (incoming .entry)) mail))) ⌝ }
 {
-    if k == 22 {
-        finish(work, out, incoming, starts, used, n, i, l);
+    let n = f.n;
+    if k == LAST {
+        finish(work, out, incoming, mail, f);
     } else if to_echo(n, k) {
-        hold_echo(work, incoming, starts, used, n, i, l, k);
-        broadcast::write(out, work, n, i, l);
+        hold_echo(work, incoming, mail, f, k);
+        broadcast::write(out, work, f);
     } else {
-        keep_received(work, incoming, starts, used, n, i, l, k);
-        make(work, out, r, perm, n, i, l, plan::next_round(n, k));
+        keep_received(work, incoming, mail, f, k);
+        make(work, out, r, perm, f, plan::next_round(n, k));
     }
 }
 
-// A received fault: of form, party by party, then of content; without one, what the reader handed back of each message.
+// A received fault: of form, party by party, then of content; without one, where the lists lie.
 fn fault(
     work: &[u8],
     incoming: &[u8],
     starts: &[usize],
     lens: &[usize],
     missing: &[u8],
-    n: usize,
-    i: usize,
-    l: usize,
+    f: Frame,
     k: usize,
 ) -> Heard
-    requires { ⌜ Admitted n i l k (now work) (now incoming) (now starts) (now lens) (now missing) ⌝ }
-    ensures { λ e. ⌜ (((r perm out : List ℕ) → Finds (e .code) (e .party) (faultOf (ruleOf table k) (frame n l i)
-        (lent (now (incoming .entry)) (now (starts .entry)) (now (lens .entry)) (now (missing .entry)) r perm out) (now (work .entry)))))
-        × (e .code ≡ 0 → e .used ≡ usedOf n i (kindOf l k)
-        (lent (now (incoming .entry)) (now (starts .entry)) (now (lens .entry)) (now (missing .entry)) [] [] [])) ⌝ }
+    requires { ⌜ Admitted f k (now work) (now incoming) (now starts) (now lens) (now missing) ⌝ }
+    ensures { λ e. ⌜ (((r perm out : List ℕ) → Finds (e .code) (e .party) (faultOf (ruleOf table k) f
+        (given (now (incoming .entry)) (now (starts .entry)) (now (lens .entry)) (now (missing .entry)) r perm out) (now (work .entry)))))
+        × (e .code ≡ 0 → e .mail ≡ mailOf f (kindOf (f .l) k)
+        (given (now (incoming .entry)) (now (starts .entry)) (now (lens .entry)) (now (missing .entry)) [] [] [])) ⌝ }
 {
-    let h = admit::form(incoming, starts, lens, missing, n, i, l, k);
+    let h = admit::form(incoming, starts, lens, missing, f, k);
     if h.code != 0 {
         return h;
     }
-    let used = h.used;
-    let e = content(work, incoming, starts, &used[..n], n, i, l, k);
+    let mail = h.mail;
+    let e = content(work, incoming, mail, f, k);
     Heard {
         code: e.code,
         party: e.party,
-        used: used,
+        mail: mail,
     }
 }
 
@@ -256,52 +190,30 @@ pub fn round(
     out: &mut [u8],
 ) -> Answer
     ensures { λ a. ⌜ outcome (a .session) (replyOf (a .verdict)) (now (work .exit)) (now (out .exit)) ≡ roundSpec (protocolOf table) s k
-        (lent (now (incoming .entry)) (now (starts .entry)) (now (lens .entry)) (now (missing .entry)) (now (r .entry)) (now (perm .entry)) (now (out .entry)))
+        (given (now (incoming .entry)) (now (starts .entry)) (now (lens .entry)) (now (missing .entry)) (now (r .entry)) (now (perm .entry)) (now (out .entry)))
         (now (work .entry)) ⌝ }
 {
-    let party = s.party;
-    let n = party.n;
+    let f = s.party;
     let code = admit::reason(s, k, incoming, starts, lens, missing, r, perm, work, out);
     if code != 0 {
         return Answer {
             session: s,
-            verdict: Verdict::Refused(code, party.i),
+            verdict: Verdict::Refused(code, f.i),
         };
     }
-    let e = fault(
-        work,
-        incoming,
-        starts,
-        lens,
-        missing,
-        n,
-        party.i,
-        party.l,
-        k,
-    );
+    let e = fault(work, incoming, starts, lens, missing, f, k);
     if e.code != 0 {
-        zero(work);
+        fill::clear(work);
         return Answer {
             session: engine::ended(s),
             verdict: Verdict::Refused(e.code, e.party),
         };
     }
-    let used = e.used;
-    step(
-        work,
-        out,
-        incoming,
-        starts,
-        &used[..n],
-        r,
-        perm,
-        n,
-        party.i,
-        party.l,
-        k,
-    );
+    let mail = e.mail;
+    step(work, out, incoming, mail, r, perm, f, k);
+    let n = f.n;
     let after = Session {
-        party: party,
+        party: f,
         due: plan::next_round(n, k),
     };
     Answer {

@@ -54,12 +54,6 @@ module _ (n : ℕ) (v : Shared Block) (files : ℕ → List ℕ) (at : ℕ)
       agree i li .mac j lj ne ∙ g i j li lj ne
       ∙ ap₂ (λ (k : Block) (b : Bool). blocks .op k (sel blocks b (δ j))) (sym (agree j lj .key i li (λ e. ne (sym e)))) (sym (agree i li .bit))
 
-  pub at-good : (δ : ℕ → Block) → Good blocks n δ (sharedAt files at) → Good blocks n δ v
-  unfolding sharedAt shareAt shareOf
-  at-good δ g i j li lj ne =
-      sym (agree i li .mac j lj ne) ∙ g i j li lj ne
-      ∙ ap₂ (λ (k : Block) (b : Bool). blocks .op k (sel blocks b (δ j))) (agree j lj .key i li (λ e. ne (sym e))) (agree i li .bit)
-
   pub total-at : total n (sharedAt files at) ≡ total n v
   unfolding sharedAt shareAt shareOf
   total-at = sum-ext bits n (λ i. bitAt (files i) at) (v .bit) (λ i l. agree i l .bit)

@@ -1,33 +1,27 @@
 -- Laws about shares and the records that hold them.
 use mathlib.Core.Path.{_≡_, refl, sym, ap, ap₂, _∙_, subst}
-use mathlib.Core.Bool.{Bool, true, false, not, Bool·beq}
+use mathlib.Core.Bool.{Bool, true, false}
 use mathlib.Core.Logic.{_≢_}
 use mathlib.Core.List.{List, [], _∷_, _++_, append-nil}
 use Prim.Native.Nat.{ℕ, zero, suc, _+_, _*_, _<_, _≤_}
 use native.Mathlib.Nat.{le-refl}
 use native.Mathlib.Omega.{arith}
-use lib.ListN.{length, getD, take, drop, replicate, length-append}
-use lib.Seq.{take-at, drop-at, drop-drop, drop-cons, take-add}
+use lib.ListN.{length, take, drop, replicate, length-append}
+use lib.Seq.{take-at, drop-at, drop-drop, take-add, getD-take, getD-drop}
 use Rattle.lists.specs.Pick.{pick}
 use Rattle.lists.specs.Over.{cat, length-cat}
-use Rattle.lists.specs.Rows.{chunk, chunk-cat, cat-chunk, cat-ext}
+use Rattle.lists.specs.Sect.{get}
+use Rattle.lists.specs.Rows.{chunk, chunk-cat, cat-ext}
 use Rattle.lists.specs.Bytes.{Bytes, bytes-cons, bytes-append, bytes-cat, bytes-replicate}
-use Rattle.algebra.specs.Group.{XorGroup, bits, addb, sel, num, odd-num, num-odd}
+use Rattle.algebra.specs.Group.{XorGroup, bits, addb, sel, odd, num, odd-num}
 use Rattle.algebra.specs.Sum.{sum, neq, neq-self, neq-true, Same, same, apart, apart?}
 use Rattle.block.specs.declared.Block.{Block}
 use Rattle.block.specs.Block.{blockAt, wordAt, bytesOf, le8, zeroOf}
 use Rattle.block.specs.Group.{blocks}
-use Rattle.block.specs.Trip.{Small, small-xor, small-nil, length-bytesOf, bytes-bytesOf, block-bytesOf, block-at, block-drop, block-take, bytesOf-at}
-use Rattle.share.specs.Record.{recordLen, macOff, keyOff, bitAt, macAt, keyAt, recordsFault}
-use Rattle.share.specs.RecordLaws.{Valid, valid-faults, byte-part, bit-part, mac-part, key-part, small-mac, small-key}
+use Rattle.block.specs.Trip.{Small, small-xor, small-nil, length-bytesOf, bytes-bytesOf, block-bytesOf, block-at, block-drop, block-take, block-get, bytesOf-at}
+use Rattle.share.specs.Record.{recordLen, macOff, keyOff, bitAt, macAt, keyAt}
+use Rattle.share.specs.RecordLaws.{Valid, bit-part, mac-part, key-part, small-mac, small-key}
 use Rattle.share.specs.Share.{Share, shareAt, shares, entryBytes, entryOf, recordOf}
-
--- XOR of two bools, as the code has it
-pub xor-bits : (a b : Bool) → not (Bool·beq a b) ≡ addb a b
-xor-bits false false = refl
-xor-bits false true = refl
-xor-bits true false = refl
-xor-bits true true = refl
 
 -- ---- a bit times a share, part by part
 pub bit-sel : (d : Bool) (a : Share) → (sel shares d a) .bit ≡ sel bits d (a .bit)
@@ -188,6 +182,36 @@ module _ (n i : ℕ) where
   agree-sel false a b h = agree-refl (shares .nil)
   agree-sel true a b h = h
 
+-- ---- two shares that are the same among n parties
+pub record Alike (n : ℕ) (x y : Share) : Type 0 where
+  pub bit : x .bit ≡ y .bit
+  pub mac : (k : ℕ) → k < n → x .mac k ≡ y .mac k
+  pub key : (k : ℕ) → k < n → x .key k ≡ y .key k
+
+module _ (n : ℕ) where
+  pub alike-op : (a b c d : Share) → Alike n a c → Alike n b d → Alike n (shares .op a b) (shares .op c d)
+  unfolding shares
+  alike-op a b c d h g = record {
+    bit = ap₂ addb (h .bit) (g .bit);
+    mac = λ k l. ap₂ (blocks .op) (h .mac k l) (g .mac k l);
+    key = λ k l. ap₂ (blocks .op) (h .key k l) (g .key k l);
+  }
+
+  pub alike-agree : (i : ℕ) (x y : Share) → Alike n x y → Agree n i x y
+  alike-agree i x y h = record { bit = h .bit; mac = λ k l ne. h .mac k l; key = λ k l ne. h .key k l }
+
+  -- a record is read where it stands as in a part of m bytes from o on that has it whole
+  pub alike-get : (s : List ℕ) (o m at : ℕ) → at + recordLen n ≤ m → Alike n (shareAt s (o + at)) (shareAt (get o m s) at)
+  unfolding shareAt bitAt macAt keyAt
+  alike-get s o m at h = record {
+    bit = ap odd (sym (getD-take m (drop o s) at 0 (omega arith) ∙ getD-drop o s at 0));
+    mac = λ k l. block (macOff k) (omega arith);
+    key = λ k l. block (keyOff k) (omega arith);
+  }
+    where
+      block : (b : ℕ) → b + 16 ≤ recordLen n → blockAt s (o + at + b) ≡ blockAt (get o m s) (at + b)
+      block b l = ap (blockAt s) (let e : o + at + b ≡ o + (at + b) = omega arith in e) ∙ sym (block-get s o m (at + b) (omega arith))
+
 -- ---- written, then read
 module _ (n i : ℕ) (x : Share) where
   entry-part : (k : ℕ) → k < n → take 32 (drop (macOff k) (recordOf n i x)) ≡ entryOf i x k
@@ -245,15 +269,6 @@ module _ (n i : ℕ) (x : Share) (s : List ℕ) (at : ℕ) (here : take (recordL
   num-bit false = omega arith
   num-bit true = omega arith
 
-  -- a written record passes the check
-  pub valid-here : i < n → Valid i s at
-  unfolding recordOf
-  valid-here h = record {
-    bit = rw (sym (byte-part n at s) ∙ ap (λ (l : List ℕ). getD l 0 0) here) (num-bit (x .bit));
-    mac = own-mac-here h;
-    key = own-key-here h;
-  }
-
   -- and is read as it was written
   pub read-here : SmallShare n x → Agree n i (shareAt s at) x
   unfolding shareAt
@@ -278,22 +293,12 @@ record-row n i count f t h = chunk-cat (recordLen n) count (λ j. recordOf n i (
 pub read-front : (n i : ℕ) (x : Share) (rest : List ℕ) → SmallShare n x → Agree n i (shareAt (recordOf n i x ++ rest) 0) x
 read-front n i x rest = read-here n i x (recordOf n i x ++ rest) 0 (record-behind n i x [] rest 0 refl)
 
-pub read-row : (n i count : ℕ) (f : ℕ → Share) (t : ℕ) → t < count → SmallShare n (f t)
-    → Agree n i (shareAt (cat count (λ j. recordOf n i (f j))) (t * recordLen n)) (f t)
-read-row n i count f t h = read-here n i (f t) (cat count (λ j. recordOf n i (f j))) (t * recordLen n) (record-row n i count f t h)
-
 -- a record that is all there is: what is added to it is added to x
 pub record-add : (n i : ℕ) (x y : Share) → SmallShare n x → recordOf n i (shares .op (shareAt (recordOf n i x) 0) y) ≡ recordOf n i (shares .op x y)
 record-add n i x y sm =
     agree-record n i (shares .op (shareAt (recordOf n i x) 0) y) (shares .op x y)
     (agree-op n i (shareAt (recordOf n i x) 0) y x y
     (subst (λ (l : List ℕ). Agree n i (shareAt l 0) x) (append-nil (recordOf n i x)) (read-front n i x [] sm)) (agree-refl n i y))
-
--- a list of records that was written passes the check
-pub rows-valid : (n i count : ℕ) (f : ℕ → Share) → i < n → recordsFault n i (cat count (λ j. recordOf n i (f j))) count ≡ 0
-rows-valid n i count f h =
-    valid-faults n i (cat count (λ j. recordOf n i (f j))) count
-    (λ t l. valid-here n i (f t) (cat count (λ j. recordOf n i (f j))) (t * recordLen n) (record-row n i count f t l) h)
 
 -- ---- read, then written: a record that passes the check is copied byte for byte
 module _ (n i : ℕ) (s : List ℕ) (at : ℕ) (h : Bytes s) (v : Valid i s at) (fits : at + recordLen n ≤ length s) where
@@ -315,13 +320,3 @@ module _ (n i : ℕ) (s : List ℕ) (at : ℕ) (h : Bytes s) (v : Valid i s at) 
           sym zero-pair
           ∙ ap₂ (λ (m y : Block). bytesOf m ++ bytesOf y) (sym (v .mac) ∙ ap (macAt s at) e) (sym (v .key) ∙ ap (keyAt s at) e)
           ∙ pair-at k l
-
-  pub record-again : recordOf n i (shareAt s at) ≡ take (recordLen n) (drop at s)
-  unfolding recordOf shareAt bitAt chunk
-  record-again =
-      ap₂ (λ b (l : List ℕ). b ∷ l) (num-odd (getD s at 0) (let w : getD s at 0 < 2 = omega (arith, v .bit) in w))
-      (cat-ext n (entryOf i (shareAt s at)) (λ k. chunk 32 k (drop (suc at) s))
-      (λ k l. entry-at k l ∙ ap (take 32) (ap (λ a. drop a s) (let e : at + macOff k ≡ suc at + k * 32 = omega arith in e) ∙ sym (drop-drop (k * 32) (suc at) s)))
-      ∙ cat-chunk 32 n (drop (suc at) s))
-      ∙ ap (take (suc (n * 32))) (sym (drop-cons s at 0 (omega arith)))
-      ∙ ap (λ m. take m (drop at s)) (let e : suc (n * 32) ≡ recordLen n = omega arith in e)

@@ -309,7 +309,8 @@ pub fn mac_holds(
     requires { ⌜ («bit_at» < length (now m)) × («mac_at» + 16 ≤ length (now m)) ⌝ }
     requires { ⌜ (k < 8) × (a + recordLen (k + 1) ≤ length (now s)) × (b + recordLen (k + 1) ≤ length (now t)) ⌝ }
     ensures { λ r. ⌜ r ≡ eqBlock (blockAt (now (m .entry)) «mac_at») (blocks .op
-        (shares .op (shareAt (now (s .entry)) a) (shareAt (now (t .entry)) b) .key k) (sel blocks (odd (getD (now (m .entry)) «bit_at» 0)) (delta .0))) ⌝ }
+        (shares .op (shareAt (now (s .entry)) a) (shareAt (now (t .entry)) b) .key k)
+        (sel blocks (odd (getD (now (m .entry)) «bit_at» 0)) (delta .0))) ⌝ }
 {
     let key = sum_key(s, a, t, b, k);
     let mac = key.xor_delta(delta.times(block::bit(m, bit_at)));

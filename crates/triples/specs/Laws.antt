@@ -1,8 +1,9 @@
 -- Leaky ANDs as records x and z in a buffer, and what a step of combining makes of them.
 use mathlib.Core.Path.{_≡_, refl, sym, ap, ap₂, _∙_}
 use mathlib.Core.Bool.{Bool}
+use mathlib.Core.Logic.{_≢_}
 use mathlib.Core.List.{List, [], _++_}
-use Prim.Native.Nat.{ℕ, _+_, _-_, _*_, _≤_}
+use Prim.Native.Nat.{ℕ, _+_, _-_, _*_}
 use native.Mathlib.Omega.{arith}
 use lib.ListN.{length, getD, take, drop, replicate, length-append, length-drop, take-append-drop}
 use lib.Seq.{take-at, drop-at, take-all}
@@ -15,10 +16,12 @@ use Rattle.block.specs.Block.{Small}
 use Rattle.block.specs.Trip.{small-xor, small-sel}
 use Rattle.share.specs.Record.{recordLen}
 use Rattle.share.specs.RecordLaws.{small-mac, small-key}
-use Rattle.share.specs.Share.{Share, shareAt, shares, recordOf}
-use Rattle.share.specs.ShareLaws.{SmallShare, small-share-at, Agree, agree-record, agree-op, agree-refl, read-front, length-recordOf, bytes-recordOf}
+use Rattle.share.specs.Share.{shareAt, shares, recordOf}
+use Rattle.share.specs.ShareLaws.{SmallShare, small-share-at, Agree, agree-record, agree-op, agree-refl}
+use Rattle.share.specs.ShareLaws.{read-front, length-recordOf, bytes-recordOf}
 use Rattle.plan.specs.Plan.{leaky}
 use Rattle.engine.specs.declared.Frame.{Frame}
+use Rattle.rounds.specs.Area.{BITS, ZS, ES, PERM, DS, TRIPLES, at}
 use Rattle.rounds.specs.Haand.{x, y, r}
 use Rattle.rounds.specs.Flaand.{zKey}
 use Rattle.rounds.specs.Buckets.{Triple, two, combine, entry, later, zShare, leakyAnd, abc, tripleRow, tripleRows}
@@ -40,7 +43,9 @@ module _ (f : Frame) (delta : Block) (recs zs es : List ℕ) (hr : Bytes recs) (
   unfolding zShare zKey r shareAt
   small-z = record {
     mac = λ k l. small-mac recs hr ((2 * leaky (f .l) + t) * recordLen (f .n)) k;
-    key = λ k l. small-xor _ _ (small-key recs hr ((2 * leaky (f .l) + t) * recordLen (f .n)) k) (small-sel (odd (getD es (k * leaky (f .l) + t) 0)) delta hd);
+    key =
+        λ k l. small-xor _ _ (small-key recs hr ((2 * leaky (f .l) + t) * recordLen (f .n)) k)
+        (small-sel (odd (getD es (k * leaky (f .l) + t) 0)) delta hd);
   }
 
   pub small-leaky : SmallTriple (f .n) (leakyAt f delta recs zs es t)
@@ -92,7 +97,9 @@ module _ (f : Frame) (g : Triple) where
 module _ (f : Frame) (delta : Block) (recs zs es : List ℕ) (hr : Bytes recs) (hd : Small delta) (t c : ℕ) (zr : List ℕ)
     (hz : zr ≡ recordOf (f .n) (f .i) (zShare f delta recs zs es t) ++ replicate c 0) where
   z-bytes : Bytes zr
-  z-bytes = rw hz (bytes-append (recordOf (f .n) (f .i) (zShare f delta recs zs es t)) (replicate c 0) (bytes-recordOf (f .n) (f .i) _) (bytes-replicate c 0 (omega arith)))
+  z-bytes =
+      rw hz (bytes-append (recordOf (f .n) (f .i) (zShare f delta recs zs es t)) (replicate c 0) (bytes-recordOf (f .n) (f .i) _)
+      (bytes-replicate c 0 (omega arith)))
 
   z-agree : Agree (f .n) (f .i) (shareAt zr 0) (zShare f delta recs zs es t)
   z-agree = rw hz (read-front (f .n) (f .i) (zShare f delta recs zs es t) (replicate c 0) (small-z f delta recs zs es hr hd t))
@@ -125,9 +132,11 @@ module _ (f : Frame) (delta : Block) (recs zs es : List ℕ) (hr : Bytes recs) (
         → pair′ ≡ putPair (f .n) (f .i) len (two (pairAt pair 0 pair len) (pairAt recs at zr 0) d) pair
         → Holds (f .n) (f .i) (recordLen (f .n)) (two g (leakyAt f delta recs zs es t) d) pair′
     holds-step len at pair′ hl ha long e =
-        let e′ : pair′ ≡ putPair (f .n) (f .i) (recordLen (f .n)) (two (pairAt pair 0 pair (recordLen (f .n))) (pairAt recs (t * recordLen (f .n)) zr 0) d) pair =
+        let e′ : pair′ ≡ putPair (f .n) (f .i) (recordLen (f .n))
+        (two (pairAt pair 0 pair (recordLen (f .n))) (pairAt recs (t * recordLen (f .n)) zr 0) d) pair =
         e ∙ ap₂ (λ k a. putPair (f .n) (f .i) k (two (pairAt pair 0 pair k) (pairAt recs a zr 0) d) pair) hl ha in
-        let h = holds-turn (f .n) (f .i) (recordLen (f .n)) g (pairAt recs (t * recordLen (f .n)) zr 0) d pair w pair′ (omega arith) (omega (arith, long)) small-lent e′ in
+        let h = holds-turn (f .n) (f .i) (recordLen (f .n)) g (pairAt recs (t * recordLen (f .n)) zr 0) d pair w pair′ (omega arith)
+        (omega (arith, long)) small-lent e′ in
         record {
           x-here = h .x-here ∙ same-x;
           z-here = h .z-here ∙ same-z;
@@ -160,25 +169,34 @@ module _ (f : Frame) (delta : Block) (recs zs es perm opened : List ℕ) (j : �
 unfoldable pub abcRow : Frame → Block → List ℕ → List ℕ → List ℕ → List ℕ → List ℕ → ℕ → List ℕ
 abcRow f delta recs zs es perm opened j = tripleRow f (abc f delta recs zs es perm opened j)
 
+-- from the sections of a work area
+unfoldable pub rowOf : Frame → Block → List ℕ → ℕ → List ℕ
+rowOf f delta w = abcRow f delta (at f BITS w) (at f ZS w) (at f ES w) (at f PERM w) (at f DS w)
+
 module _ (f : Frame) (delta : Block) where
-  pub row-same : (a a′ b b′ c c′ d d′ e e′ : List ℕ) (j : ℕ) → a ≡ a′ → b ≡ b′ → c ≡ c′ → d ≡ d′ → e ≡ e′ → abcRow f delta a b c d e j ≡ abcRow f delta a′ b′ c′ d′ e′ j
-  row-same a a′ b b′ c c′ d d′ e e′ j ha hb hc hd he =
-      ap₂ (λ (x y : List ℕ). abcRow f delta x y c d e j) ha hb ∙ ap₂ (λ (x y : List ℕ). abcRow f delta a′ b′ x y e j) hc hd ∙ ap (λ (x : List ℕ). abcRow f delta a′ b′ c′ d′ x j) he
+  row-same : {a a′ b b′ c c′ d d′ e e′ : List ℕ} (j : ℕ) → a ≡ a′ → b ≡ b′ → c ≡ c′ → d ≡ d′ → e ≡ e′
+      → abcRow f delta a b c d e j ≡ abcRow f delta a′ b′ c′ d′ e′ j
+  row-same j ha hb hc hd he i = abcRow f delta (ha i) (hb i) (hc i) (hd i) (he i) j
 
-  module _ (recs zs es perm opened : List ℕ) where
-    pub row-is : (j : ℕ) → tripleRow f (abc f delta recs zs es perm opened j) ≡ abcRow f delta recs zs es perm opened j
-    unfolding abcRow
-    row-is j = refl
+  -- what was made of the sections as they were lent
+  pub row-of : (w : List ℕ) {a b c d e : List ℕ} (j : ℕ) (x : List ℕ) → a ≡ at f BITS w → b ≡ at f ZS w → c ≡ at f ES w
+      → d ≡ at f PERM w → e ≡ at f DS w
+      → x ≡ tripleRow f (abc f delta a b c d e j) → x ≡ rowOf f delta w j
+  unfolding rowOf abcRow
+  row-of w j x ha hb hc hd he h = h ∙ row-same j ha hb hc hd he
 
-    pub length-abcRow : (j : ℕ) → length (abcRow f delta recs zs es perm opened j) ≡ 2 * recordLen (f .n)
-    unfolding abcRow
-    length-abcRow j = length-row f (abc f delta recs zs es perm opened j)
+  -- another work area that has the same
+  pub row-kept : (w v : List ℕ) (j : ℕ) → ((s : ℕ) → s ≢ TRIPLES → at f s v ≡ at f s w) → rowOf f delta v j ≡ rowOf f delta w j
+  unfolding rowOf
+  row-kept w v j h =
+      row-same j (h BITS (λ e. omega arith)) (h ZS (λ e. omega arith)) (h ES (λ e. omega arith)) (h PERM (λ e. omega arith))
+      (h DS (λ e. omega arith))
 
-    pub rows-are : cat (f .l) (abcRow f delta recs zs es perm opened) ≡ tripleRows f delta recs zs es perm opened
-    unfolding abcRow tripleRows
-    rows-are = refl
+  pub length-rowOf : (w : List ℕ) (j : ℕ) → length (rowOf f delta w j) ≡ 2 * recordLen (f .n)
+  unfolding rowOf abcRow
+  length-rowOf w j = length-row f _
 
-    -- it lies within what is returned
-    pub row-long : (j k : ℕ) (row : List ℕ) → row ≡ abcRow f delta recs zs es perm opened j ++ replicate (514 - 2 * recordLen (f .n)) 0 → k ≡ 2 * recordLen (f .n) → k ≤ length row
-    row-long j k row e h =
-        omega (arith, ap length e, length-append (abcRow f delta recs zs es perm opened j) (replicate (514 - 2 * recordLen (f .n)) 0), length-abcRow j)
+  pub rows-are : (w : List ℕ)
+      → cat (f .l) (rowOf f delta w) ≡ tripleRows f delta (at f BITS w) (at f ZS w) (at f ES w) (at f PERM w) (at f DS w)
+  unfolding rowOf abcRow tripleRows
+  rows-are w = refl

@@ -1,6 +1,8 @@
 -- `admit::read_one` meets its contract.
 use Rattle.lists.specs.Kit.{ap, _∙_, [], now, needs}
+use borrow.Author.Tests.{le-leb}
 use Rattle.message.specs.Format as Format
+use Rattle.message.specs.Read as Read
 use Rattle.engine.specs.Step.{Lent}
 use Rattle.rounds.specs.FaultLaws.{fault-own, fault-other}
 use Rattle.admit.specs.Admit.{given, kindFault}
@@ -28,18 +30,21 @@ returns-2 c =
       used-gone (s .args .i) (mail s) (s .args .k) (s .args .kind) ne (c .if2 .taken),
     )
 
-letter-requires : tie.Need-letter-requires
-letter-requires c κs =
-    let s = c .before .before .before .before .before .before .before in
-    ((s .pre .0 .0, s .pre .0 .1), fits-inside (s .args .i) (mail s) (s .args .k) (c .before .before .if1 .left) (c .if2 .left) (s .pre .1))
+part-requires : tie.Need-part-requires
+unfolding Read.inside
+part-requires c κs =
+    let e = c .before .before in
+    let s = e .before .before .before .before .before .before .before in
+    le-leb _ _ (fits-inside (s .args .i) (mail s) (s .args .k) (e .before .before .if1 .left) (e .if2 .left) (s .pre .1))
 
 returns-3 : tie.Need-returns-3
 returns-3 c =
-    let s = c .before .before .before .before .before .before .before .before .before in
-    let ne = c .before .before .before .before .if1 .left in
-    let there = c .before .before .if2 .left in
+    let e = c .before .before .before .before in
+    let s = e .before .before .before .before .before .before .before in
+    let ne = e .before .before .if1 .left in
+    let there = e .if2 .left in
     let r = c .read in
-    let m = c .before .letter .ensures in (
+    let m = c .before .part .ensures in (
       fault-other (s .args .i) (s .args .k) (r .result .code) (kindFault (s .args .kind) (s .args .count) (mail s)) ne
           (fault-there (s .args .i) (mail s) (s .args .k) (s .args .kind) (s .args .count) there (r .result .code)
           (r .ensures .0 ∙ ap (Format.formOf (s .args .kind) (s .args .count)) m)),
@@ -47,4 +52,6 @@ returns-3 c =
     )
 
 pub read-one-spec : {M : Type 1} → statement M
-read-one-spec = tie.close (tie.spec returns (λ c. search needs) returns-2 letter-requires (λ c κs. search needs) returns-3)
+read-one-spec =
+    tie.close (tie.spec returns (λ c. search needs) returns-2 (λ c. search needs) (λ c. search needs) (λ c. search needs) (λ c. search needs)
+    part-requires (λ c κs. search needs) returns-3)

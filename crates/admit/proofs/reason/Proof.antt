@@ -6,7 +6,7 @@ use Rattle.engine.specs.Step.{Lent, partsIn}
 use Rattle.engine.specs.Plain.{protocolOf}
 use Rattle.rounds.specs.Table.{table}
 use Rattle.admit.specs.Admit.{given, lengthsFit}
-use Rattle.admit.specs.AdmitLaws.{alive-ranges, in-range-of, fit-lengths, parts-any, reason-over, reason-turn, reason-lengths, reason-parts, reason-lent}
+use Rattle.admit.specs.AdmitLaws.{alive-ranges, fit-lengths, parts-any, reason-over, reason-turn, reason-lengths, reason-parts, reason-lent}
 use Rattle.admit.proofs.reason.Statement.{statement}
 use Rattle.admit.proofs.reason.Tie as tie
 
@@ -28,7 +28,7 @@ module _ (c : tie.Else1) where
   lives = sym (c .before .alive .ensures) ∙ not-false _ (c .if1 .left)
 
   ranged : InRange (s (c .before) .args .s .party .n) (s (c .before) .args .s .party .l)
-  ranged = in-range-of _ _ _ (alive-ranges (s (c .before) .args .s) lives)
+  ranged = alive-ranges (s (c .before) .args .s) lives .range
 
 returns-2 : tie.Need-returns-2
 returns-2 c =

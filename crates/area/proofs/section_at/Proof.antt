@@ -8,10 +8,10 @@ use Rattle.area.proofs.section_at.Statement.{statement}
 use Rattle.area.proofs.section_at.Tie as tie
 
 abbrev Inv-loop : tie.InvT-loop
-Inv-loop n l s at₀ k₀ at k = (k ≤ s) × (at ≡ off (sizeOf (frame n l 0)) k)
+Inv-loop f s at₀ k₀ at k = (k ≤ s) × (at ≡ off (sizeOf f) k)
 
 abbrev μ-loop : tie.MeasureT-loop
-μ-loop n l s at₀ k₀ at k = s - k
+μ-loop f s at₀ k₀ at k = s - k
 
 loop-holds : tie.Need-loop-holds Inv-loop μ-loop
 unfolding off
@@ -27,19 +27,19 @@ add-at c =
     let a = s .args in
     let t = c .before .loop-test .taken in
     rw (l .loop .inv .1, c .section-len .ensures)
-    (omega (arith, off-most (a .n) (a .l) (s .pre .0) (l .loop .k) (omega (arith, t, s .pre .1)), size-most (a .n) (a .l) (s .pre .0) (l .loop .k) (omega (arith, t, s .pre .1))))
+    (omega (arith, off-most (a .f) (s .pre .0) (l .loop .k) (omega (arith, t, s .pre .1)), size-most (a .f) (s .pre .0) (l .loop .k) (omega (arith, t, s .pre .1))))
 
 loop-again : tie.Need-loop-again Inv-loop μ-loop
 loop-again c =
     let l = c .before .before in
     let a = l .before .args in
-    (omega (arith, c .before), off-turn (sizeOf (frame (a .n) (a .l) 0)) (l .loop .k) (l .loop .at) (c .section-len .result) (l .loop .inv .1) (c .section-len .ensures))
+    (omega (arith, c .before), off-turn (sizeOf (a .f)) (l .loop .k) (l .loop .at) (c .section-len .result) (l .loop .inv .1) (c .section-len .ensures))
 
 returns : tie.Need-returns Inv-loop μ-loop
 returns c =
     let l = c .before in
     let a = l .before .args in
-    l .loop .inv .1 ∙ ap (off (sizeOf (frame (a .n) (a .l) 0))) (omega arith)
+    l .loop .inv .1 ∙ ap (off (sizeOf (a .f))) (omega arith)
 
 pub section-at-spec : {M : Type 1} → statement M
 section-at-spec =

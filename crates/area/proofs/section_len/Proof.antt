@@ -13,99 +13,99 @@ mul-result-2 : tie.Need-mul-result-2
 mul-result-2 c =
     let a = c .before .before .before .args in
     let r = c .before .before .before .pre .0 in
-    rw (c .before .before .leaky .ensures) (omega (arith, by-party (a .n) (a .l) r (leaky (a .l)) (leaky-most (a .l) (r .most))))
+    rw (c .before .before .leaky .ensures) (omega (arith, by-party (a .f) r (leaky (a .f .l)) (leaky-most (a .f .l) (r .most))))
 
 mul-result-3 : tie.Need-mul-result-3
 mul-result-3 c =
     let a = c .before .before .before .before .args in
     let r = c .before .before .before .before .pre .0 in
-    rw (c .bits-count .ensures, c .before .before .record-len .ensures) (omega (arith, by-bit (a .n) (a .l) r (recordLen (a .n)) (record-at-most (a .n) (a .l) r)))
+    rw (c .bits-count .ensures, c .before .before .record-len .ensures) (omega (arith, by-bit (a .f) r (recordLen (a .f .n)) (record-at-most (a .f) r)))
 
 mul-result-4 : tie.Need-mul-result-4
 mul-result-4 c =
     let a = c .before .before .before .args in
     let r = c .before .before .before .pre .0 in
-    rw (c .before .record-len .ensures) (omega (arith, by-result (a .n) (a .l) r (recordLen (a .n)) (record-at-most (a .n) (a .l) r)))
+    rw (c .before .record-len .ensures) (omega (arith, by-result (a .f) r (recordLen (a .f .n)) (record-at-most (a .f) r)))
 
 mul-result-5 : tie.Need-mul-result-5
 mul-result-5 c =
     let a = c .before .before .before .args in
     let r = c .before .before .before .pre .0 in
-    rw (c .before .record-len .ensures) (omega (arith, by-result (a .n) (a .l) r (recordLen (a .n)) (record-at-most (a .n) (a .l) r)))
+    rw (c .before .record-len .ensures) (omega (arith, by-result (a .f) r (recordLen (a .f .n)) (record-at-most (a .f) r)))
 
 mul-result-13 : tie.Need-mul-result-13
 mul-result-13 c =
     let a = c .before .before .before .before .args in
     let r = c .before .before .before .before .pre .0 in
-    rw (c .dm-len .ensures) (omega (arith, dm-at-most (a .n) (a .l) r))
+    rw (c .dm-len .ensures) (omega (arith, dm-at-most (a .f) r))
 
 mul-result-14 : tie.Need-mul-result-14
 mul-result-14 c =
     let a = c .before .before .before .before .args in
     let r = c .before .before .before .before .pre .0 in
-    let h : 40 * dmLen (a .n) ≤ 4520 = omega (arith, dm-at-most (a .n) (a .l) r) in
-    rw (c .dm-len .ensures) (omega (arith, by-party (a .n) (a .l) r (40 * dmLen (a .n)) h))
+    let h : 40 * dmLen (a .f .n) ≤ 4520 = omega (arith, dm-at-most (a .f) r) in
+    rw (c .dm-len .ensures) (omega (arith, by-party (a .f) r (40 * dmLen (a .f .n)) h))
 
 mul-result-16 : tie.Need-mul-result-16
 mul-result-16 c =
     let a = c .before .before .before .args in
     let r = c .before .before .before .pre .0 in
-    let h : 32 + a .n * 18 ≤ 176 = omega (arith, r .eight) in
-    rw (c .before .before .leaky .ensures) (omega (arith, by-leaky (a .n) (a .l) r (32 + a .n * 18) h))
+    let h : 32 + a .f .n * 18 ≤ 176 = omega (arith, r .eight) in
+    rw (c .before .before .leaky .ensures) (omega (arith, by-leaky (a .f) r (32 + a .f .n * 18) h))
 
 mul-result-17 : tie.Need-mul-result-17
 mul-result-17 c =
     let a = c .before .before .before .args in
     let r = c .before .before .before .pre .0 in
-    rw (c .before .before .leaky .ensures) (omega (arith, leaky-most (a .l) (r .most)))
+    rw (c .before .before .leaky .ensures) (omega (arith, leaky-most (a .f .l) (r .most)))
 
 mul-result-18 : tie.Need-mul-result-18
 mul-result-18 c =
     let a = c .before .before .before .args in
     let r = c .before .before .before .pre .0 in
-    rw (c .before .before .leaky .ensures) (omega (arith, by-party (a .n) (a .l) r (leaky (a .l)) (leaky-most (a .l) (r .most))))
+    rw (c .before .before .leaky .ensures) (omega (arith, by-party (a .f) r (leaky (a .f .l)) (leaky-most (a .f .l) (r .most))))
 
 mul-result-19 : tie.Need-mul-result-19
 mul-result-19 c =
     let a = c .before .before .before .args in
     let r = c .before .before .before .pre .0 in
-    rw (c .before .before .leaky .ensures) (omega (arith, leaky-most (a .l) (r .most)))
+    rw (c .before .before .leaky .ensures) (omega (arith, leaky-most (a .f .l) (r .most)))
 
 mul-result-20 : tie.Need-mul-result-20
 mul-result-20 c =
     let a = c .before .before .before .args in
     let r = c .before .before .before .pre .0 in
-    rw (c .before .before .leaky .ensures) (omega (arith, leaky-most (a .l) (r .most)))
+    rw (c .before .before .leaky .ensures) (omega (arith, leaky-most (a .f .l) (r .most)))
 
 mul-result-21 : tie.Need-mul-result-21
 mul-result-21 c =
     let a = c .before .before .before .args in
     let r = c .before .before .before .pre .0 in
-    let h : leaky (a .l) * 32 ≤ 48000000 = omega (arith, leaky-most (a .l) (r .most)) in
-    rw (c .before .before .leaky .ensures) (omega (arith, by-party (a .n) (a .l) r (leaky (a .l) * 32) h))
+    let h : leaky (a .f .l) * 32 ≤ 48000000 = omega (arith, leaky-most (a .f .l) (r .most)) in
+    rw (c .before .before .leaky .ensures) (omega (arith, by-party (a .f) r (leaky (a .f .l) * 32) h))
 
 mul-result-22 : tie.Need-mul-result-22
 mul-result-22 c =
     let a = c .before .before .before .args in
     let r = c .before .before .before .pre .0 in
-    rw (c .before .before .leaky .ensures) (omega (arith, leaky-most (a .l) (r .most)))
+    rw (c .before .before .leaky .ensures) (omega (arith, leaky-most (a .f .l) (r .most)))
 
 sub-result : tie.Need-sub-result
-sub-result c = rw (c .bucket-size .ensures) (omega (arith, bucket-low (c .before .before .before .before .args .l)))
+sub-result c = rw (c .bucket-size .ensures) (omega (arith, bucket-low (c .before .before .before .before .args .f .l)))
 
 mul-result-23 : tie.Need-mul-result-23
 mul-result-23 c =
     let a = c .before .before .before .before .args in
     let r = c .before .before .before .before .pre .0 in
-    let h : bucketSize (a .l) - 1 ≤ 4 = omega (arith, bucket-high (a .l)) in
-    rw (c .bucket-size .ensures) (omega (arith, by-result (a .n) (a .l) r (bucketSize (a .l) - 1) h))
+    let h : bucketSize (a .f .l) - 1 ≤ 4 = omega (arith, bucket-high (a .f .l)) in
+    rw (c .bucket-size .ensures) (omega (arith, by-result (a .f) r (bucketSize (a .f .l) - 1) h))
 
 mul-result-25 : tie.Need-mul-result-25
 mul-result-25 c =
     let a = c .before .before .before .args in
     let r = c .before .before .before .pre .0 in
-    let h : 2 * recordLen (a .n) ≤ 514 = omega (arith, record-at-most (a .n) (a .l) r) in
-    rw (c .before .record-len .ensures) (omega (arith, by-result (a .n) (a .l) r (2 * recordLen (a .n)) h))
+    let h : 2 * recordLen (a .f .n) ≤ 514 = omega (arith, record-at-most (a .f) r) in
+    rw (c .before .record-len .ensures) (omega (arith, by-result (a .f) r (2 * recordLen (a .f .n)) h))
 
 returns : tie.Need-returns
 unfolding sizeOf sizes

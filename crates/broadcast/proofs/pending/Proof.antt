@@ -1,7 +1,8 @@
 use Rattle.lists.specs.Kit.{_≡_, ap, _∙_, arith, length, now, needs}
-use Rattle.engine.specs.Step.{frame}
 use Rattle.rounds.specs.Area.{PENDING}
-use Rattle.broadcast.specs.BroadcastLaws.{length-at, pending-size, finds-pending, finds-nothing}
+use Rattle.area.specs.GivenLaws.{length-at}
+use Rattle.area.specs.Sizes.{size-pending}
+use Rattle.broadcast.specs.BroadcastLaws.{finds-pending, finds-nothing}
 use Rattle.broadcast.proofs.pending.Statement.{statement}
 use Rattle.broadcast.proofs.pending.Tie as tie
 
@@ -13,8 +14,8 @@ long : (c : tie.After-section) → length (now (c .section .result)) ≡ 2
 long c =
     let s = c .before .before in
     let a = s .args in
-    let f = frame (a .n) (a .l) (a .i) in
-    ap length (c .section .ensures) ∙ length-at f PENDING (now (a .work)) (omega arith) (s .pre .0 .whole) ∙ pending-size f
+    let f = a .f in
+    ap length (c .section .ensures) ∙ length-at (s .pre .0) PENDING (omega arith) ∙ size-pending f
 
 shared-slice-read-code : tie.Need-shared-slice-read-code
 shared-slice-read-code c = omega (arith, long (c .before))
@@ -29,7 +30,7 @@ returns c =
     let a = s .args in
     let w = c .before .before .wide in
     let h = c .before .finds in
-    finds-pending (frame (a .n) (a .l) (a .i)) (a .k) (now (a .work)) (now (e .section .result)) (w .result) (h .result)
+    finds-pending (a .f) (a .k) (now (a .work)) (now (e .section .result)) (w .result) (h .result)
     (s .pre .1) (e .section .ensures) (w .ensures) (h .ensures) (c .if1 .taken)
 
 returns-2 : tie.Need-returns-2
@@ -39,7 +40,7 @@ returns-2 c =
     let a = s .args in
     let w = c .before .before .wide in
     let h = c .before .finds in
-    finds-nothing (frame (a .n) (a .l) (a .i)) (a .k) (now (a .work)) (now (e .section .result)) (w .result) (h .result)
+    finds-nothing (a .f) (a .k) (now (a .work)) (now (e .section .result)) (w .result) (h .result)
     (s .pre .1) (e .section .ensures) (w .ensures) (h .ensures) (c .if1 .left)
 
 pub pending-spec : {M : Type 1} → statement M

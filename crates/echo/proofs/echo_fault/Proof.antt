@@ -11,26 +11,26 @@ use Rattle.echo.proofs.echo_fault.Tie as tie
 
 returns : tie.Need-returns
 returns c =
-    let a = c .before .before .before .before .before .args in
-    fault-own (a .i) (a .j) (echoFaults (a .n) (a .i) (now (a .hashes)) (letter (now (a .incoming)) (now (a .starts)) (now (a .lens)))) (c .if1 .taken)
+    let a = c .before .before .before .args in
+    fault-own (a .f .i) (a .j) (echoFaults (a .f .n) (a .f .i) (now (a .hashes)) (letter (now (a .incoming)) (a .mail))) (c .if1 .taken)
 
 letter-requires : tie.Need-letter-requires
 letter-requires c κs =
-    let s = c .before .before .before .before .before in
+    let s = c .before .before .before in
     let a = s .args in
-    letter-fits (a .n) (a .i) 0 (now (a .incoming)) (now (a .starts)) (now (a .lens)) (s .pre .1 .arrived) (a .j) (s .pre .0 .1 .0) (c .if1 .left)
+    letter-fits (s .pre .1 .arrived) (a .j) (s .pre .0 .1 .0) (c .if1 .left)
 
 check-echo-requires : tie.Need-check-echo-requires
 check-echo-requires c κs =
-    let s = c .before .before .before .before .before .before in
+    let s = c .before .before .before .before in
     let a = s .args in
-    (ap (formOf Options (a .n)) (c .letter .ensures) ∙ s .pre .1 .formed-is (a .j) (s .pre .0 .1 .0) (λ e. c .before .if1 .left (sym e)), (s .pre .0 .0, s .pre .0 .1 .1))
+    (ap (formOf Options (a .f .n)) (c .letter .ensures) ∙ s .pre .1 .formed-is (a .j) (s .pre .0 .1 .0) (λ e. c .before .if1 .left (sym e)), (s .pre .0 .0, s .pre .0 .1 .1))
 
 returns-2 : tie.Need-returns-2
 returns-2 c =
-    let a = c .before .before .before .before .before .before .before .args in
-    fault-other (a .i) (a .j) (c .check-echo .result) (echoFaults (a .n) (a .i) (now (a .hashes)) (letter (now (a .incoming)) (now (a .starts)) (now (a .lens))))
-    (c .before .before .if1 .left) (c .check-echo .ensures ∙ ap (echoFault (a .n) (a .i) (a .j) (now (a .hashes))) (c .before .letter .ensures))
+    let a = c .before .before .before .before .before .args in
+    fault-other (a .f .i) (a .j) (c .check-echo .result) (echoFaults (a .f .n) (a .f .i) (now (a .hashes)) (letter (now (a .incoming)) (a .mail)))
+    (c .before .before .if1 .left) (c .check-echo .ensures ∙ ap (echoFault (a .f .n) (a .f .i) (a .j) (now (a .hashes))) (c .before .letter .ensures))
 
 pub echo-fault-spec : {M : Type 1} → statement M
 echo-fault-spec = tie.close (tie.spec returns letter-requires check-echo-requires returns-2)

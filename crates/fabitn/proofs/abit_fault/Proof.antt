@@ -1,7 +1,7 @@
-use Rattle.lists.specs.Kit.{_≡_, sym, ap, ap₂, _∙_, Bool, true, false, ℕ, _+_, _*_, arith, getD, now, needs}
+use Rattle.lists.specs.Kit.{_≡_, sym, ap, ap₂, _∙_, now, needs}
 use Rattle.lists.specs.Pick.{pick}
 use Rattle.algebra.specs.Group.{sel}
-use Rattle.block.specs.Block.{blockAt, eqBlock}
+use Rattle.block.specs.Block.{eqBlock}
 use Rattle.block.specs.Group.{blocks}
 use Rattle.rounds.specs.Fabitn as Fabitn
 use Rattle.fabitn.proofs.abit_fault.Statement.{statement}
@@ -16,11 +16,11 @@ said c =
     let m = d .before .before in
     let k = m .before .before in
     let a = k .before .before .before .args in
-    let e : 9 + a .j * 17 ≡ 8 + a .j * 17 + 1 = omega arith in
     ap (λ t. pick t 0 8)
     (sym (c .equals .ensures
-    ∙ ap₂ eqBlock (m .load2 .ensures ∙ ap (blockAt (now (a .m))) e)
-    (d .xor-delta .ensures ∙ ap₂ (blocks .op) (k .load .ensures) (d .before .times .ensures ∙ ap (λ t. sel blocks t (a .delta .0)) (m .before .bit .ensures)))))
+    ∙ ap₂ eqBlock (m .load2 .ensures)
+    (d .xor-delta .ensures ∙ ap₂ (blocks .op) (k .load .ensures)
+    (d .before .times .ensures ∙ ap (λ t. sel blocks t (a .delta .0)) (m .before .bit .ensures)))))
 
 returns : tie.Need-returns
 returns c = sym (said (c .before) ∙ ap (λ t. pick t 0 8) (c .if1 .taken))
@@ -39,7 +39,6 @@ abit-fault-spec =
     (λ c. search needs)
     (λ c. search needs)
     (λ c κs. search needs)
-    (λ c. search needs)
     (λ c. search needs)
     (λ c κs. search needs)
     (λ c κs. search needs)

@@ -1,43 +1,45 @@
 -- The loop's invariant: the first k parties have no fault.
-use Rattle.lists.specs.Kit.{_≡_, refl, sym, ap, _∙_, _≢_, ℕ, _+_, _-_, _*_, _<_, _≤_, arith, length, getD, now, needs}
-use Rattle.engine.specs.Step.{frame, scan}
+use Rattle.lists.specs.Kit.{_≡_, sym, _∙_, _-_, _≤_, arith, needs}
+use Rattle.engine.specs.Step.{scan}
 use Rattle.engine.specs.StepLaws.{scan-turn}
-use Rattle.rounds.specs.Mail.{letter, Arrived}
+use Rattle.rounds.specs.Mail.{letter}
 use Rattle.rounds.specs.Fabitn as Fabitn
-use Rattle.rounds.specs.StringLaws.{ofParty, party-first, party-none, scan-zero}
+use Rattle.rounds.specs.FaultLaws.{faultAt, clean-zero, finds-first, finds-none}
 use Rattle.fabitn.proofs.check_string.Statement.{statement}
 use Rattle.fabitn.proofs.check_string.Tie as tie
 
 abbrev Inv-loop : tie.InvT-loop
-Inv-loop delta sums incoming starts lens n i j k₀ k = (k ≤ n) × (scan k (ofParty i (Fabitn.abitFault (delta .0) sums (letter incoming starts lens) j)) .code ≡ 0)
+Inv-loop delta sums incoming mail f j n k₀ k =
+    (k ≤ n) × (scan k (faultAt (f .i) (Fabitn.abitFault (delta .0) sums (letter incoming mail) j)) .code ≡ 0)
 
 abbrev μ-loop : tie.MeasureT-loop
-μ-loop delta sums incoming starts lens n i j k₀ k = n - k
+μ-loop delta sums incoming mail f j n k₀ k = n - k
 
 loop-holds : tie.Need-loop-holds Inv-loop μ-loop
-loop-holds c = (search needs, scan-zero _)
+loop-holds c = let a = c .before .before .args in (search needs, clean-zero (a .f .n) (a .f .i) _)
 
 party-fault-requires : tie.Need-party-fault-requires Inv-loop μ-loop
-party-fault-requires c κs =
-    let s = c .before .before .before .before .before .before in
-    let p = s .pre .1 .1 in
-    ((s .pre .0, omega (arith, p .starts-n)), (rw (p .starts-n) (s .pre .1 .0), rw (p .starts-n) p))
+party-fault-requires c κs = let s = c .before .before .before .before in ((s .pre .0, c .loop-test .taken), s .pre .1)
 
 returns : tie.Need-returns Inv-loop μ-loop
-returns c l =
+returns c =
     let p = c .before in
-    let a = p .before .before .before .before .before .before .before .args in
-    party-first (frame (a .n) l (a .i)) _ (p .before .before .loop .k) (p .party-fault .result) (p .before .loop-test .taken) (p .before .before .loop .inv .1) (p .party-fault .ensures) (c .if1 .taken)
+    let l = p .before .before in
+    let a = l .before .before .before .args in
+    finds-first (a .f .n) (a .f .i) _ (a .f .l) (l .loop .k) (p .party-fault .result) (p .before .loop-test .taken) (l .loop .inv .1)
+    (p .party-fault .ensures) (c .if1 .taken)
 
 loop-again : tie.Need-loop-again Inv-loop μ-loop
 loop-again c =
     let p = c .before in
-    (omega arith, scan-turn (p .before .before .loop .k) _ (p .before .before .loop .inv .1) (sym (p .party-fault .ensures) ∙ c .if1 .left))
+    let l = p .before .before in
+    (omega arith, scan-turn (l .loop .k) _ (l .loop .inv .1) (sym (p .party-fault .ensures) ∙ c .if1 .left))
 
 returns-2 : tie.Need-returns-2 Inv-loop μ-loop
-returns-2 c l =
-    let a = c .before .before .before .before .before .before .args in
-    party-none (frame (a .n) l (a .i)) _ (c .before .loop .k) 0 (omega arith) (c .before .loop .inv .1)
+returns-2 c =
+    let l = c .before in
+    let a = l .before .before .before .args in
+    finds-none (a .f .n) (a .f .i) _ (a .f .l) (l .loop .k) 0 (l .loop .inv .1) (omega arith)
 
 pub check-string-spec : {M : Type 1} → statement M
 check-string-spec =

@@ -1,18 +1,19 @@
 -- The loop's invariant: the first j Blocks are written.
-use Rattle.lists.specs.Kit.{_≡_, refl, sym, ap, _∙_, List, ℕ, _+_, _-_, _*_, _≤_, arith, length, now, needs}
+use Rattle.lists.specs.Kit.{refl, _+_, _-_, _*_, _≤_, arith, now, needs}
 use Rattle.lists.specs.Over.{Written, written-zero}
 use Rattle.block.specs.Block.{bytesOf}
 use Rattle.block.specs.Trip.{length-bytesOf}
 use Rattle.rbits.specs.Chosen.{pairAt}
 use Rattle.rounds.specs.SentLaws.{chunks-turn, chunks-end}
+use Rattle.rounds.specs.Fabitn.{STRINGS}
 use Rattle.fabitn.proofs.write_blocks.Statement.{statement}
 use Rattle.fabitn.proofs.write_blocks.Tie as tie
 
 abbrev Inv-loop : tie.InvT-loop
-Inv-loop out₀ words j₀ out j = (j ≤ 120) × Written (λ j. bytesOf (pairAt words j)) j (j * 16) out₀ out
+Inv-loop out₀ words j₀ out j = (j ≤ STRINGS) × Written (λ j. bytesOf (pairAt words j)) j (j * 16) out₀ out
 
 abbrev μ-loop : tie.MeasureT-loop
-μ-loop out₀ words j₀ out j = 120 - j
+μ-loop out₀ words j₀ out j = STRINGS - j
 
 loop-holds : tie.Need-loop-holds Inv-loop μ-loop
 loop-holds c = (search needs, written-zero _ _)
@@ -24,7 +25,8 @@ loop-again c =
     let s = l .before .before in
     let j = l .loop .j in (
       omega arith,
-      chunks-turn (λ j. bytesOf (pairAt (now (s .args .words)) j)) 120 16 j (j * 16 + 16) (now (s .args .out)) (l .loop .out) (p .store .last .0)
+      chunks-turn (λ j. bytesOf (pairAt (now (s .args .words)) j)) STRINGS 16 j (j * 16 + 16) (now (s .args .out)) (l .loop .out)
+          (p .store .last .0)
           (s .pre) (omega arith) (l .loop .inv .1) (length-bytesOf _) (p .store .ensures) refl,
     )
 
@@ -32,7 +34,7 @@ same-length : tie.Need-same-length Inv-loop μ-loop
 same-length c = c .before .loop .inv .1 .same
 
 returns : tie.Need-returns Inv-loop μ-loop
-returns c = let l = c .before in chunks-end _ 120 16 (l .loop .j) _ _ (l .before .before .pre) (l .loop .inv .1) (omega arith)
+returns c = let l = c .before in chunks-end _ STRINGS 16 (l .loop .j) _ _ (l .before .before .pre) (l .loop .inv .1) (omega arith)
 
 pub write-blocks-spec : {M : Type 1} → statement M
 write-blocks-spec =

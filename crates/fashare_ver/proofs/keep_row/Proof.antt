@@ -1,165 +1,44 @@
--- The loop's invariant: the first q dms are written.
-use Rattle.lists.specs.Kit.{_≡_, sym, ap, _∙_, List, ℕ, _+_, _-_, _*_, _≤_, arith, length, take, drop, now, needs}
-use Rattle.lists.specs.Over.{Written, in-chunks, length-take-drop}
-use Rattle.plan.specs.Plan.{dmLen}
-use Rattle.rounds.specs.Fashare.{dmAt}
-use Rattle.rounds.specs.RowsLaws.{length-row, even-zero, even-turn, even-end}
-use Rattle.rounds.specs.DmLaws.{dm-most, place-most, row-most, dues-in, dues-copy}
+use Rattle.lists.specs.Kit.{sym, ap, _∙_, arith, replicate, needs}
+use Rattle.rounds.specs.Fashare.{dmsOf}
+use Rattle.rounds.specs.MailLaws.{letter-fits}
+use Rattle.rounds.specs.SentLaws.{pick-own, pick-other}
 use Rattle.fashare_ver.proofs.keep_row.Statement.{statement}
 use Rattle.fashare_ver.proofs.keep_row.Tie as tie
 
--- dm q
-abbrev part : ℕ → List ℕ → ℕ → List ℕ
-part n m q = take (dmLen n) (drop (dmAt m q) m)
+letter-requires : tie.Need-letter-requires
+letter-requires c κs =
+    let s = c .before .before .before in
+    letter-fits (s .pre .1 .arrived) (s .args .k) (s .pre .0 .0) (λ e. c .if1 .left (sym e))
 
-abbrev Inv-loop : tie.InvT-loop
-Inv-loop out₀ m n len q₀ out q = (q ≤ 40) × Written (part n m) q (q * len) out₀ out
-
-abbrev μ-loop : tie.MeasureT-loop
-μ-loop out₀ m n len q₀ out q = 40 - q
-
-loop-holds : tie.Need-loop-holds Inv-loop μ-loop
-loop-holds c = (search needs, even-zero _ (c .dm-len .result) _)
-
-add-from : tie.Need-add-from Inv-loop μ-loop
-add-from c =
-    let d = c .before .before in
-    let s = d .before .before .before in
-    omega (arith, d .dm-len .ensures, dm-most (s .args .n) (s .pre .0 .1 .0))
-
-mul-from : tie.Need-mul-from Inv-loop μ-loop
-mul-from c =
-    let d = c .before .before in
-    let s = d .before .before .before in
-    omega (arith, place-most (c .before .loop .q) (s .args .n) (d .dm-len .result) (c .loop-test .taken) (s .pre .0 .1 .0) (d .dm-len .ensures))
-
-add-from-2 : tie.Need-add-from-2 Inv-loop μ-loop
-add-from-2 c =
-    let d = c .before .before in
-    let s = d .before .before .before in
-    omega (arith, place-most (c .before .loop .q) (s .args .n) (d .dm-len .result) (c .loop-test .taken) (s .pre .0 .1 .0) (d .dm-len .ensures))
-
-add-to : tie.Need-add-to Inv-loop μ-loop
-add-to c =
-    let d = c .before .before in
-    let s = d .before .before .before in
-    omega (
-      arith,
-      d .dm-len .ensures,
-      dm-most (s .args .n) (s .pre .0 .1 .0),
-      place-most (c .before .loop .q) (s .args .n) (d .dm-len .result) (c .loop-test .taken) (s .pre .0 .1 .0) (d .dm-len .ensures),
+copy-dms-requires : tie.Need-copy-dms-requires
+copy-dms-requires c κs =
+    let s = c .before .before .before .before .before in (
+      (omega (arith, s .pre .0 .0), (s .pre .1 .arrived .eight, s .pre .0 .1)),
+      rw (c .before .letter .ensures) (s .pre .1 .dues (s .args .k) (s .pre .0 .0) (c .before .before .if1 .left)),
     )
 
-mul-a : tie.Need-mul-a Inv-loop μ-loop
-mul-a c =
-    let d = c .before .before in
-    let s = d .before .before .before in
-    omega (arith, row-most (c .before .loop .q) (s .args .n) (d .dm-len .result) (c .loop-test .taken) (s .pre .0 .1 .0) (d .dm-len .ensures))
-
-add-e : tie.Need-add-e Inv-loop μ-loop
-add-e c =
-    let d = c .before .before in
-    let s = d .before .before .before in
-    omega (
-      arith,
-      d .dm-len .ensures,
-      dm-most (s .args .n) (s .pre .0 .1 .0),
-      row-most (c .before .loop .q) (s .args .n) (d .dm-len .result) (c .loop-test .taken) (s .pre .0 .1 .0) (d .dm-len .ensures),
-    )
-
-part-copy-end : tie.Need-part-copy-end Inv-loop μ-loop
-part-copy-end c =
-    let d = c .before .before in
-    let s = d .before .before .before in
-    omega (arith, d .dm-len .ensures, s .pre .0 .1 .1, c .before .loop .inv .1 .same, in-chunks (c .before .loop .q) 40 (d .dm-len .result) (c .loop-test .taken))
-
--- the bytes that are read lie within
-inside : (c : tie.After-copy-arg Inv-loop μ-loop) → let d = c .before .before .before in
-    16 + c .before .before .loop .q * (8 + d .dm-len .result) + d .dm-len .result ≤ length (now (d .before .before .before .args .m))
-inside c =
-    let l = c .before .before in
-    let d = l .before in
-    let s = d .before .before .before in
-    let q = l .loop .q in
-    omega (
-      arith,
-      d .dm-len .ensures,
-      dues-in (s .args .n) (now (s .args .m)) (s .pre .1) q (16 + q * (8 + d .dm-len .result)) (c .before .loop-test .taken) (ap (λ t. 16 + q * (8 + t)) (d .dm-len .ensures)),
-    )
-
-part-copy-end-2 : tie.Need-part-copy-end-2 Inv-loop μ-loop
-part-copy-end-2 c = omega (arith, inside c)
-
-copy-requires : tie.Need-copy-requires Inv-loop μ-loop
-copy-requires c κs =
-    let l = c .before .before .before in
-    let d = l .before in
-    let s = d .before .before .before in
-    let q = l .loop .q in
-    let len = d .dm-len .result in
-    let from = 16 + q * (8 + len) in
-    omega (
-      arith,
-      inside (c .before),
-      length-take-drop from (from + len) (now (s .args .m)),
-      length-row len q (l .loop .out) (omega (arith, d .dm-len .ensures, s .pre .0 .1 .1, l .loop .inv .1 .same, in-chunks q 40 len (c .before .before .loop-test .taken))),
-    )
-
-loop-again : tie.Need-loop-again Inv-loop μ-loop
-loop-again c =
-    let p = c .before .before in
-    let t = p .before .before .before in
-    let l = t .before in
-    let d = l .before in
-    let s = d .before .before .before in
-    let a = s .args in
-    let q = l .loop .q in
-    let len = d .dm-len .result in
-    let e = d .dm-len .ensures in
-    let from = 16 + q * (8 + len) in
-    let size : length (now (a .out)) ≡ 40 * len = s .pre .0 .1 .1 ∙ ap (λ t. 40 * t) (sym e) in
-    let long = length-row len q (l .loop .out) (omega (arith, size, l .loop .inv .1 .same, in-chunks q 40 len (t .loop-test .taken))) in (
-      omega (arith, t .loop-test .taken),
-      even-turn (part (a .n) (now (a .m))) 40 len (now (a .out)) size q (l .loop .out) (p .copy .last .0) (t .loop-test .taken) (l .loop .inv .1)
-          (dues-copy (a .n) (now (a .m)) (s .pre .1) q from (t .loop-test .taken) (ap (λ t. 16 + q * (8 + t)) e) (from + len) _ (p .copy .last .0)
-          (ap (λ t. from + t) e) (long ∙ e) (p .copy .ensures))
-          (p .copy .kept .0),
-    )
-
-same-length : tie.Need-same-length Inv-loop μ-loop
-same-length c = c .before .loop .inv .1 .same
-
-returns : tie.Need-returns Inv-loop μ-loop
+returns : tie.Need-returns
 returns c =
-    let l = c .before in
-    let d = l .before in
-    let s = d .before .before .before in
-    let a = s .args in
-    even-end (part (a .n) (now (a .m))) 40 (d .dm-len .result) (now (a .out)) (s .pre .0 .1 .1 ∙ ap (λ t. 40 * t) (sym (d .dm-len .ensures))) (l .loop .q) (l .loop .out) (l .loop .inv .1) (omega arith)
+    let t = c .before .before .before .before in
+    let s = t .before .before .before in
+    c .before .before .clear .ensures ∙ ap (λ t. replicate t 0) (s .pre .0 .1)
+    ∙ sym (pick-own (s .args .f .i) (s .args .k) _ _ (t .if1 .taken))
+
+returns-2 : tie.Need-returns-2
+returns-2 c =
+    let r = c .before .before .before .before in
+    let t = r .before in
+    let a = t .before .before .before .args in
+    c .before .before .copy-dms .ensures ∙ ap (dmsOf (a .f .n)) (r .letter .ensures) ∙ sym (pick-other (a .f .i) (a .k) _ _ (t .if1 .left))
 
 pub keep-row-spec : {M : Type 1} → statement M
 keep-row-spec =
     tie.close
     (tie.spec
-    Inv-loop
-    μ-loop
     (λ c κs. search needs)
-    loop-holds
-    add-from
-    mul-from
-    add-from-2
-    add-to
-    mul-a
-    add-e
+    letter-requires
+    copy-dms-requires
     (λ c. search needs)
+    returns
     (λ c. search needs)
-    part-copy-end
-    (λ c. search needs)
-    (λ c. search needs)
-    part-copy-end-2
-    copy-requires
-    (λ c. search needs)
-    (λ c. search needs)
-    loop-again
-    same-length
-    returns)
+    returns-2)

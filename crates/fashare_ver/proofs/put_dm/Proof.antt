@@ -1,7 +1,5 @@
-use Rattle.lists.specs.Kit.{refl, _+_, arith, now, needs}
-use Rattle.plan.specs.Plan.{dmLen}
-use Rattle.engine.specs.Step.{frame}
-use Rattle.rounds.specs.DmLaws.{dm-put}
+use Rattle.lists.specs.Kit.{refl, _+_, now, needs}
+use Rattle.fashare_ver.specs.Laws.{dm-put}
 use Rattle.fashare_ver.proofs.put_dm.Statement.{statement}
 use Rattle.fashare_ver.proofs.put_dm.Tie as tie
 
@@ -12,7 +10,8 @@ returns c =
     let d = p .before .before in
     let s = d .before .before .before in
     let a = s .args in
-    dm-put (frame (a .n) (a .l) (a .i)) (now (a .recs)) (a .q) (d .dm-len .result) (8 + d .dm-len .result) (now (a .out)) (p .put-count .last .0) (w .write-dm .last .0)
+    dm-put (a .f) (now (a .recs)) (a .q) (d .dm-len .result) (8 + d .dm-len .result) (now (a .out)) (p .put-count .last .0)
+    (w .write-dm .last .0)
     (s .pre .0) (d .dm-len .ensures) refl (p .put-count .ensures) (w .write-dm .ensures)
 
 pub put-dm-spec : {M : Type 1} → statement M

@@ -1,11 +1,10 @@
 use Rattle.lists.specs.Kit.{ap, ap₂, _∙_, arith, now}
-use Rattle.algebra.specs.Group.{addb}
+use Rattle.algebra.specs.Group.{addb, xor-addb}
 use Rattle.share.specs.Record.{bitAt}
 use Rattle.share.specs.Share.{shareAt}
 use Rattle.rounds.specs.Haand as R
 use Rattle.rounds.specs.Flaand as F
-use Rattle.haand.specs.GivenLaws.{position-most, r-in}
-use Rattle.flaand.specs.KeptLaws.{asked, z-in, xor-addb}
+use Rattle.flaand.specs.KeptLaws.{r-at-in, z-in}
 use Rattle.flaand.proofs.e_at.Statement.{statement}
 use Rattle.flaand.proofs.e_at.Tie as tie
 
@@ -18,12 +17,12 @@ bit-requires c κs = let s = c .before .before .before in omega (arith, z-in (s 
 r-at-requires : tie.Need-r-at-requires
 r-at-requires c κs =
     let s = c .before .before .before .before in
-    (s .pre .0 .ranges .eight, (s .pre .0 .ranges .most, position-most (asked (s .pre .0) (s .args .t) (s .pre .1))))
+    (s .pre .0 .ranges .range, s .pre .1)
 
 bit-at-requires : tie.Need-bit-at-requires
 bit-at-requires c κs =
     let s = c .before .before .before .before .before in
-    rw (c .r-at .ensures) (omega (arith, r-in (asked (s .pre .0) (s .args .t) (s .pre .1))))
+    rw (c .r-at .ensures) (omega (arith, r-at-in (s .pre .0) (s .args .t) (s .pre .1)))
 
 returns : tie.Need-returns
 unfolding F.e R.r R.zAt shareAt

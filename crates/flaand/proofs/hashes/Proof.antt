@@ -9,18 +9,14 @@ use Rattle.flaand.specs.KeptLaws.{row-in, z-in}
 use Rattle.flaand.proofs.hashes.Statement.{statement}
 use Rattle.flaand.proofs.hashes.Tie as tie
 
-leaky-len-requires : tie.Need-leaky-len-requires
-leaky-len-requires c κs = c .before .before .before .pre .0 .ranges .eight
+leaky-at-requires : tie.Need-leaky-at-requires
+leaky-at-requires c κs = let s = c .before .before .before in (s .pre .0 .ranges .range, s .pre .1)
 
-read-in : (c : tie.After-leaky-len)
-    → let a = c .before .before .before .before .args in a .t * c .leaky-len .result + 16 + 16 ≤ length (now (a .rows))
+read-in : (c : tie.After-leaky-at) → let a = c .before .before .before .before .args in c .leaky-at .result + 16 + 16 ≤ length (now (a .rows))
 unfolding leakyLen
 read-in c =
     let s = c .before .before .before .before in
-    omega (arith, row-in (s .pre .0) (s .args .t) (s .pre .1) 16 (omega arith), ap (λ m. s .args .t * m) (c .leaky-len .ensures))
-
-mul-load : tie.Need-mul-load
-mul-load c = omega (arith, read-in c)
+    omega (arith, row-in (s .pre .0) (s .args .t) (s .pre .1) 16 (omega arith), c .leaky-at .ensures)
 
 add-load : tie.Need-add-load
 add-load c = omega (arith, read-in c)
@@ -32,8 +28,8 @@ load-requires c κs = read-in c
 z-at : (c : tie.After-load) → let a = c .before .before .before .before .before .args in a .t * 17 + 1 + 16 ≤ length (now (a .zs))
 z-at c = let s = c .before .before .before .before .before in omega (arith, z-in (s .pre .0) (s .args .t) (s .pre .1))
 
-mul-load-2 : tie.Need-mul-load-2
-mul-load-2 c = omega (arith, z-at c)
+mul-load : tie.Need-mul-load
+mul-load c = omega (arith, z-at c)
 
 add-load-2 : tie.Need-add-load-2
 add-load-2 c = omega (arith, z-at c)
@@ -47,18 +43,8 @@ returns c =
     let d = c .before .before in
     let a = d .before .before .before .before .before .args in
     c .xor .ensures ∙ ap₂ (blocks .op)
-    (d .load .ensures ∙ ap (λ m. blockAt (now (a .rows)) (a .t * m + 16)) (d .before .leaky-len .ensures)) (c .before .load2 .ensures)
+    (d .load .ensures ∙ ap (λ m. blockAt (now (a .rows)) (m + 16)) (d .before .leaky-at .ensures)) (c .before .load2 .ensures)
 
 pub hashes-spec : {M : Type 1} → statement M
 hashes-spec =
-    tie.close
-    (tie.spec
-    leaky-len-requires
-    mul-load
-    add-load
-    load-requires
-    mul-load-2
-    add-load-2
-    load-requires-2
-    (λ c κs. search needs)
-    returns)
+    tie.close (tie.spec leaky-at-requires add-load load-requires mul-load add-load-2 load-requires-2 (λ c κs. search needs) returns)

@@ -11,25 +11,25 @@ use Rattle.flaand.proofs.keep_e_row.Tie as tie
 returns : tie.Need-returns
 returns c =
     let s = c .before .before .before .before in
-    let a = s .before .before .before .before .before .args in
-    c .before .before .clear .ensures ∙ sym (row-own (a .i) (length (now (a .row))) _ (a .k) (s .if1 .taken))
+    let a = s .before .before .before .args in
+    c .before .before .clear .ensures ∙ sym (row-own (a .f .i) (length (now (a .row))) _ (a .k) (s .if1 .taken))
 
 letter-requires : tie.Need-letter-requires
 letter-requires c κs =
-    let s = c .before .before .before .before .before in
+    let s = c .before .before .before in
     let a = s .args in
-    letter-fits (a .n) (a .i) (8 + length (now (a .row)) * 17) (now (a .incoming)) (now (a .starts)) (now (a .lens)) (s .pre .1) (a .k)
+    letter-fits (s .pre .1) (a .k)
     (s .pre .0) (λ e. c .if1 .left (sym e))
 
 put-es-requires : tie.Need-put-es-requires
 put-es-requires c κs =
     let t = c .before in
-    let s = t .before .before .before .before .before .before in
+    let s = t .before .before .before .before in
     let a = s .args in
     omega (
       arith,
       ap length (t .letter .ensures),
-      letter-long (a .n) (a .i) (8 + length (now (a .row)) * 17) (now (a .incoming)) (now (a .starts)) (now (a .lens)) (s .pre .1) (a .k)
+      letter-long (s .pre .1) (a .k)
           (s .pre .0) (λ e. t .before .if1 .left (sym e)),
     )
 
@@ -37,10 +37,10 @@ returns-2 : tie.Need-returns-2
 unfolding eTold
 returns-2 c =
     let t = c .before .before .before .before in
-    let a = t .before .before .before .before .before .before .args in
+    let a = t .before .before .before .before .args in
     let n = length (now (a .row)) in
     c .before .before .put-es .ensures ∙ ap (λ (m : List ℕ). tab n (λ t. num (odd (getD m (8 + t * 17) 0)))) (t .letter .ensures)
-    ∙ sym (row-other (a .i) n (λ k. tab n (λ t. num (eTold (letter (now (a .incoming)) (now (a .starts)) (now (a .lens))) k t))) (a .k)
+    ∙ sym (row-other (a .f .i) n (λ k. tab n (λ t. num (eTold (letter (now (a .incoming)) (a .mail)) k t))) (a .k)
     (t .before .if1 .left))
 
 pub keep-e-row-spec : {M : Type 1} → statement M

@@ -3,7 +3,7 @@ use Rattle.lists.specs.Kit.{_≡_, sym, ap, _∙_, List, ℕ, _+_, _-_, _*_, _�
 use Rattle.lists.specs.Over.{cat, tab, Written, in-chunks}
 use Rattle.algebra.specs.Group.{num}
 use Rattle.plan.specs.Plan.{leaky}
-use Rattle.engine.specs.Step.{frame}
+use Rattle.rounds.specs.declared.Mail.{Mail}
 use Rattle.rounds.specs.Mail.{letter, Arrived}
 use Rattle.rounds.specs.Loops.{rowOf, rows-of}
 use Rattle.rounds.specs.RowsLaws.{length-row, even-zero, even-turn, even-end}
@@ -12,40 +12,40 @@ use Rattle.flaand.proofs.keep_es.Statement.{statement}
 use Rattle.flaand.proofs.keep_es.Tie as tie
 
 -- row k, of len bytes
-abbrev row : List ℕ → List ℕ → List ℕ → ℕ → ℕ → ℕ → List ℕ
-row incoming starts lens i len = rowOf i len (λ k. tab len (λ t. num (eTold (letter incoming starts lens) k t)))
+abbrev row : List ℕ → Mail → ℕ → ℕ → ℕ → List ℕ
+row incoming mail i len = rowOf i len (λ k. tab len (λ t. num (eTold (letter incoming mail) k t)))
 
 abbrev Inv-loop : tie.InvT-loop
-Inv-loop section₀ incoming starts lens n i l len k₀ section k =
-    (k ≤ n) × Written (row incoming starts lens i len) k (k * len) section₀ section
+Inv-loop section₀ incoming mail f n l len k₀ section k =
+    (k ≤ n) × Written (row incoming mail (f .i) len) k (k * len) section₀ section
 
 abbrev μ-loop : tie.MeasureT-loop
-μ-loop section₀ incoming starts lens n i l len k₀ section k = n - k
+μ-loop section₀ incoming mail f n l len k₀ section k = n - k
 
 loop-holds : tie.Need-loop-holds Inv-loop μ-loop
 loop-holds c =
-    let a = c .before .before .before .before .before .args in (
+    let a = c .before .before .before .args in (
       omega arith,
-      even-zero (row (now (a .incoming)) (now (a .starts)) (now (a .lens)) (a .i) (c .leaky .result)) (c .leaky .result)
+      even-zero (row (now (a .incoming)) (a .mail) (a .f .i) (c .leaky .result)) (c .leaky .result)
           (now (a .section)),
     )
 
 -- ---- in a turn
 module _ (c : tie.In-loop Inv-loop μ-loop) where
   abbrev start : tie.Start Inv-loop μ-loop
-  start = c .before .before .before .before .before .before .before
+  start = c .before .before .before .before .before
 
   abbrev len : ℕ
   len = c .before .before .leaky .result
 
-  is : len ≡ leaky (start .args .l)
+  is : len ≡ leaky (start .args .f .l)
   is = c .before .before .leaky .ensures
 
-  whole : length (now (start .args .section)) ≡ start .args .n * len
-  whole = start .pre .0 .1 ∙ ap (λ m. start .args .n * m) (sym is)
+  whole : length (now (start .args .section)) ≡ start .args .f .n * len
+  whole = start .pre .0 .1 ∙ ap (λ m. start .args .f .n * m) (sym is)
 
   part-in : c .before .loop .k * len + len ≤ length (c .before .loop .section)
-  part-in = omega (arith, whole, in-chunks (c .before .loop .k) (start .args .n) len (c .loop-test .taken), c .before .loop .inv .1 .same)
+  part-in = omega (arith, whole, in-chunks (c .before .loop .k) (start .args .f .n) len (c .loop-test .taken), c .before .loop .inv .1 .same)
 
 mul-a : tie.Need-mul-a Inv-loop μ-loop
 mul-a c = omega (arith, part-in c)
@@ -71,11 +71,11 @@ loop-again c =
     let a = start i .args in
     let l = i .before .loop in (
       omega (arith, i .loop-test .taken),
-      even-turn (row (now (a .incoming)) (now (a .starts)) (now (a .lens)) (a .i) (len i)) (a .n) (len i) (now (a .section)) (whole i)
+      even-turn (row (now (a .incoming)) (a .mail) (a .f .i) (len i)) (a .f .n) (len i) (now (a .section)) (whole i)
           (l .k) (l .section) (p .keep-e-row .last .0)
           (i .loop-test .taken) (l .inv .1)
           (p .keep-e-row .ensures
-          ∙ ap (λ m. row (now (a .incoming)) (now (a .starts)) (now (a .lens)) (a .i) m (l .k))
+          ∙ ap (λ m. row (now (a .incoming)) (a .mail) (a .f .i) m (l .k))
           (length-row (len i) (l .k) (l .section) (part-in i)))
           (p .keep-e-row .kept .0),
     )
@@ -88,15 +88,15 @@ unfolding eRows
 returns c =
     let l = c .before .loop in
     let y = c .before .before in
-    let s = y .before .before .before .before .before in
+    let s = y .before .before .before in
     let a = s .args in
-    let e : y .leaky .result ≡ leaky (a .l) = y .leaky .ensures in
-    even-end (row (now (a .incoming)) (now (a .starts)) (now (a .lens)) (a .i) (y .leaky .result)) (a .n) (y .leaky .result)
+    let e : y .leaky .result ≡ leaky (a .f .l) = y .leaky .ensures in
+    even-end (row (now (a .incoming)) (a .mail) (a .f .i) (y .leaky .result)) (a .f .n) (y .leaky .result)
     (now (a .section))
-    (s .pre .0 .1 ∙ ap (λ m. a .n * m) (sym e)) (l .k) (l .section) (l .inv .1) (omega arith)
-    ∙ ap (λ m. cat (a .n) (row (now (a .incoming)) (now (a .starts)) (now (a .lens)) (a .i) m)) e
-    ∙ rows-of (frame (a .n) (a .l) (a .i)) (leaky (a .l))
-    (λ k. tab (leaky (a .l)) (λ t. num (eTold (letter (now (a .incoming)) (now (a .starts)) (now (a .lens))) k t)))
+    (s .pre .0 .1 ∙ ap (λ m. a .f .n * m) (sym e)) (l .k) (l .section) (l .inv .1) (omega arith)
+    ∙ ap (λ m. cat (a .f .n) (row (now (a .incoming)) (a .mail) (a .f .i) m)) e
+    ∙ rows-of (a .f) (leaky (a .f .l))
+    (λ k. tab (leaky (a .f .l)) (λ t. num (eTold (letter (now (a .incoming)) (a .mail)) k t)))
 
 pub keep-es-spec : {M : Type 1} → statement M
 keep-es-spec =

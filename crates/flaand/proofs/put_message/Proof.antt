@@ -3,7 +3,6 @@ use Rattle.lists.specs.Kit.{_≡_, refl, sym, ap, _∙_, List, ℕ, _+_, _-_, _
 use Rattle.block.specs.Block.{le8}
 use Rattle.encode.specs.Stretch.{Stretch, stretch-count, stretch-self, even-turn, even-end, in-list}
 use Rattle.plan.specs.Plan.{leaky}
-use Rattle.engine.specs.Step.{frame}
 use Rattle.rounds.specs.Loops.{lent-part}
 use Rattle.rounds.specs.Flaand.{flaandMsg}
 use Rattle.flaand.specs.KeptLaws.{item, length-item}
@@ -11,34 +10,34 @@ use Rattle.flaand.proofs.put_message.Statement.{statement}
 use Rattle.flaand.proofs.put_message.Tie as tie
 
 abbrev Inv-loop : tie.InvT-loop
-Inv-loop out₀ recs rows zs n i l k count t₀ out t =
-    (t ≤ leaky l) × (length out₀ ≡ 8 + leaky l * 17) × Stretch (leaky l) (item (frame n l i) recs rows zs k) t (8 + t * 17) out₀ out
+Inv-loop out₀ recs rows zs f k l count t₀ out t =
+    (t ≤ leaky l) × (length out₀ ≡ 8 + leaky l * 17) × Stretch (leaky l) (item (f) recs rows zs k) t (8 + t * 17) out₀ out
 
 abbrev μ-loop : tie.MeasureT-loop
-μ-loop out₀ recs rows zs n i l k count t₀ out t = leaky l - t
+μ-loop out₀ recs rows zs f k l count t₀ out t = leaky l - t
 
 loop-holds : tie.Need-loop-holds Inv-loop μ-loop
 loop-holds c =
     let p = c .before .before in
     let s = p .before .before .before .before .before .before .before in
     let a = s .args in
-    let g : ℕ → List ℕ = item (frame (a .n) (a .l) (a .i)) (now (a .recs)) (now (a .rows)) (now (a .zs)) (a .k) in
+    let g : ℕ → List ℕ = item (a .f) (now (a .recs)) (now (a .rows)) (now (a .zs)) (a .k) in
     let w =
-    stretch-count (leaky (a .l)) g (now (a .out)) (p .put-count .last .0) (omega arith)
+    stretch-count (leaky (a .f .l)) g (now (a .out)) (p .put-count .last .0) (omega arith)
     (p .put-count .ensures ∙ ap le8 (p .before .before .leaky .ensures)) in
-    (omega arith, w .same ∙ s .pre .0 .0, stretch-self (leaky (a .l)) g 0 8 _ _ w)
+    (omega arith, w .same ∙ s .pre .0 .0, stretch-self (leaky (a .f .l)) g 0 8 _ _ w)
 
 -- ---- in a turn
 module _ (c : tie.In-loop Inv-loop μ-loop) where
   abbrev start : tie.Start Inv-loop μ-loop
   start = c .before .before .before .before .before .before .before .before .before .before .before
 
-  below : c .before .loop .t < leaky (start .args .l)
+  below : c .before .loop .t < leaky (start .args .f .l)
   below = omega (arith, c .loop-test .taken, c .before .before .before .before .before .before .leaky .ensures)
 
   part-in : 8 + c .before .loop .t * 17 + 17 ≤ length (c .before .loop .out)
   part-in =
-      omega (arith, c .before .loop .inv .2 .same, c .before .loop .inv .1, in-list (c .before .loop .t) (leaky (start .args .l)) 17 below)
+      omega (arith, c .before .loop .inv .2 .same, c .before .loop .inv .1, in-list (c .before .loop .t) (leaky (start .args .f .l)) 17 below)
 
 mul-a : tie.Need-mul-a Inv-loop μ-loop
 mul-a c = omega (arith, part-in c)
@@ -67,8 +66,8 @@ loop-again c =
     let l = i .before .loop in (
       omega (arith, below i),
       l .inv .1,
-      even-turn (leaky (a .l)) (item (frame (a .n) (a .l) (a .i)) (now (a .recs)) (now (a .rows)) (now (a .zs)) (a .k)) 17
-          (λ t h. length-item (frame (a .n) (a .l) (a .i)) (now (a .recs)) (now (a .rows)) (now (a .zs)) (a .k) t)
+      even-turn (leaky (a .f .l)) (item (a .f) (now (a .recs)) (now (a .rows)) (now (a .zs)) (a .k)) 17
+          (λ t h. length-item (a .f) (now (a .recs)) (now (a .rows)) (now (a .zs)) (a .k) t)
           (l .t) (8 + l .t * 17 + 17) _ (l .out) (p .put-item .last .0) (l .inv .1) (below i) (l .inv .2) (p .put-item .ensures) refl,
     )
 
@@ -82,8 +81,8 @@ unfolding flaandMsg item
 returns c =
     let a = c .before .before .before .before .before .before .before .before .before .before .before .args in
     let l = c .before .loop in
-    even-end (leaky (a .l)) (item (frame (a .n) (a .l) (a .i)) (now (a .recs)) (now (a .rows)) (now (a .zs)) (a .k)) 17
-    (λ t h. length-item (frame (a .n) (a .l) (a .i)) (now (a .recs)) (now (a .rows)) (now (a .zs)) (a .k) t)
+    even-end (leaky (a .f .l)) (item (a .f) (now (a .recs)) (now (a .rows)) (now (a .zs)) (a .k)) 17
+    (λ t h. length-item (a .f) (now (a .recs)) (now (a .rows)) (now (a .zs)) (a .k) t)
     (l .t) _ (l .out) (l .inv .1) (l .inv .2) (omega (arith, c .before .before .before .before .before .before .leaky .ensures))
 
 pub put-message-spec : {M : Type 1} → statement M

@@ -13,28 +13,28 @@ use Rattle.flaand.proofs.u_told.Tie as tie
 
 returns : tie.Need-returns
 returns c =
-    let a = c .before .before .before .before .before .args in
+    let a = c .before .before .before .args in
     c .zero .ensures
-    ∙ sym (ap (λ (b : Bool). sel blocks b (uTold (letter (now (a .incoming)) (now (a .starts)) (now (a .lens))) (a .k) (a .t)))
-    (neq-same (a .i) (a .k) (c .before .if1 .taken)))
+    ∙ sym (ap (λ (b : Bool). sel blocks b (uTold (letter (now (a .incoming)) (a .mail)) (a .k) (a .t)))
+    (neq-same (a .f .i) (a .k) (c .before .if1 .taken)))
 
 letter-requires : tie.Need-letter-requires
 letter-requires c κs =
-    let s = c .before .before .before .before in
+    let s = c .before .before in
     let a = s .args in
-    letter-fits (a .n) (a .i) (8 + leaky (a .l) * 17) (now (a .incoming)) (now (a .starts)) (now (a .lens)) (s .pre .1) (a .k)
+    letter-fits (s .pre .1) (a .k)
     (s .pre .0 .0) (c .if1 .left)
 
 -- u lies within the message
-read-in : (c : tie.After-letter) → 8 + c .before .before .before .before .before .args .t * 17 + 1 + 16 ≤ length (now (c .letter .result))
+read-in : (c : tie.After-letter) → 8 + c .before .before .before .args .t * 17 + 1 + 16 ≤ length (now (c .letter .result))
 read-in c =
-    let s = c .before .before .before .before .before in
+    let s = c .before .before .before in
     let a = s .args in
     omega (
       arith,
       ap length (c .letter .ensures),
-      in-chunks (a .t) (leaky (a .l)) 17 (s .pre .0 .1),
-      letter-long (a .n) (a .i) (8 + leaky (a .l) * 17) (now (a .incoming)) (now (a .starts)) (now (a .lens)) (s .pre .1) (a .k)
+      in-chunks (a .t) (leaky (a .f .l)) 17 (s .pre .0 .1),
+      letter-long (s .pre .1) (a .k)
           (s .pre .0 .0) (c .before .if1 .left),
     )
 
@@ -53,11 +53,11 @@ load-requires c κs = read-in c
 returns-2 : tie.Need-returns-2
 unfolding uTold
 returns-2 c =
-    let a = c .before .before .before .before .before .before .args in
-    let m : List ℕ = letter (now (a .incoming)) (now (a .starts)) (now (a .lens)) (a .k) in
+    let a = c .before .before .before .before .args in
+    let m : List ℕ = letter (now (a .incoming)) (a .mail) (a .k) in
     c .load .ensures ∙ ap (λ (s : List ℕ). blockAt s (8 + a .t * 17 + 1)) (c .before .letter .ensures)
     ∙ sym (ap (λ (b : Bool). sel blocks b (blockAt m (8 + a .t * 17 + 1)))
-    (neq-true (a .i) (a .k) (λ e. c .before .before .if1 .left (sym e))))
+    (neq-true (a .f .i) (a .k) (λ e. c .before .before .if1 .left (sym e))))
 
 pub u-told-spec : {M : Type 1} → statement M
 u-told-spec =

@@ -10,28 +10,18 @@ use Rattle.flaand_comm.proofs.keep_row.Tie as tie
 returns : tie.Need-returns
 returns c =
     let s = c .before .before .before .before in
-    let a = s .before .before .before .before .before .args in
-    c .before .before .clear .ensures ∙ sym (row-own (a .i) (length (now (a .row))) _ (a .k) (s .if1 .taken))
+    let a = s .before .before .before .args in
+    c .before .before .clear .ensures ∙ sym (row-own (a .f .i) (length (now (a .row))) _ (a .k) (s .if1 .taken))
 
 letter-requires : tie.Need-letter-requires
 letter-requires c κs =
-    let s = c .before .before .before .before .before in
-    let a = s .args in
-    letter-fits (a .n) (a .i) (8 + length (now (a .row))) (now (a .incoming)) (now (a .starts)) (now (a .lens)) (s .pre .1) (a .k)
-    (s .pre .0) (λ e. c .if1 .left (sym e))
+    let s = c .before .before .before in letter-fits (s .pre .1) (s .args .k) (s .pre .0) (λ e. c .if1 .left (sym e))
 
 -- the message has as many bytes behind its count as the row
-long : (c : tie.After-letter)
-    → 8 + length (now (c .before .before .before .before .before .before .args .row)) ≤ length (now (c .letter .result))
+long : (c : tie.After-letter) → 8 + length (now (c .before .before .before .before .args .row)) ≤ length (now (c .letter .result))
 long c =
-    let s = c .before .before .before .before .before .before in
-    let a = s .args in
-    omega (
-      arith,
-      ap length (c .letter .ensures),
-      letter-long (a .n) (a .i) (8 + length (now (a .row))) (now (a .incoming)) (now (a .starts)) (now (a .lens)) (s .pre .1) (a .k)
-          (s .pre .0) (λ e. c .before .if1 .left (sym e)),
-    )
+    let s = c .before .before .before .before in
+    omega (arith, ap length (c .letter .ensures), letter-long (s .pre .1) (s .args .k) (s .pre .0) (λ e. c .before .if1 .left (sym e)))
 
 sub-copy : tie.Need-sub-copy
 sub-copy c = omega (arith, long (c .before))
@@ -47,11 +37,10 @@ copy-requires c κs =
 returns-2 : tie.Need-returns-2
 returns-2 c =
     let t = c .before .before .before .before .before in
-    let a = t .before .before .before .before .before .before .args in
+    let a = t .before .before .before .before .args in
     let n = length (now (a .row)) in
     c .before .before .copy .ensures ∙ ap (take n) (get-rest 8 (now (t .letter .result)) ∙ ap (drop 8) (t .letter .ensures))
-    ∙ sym (row-other (a .i) n (λ k. take n (drop 8 (letter (now (a .incoming)) (now (a .starts)) (now (a .lens)) k))) (a .k)
-    (t .before .if1 .left))
+    ∙ sym (row-other (a .f .i) n (λ k. take n (drop 8 (letter (now (a .incoming)) (a .mail) k))) (a .k) (t .before .if1 .left))
 
 pub keep-row-spec : {M : Type 1} → statement M
 keep-row-spec =

@@ -1,41 +1,32 @@
-use Rattle.lists.specs.Kit.{sym, ap, _∙_, List, Bool, ℕ, _+_, _*_, _≤_, arith, length, now, needs}
+use Rattle.lists.specs.Kit.{sym, ap, _∙_, List, ℕ, _+_, _*_, _≤_, arith, length, now, needs}
 use Rattle.lists.specs.Over.{in-chunks}
-use Rattle.algebra.specs.Group.{sel}
-use Rattle.algebra.specs.Sum.{neq-true}
 use Rattle.block.specs.Block.{blockAt}
 use Rattle.block.specs.Group.{blocks}
 use Rattle.plan.specs.Plan.{leaky}
-use Rattle.rounds.specs.Mail.{letter}
-use Rattle.rounds.specs.MailLaws.{neq-same, letter-fits, letter-long}
+use Rattle.rounds.specs.MailLaws.{letter-fits, letter-long}
+use Rattle.rounds.specs.Loops.{sel-own, sel-other}
 use Rattle.rounds.specs.Flaand.{hTold}
 use Rattle.flaand_hash.proofs.h_told.Statement.{statement}
 use Rattle.flaand_hash.proofs.h_told.Tie as tie
 
 returns : tie.Need-returns
 returns c =
-    let a = c .before .before .before .before .before .args in
-    c .zero .ensures
-    ∙ sym (ap (λ (b : Bool). sel blocks b (hTold (letter (now (a .incoming)) (now (a .starts)) (now (a .lens))) (a .k) (a .t)))
-    (neq-same (a .i) (a .k) (c .before .if1 .taken)))
+    let a = c .before .before .before .args in c .zero .ensures ∙ sel-own blocks (a .f .i) (a .k) _ (sym (c .before .if1 .taken))
 
 letter-requires : tie.Need-letter-requires
 letter-requires c κs =
-    let s = c .before .before .before .before in
-    let a = s .args in
-    letter-fits (a .n) (a .i) (8 + leaky (a .l) * 16) (now (a .incoming)) (now (a .starts)) (now (a .lens)) (s .pre .1) (a .k)
-    (s .pre .0 .0) (c .if1 .left)
+    let s = c .before .before in letter-fits (s .pre .1) (s .args .k) (s .pre .0 .0) (c .if1 .left)
 
 -- h lies within the message
-read-in : (c : tie.After-letter) → 8 + c .before .before .before .before .before .args .t * 16 + 16 ≤ length (now (c .letter .result))
+read-in : (c : tie.After-letter) → 8 + c .before .before .before .args .t * 16 + 16 ≤ length (now (c .letter .result))
 read-in c =
-    let s = c .before .before .before .before .before in
+    let s = c .before .before .before in
     let a = s .args in
     omega (
       arith,
       ap length (c .letter .ensures),
-      in-chunks (a .t) (leaky (a .l)) 16 (s .pre .0 .1),
-      letter-long (a .n) (a .i) (8 + leaky (a .l) * 16) (now (a .incoming)) (now (a .starts)) (now (a .lens)) (s .pre .1) (a .k)
-          (s .pre .0 .0) (c .before .if1 .left),
+      in-chunks (a .t) (leaky (a .f .l)) 16 (s .pre .0 .1),
+      letter-long (s .pre .1) (a .k) (s .pre .0 .0) (c .before .if1 .left),
     )
 
 mul-load : tie.Need-mul-load
@@ -50,10 +41,9 @@ load-requires c κs = read-in c
 returns-2 : tie.Need-returns-2
 unfolding hTold
 returns-2 c =
-    let a = c .before .before .before .before .before .before .args in
-    let m : List ℕ = letter (now (a .incoming)) (now (a .starts)) (now (a .lens)) (a .k) in
-    c .load .ensures ∙ ap (λ (s : List ℕ). blockAt s (8 + a .t * 16)) (c .before .letter .ensures)
-    ∙ sym (ap (λ (b : Bool). sel blocks b (blockAt m (8 + a .t * 16))) (neq-true (a .i) (a .k) (λ e. c .before .before .if1 .left (sym e))))
+    let a = c .before .before .before .before .args in
+    sel-other blocks (a .f .i) (a .k) _ _ (λ e. c .before .before .if1 .left (sym e))
+    (c .load .ensures ∙ ap (λ (s : List ℕ). blockAt s (8 + a .t * 16)) (c .before .letter .ensures))
 
 pub h-told-spec : {M : Type 1} → statement M
 h-told-spec =

@@ -2,20 +2,20 @@
 use Rattle.lists.specs.Kit.{_≡_, refl, sym, ap, ap₂, _∙_, List, ℕ, _+_, _-_, _*_, _≤_, arith, length, take, drop, now, needs}
 use Rattle.lists.specs.All.{allOf, all-zero}
 use Rattle.lists.specs.Over.{cat, in-chunks}
-use Rattle.lists.specs.Sect.{length-get}
 use Rattle.lists.specs.Same.{same?}
 use Rattle.blake3_lanes.specs.Lanes.{hashAt}
 use Rattle.plan.specs.Plan.{leaky}
 use Rattle.plan.specs.PlanLaws.{leaky-most}
+use Rattle.rounds.specs.Loops.{lent-part}
 use Rattle.flaand_hash.specs.Laws.{opens, opensAt, window-turn}
 use Rattle.flaand_hash.proofs.opens.Statement.{statement}
 use Rattle.flaand_hash.proofs.opens.Tie as tie
 
 abbrev Inv-loop : tie.InvT-loop
-Inv-loop m comms n l k count row ok₀ t₀ ok t = (t ≤ count) × (ok ≡ allOf t (opensAt count comms k m))
+Inv-loop m comms k count row ok₀ t₀ ok t = (t ≤ count) × (ok ≡ allOf t (opensAt count comms k m))
 
 abbrev μ-loop : tie.MeasureT-loop
-μ-loop m comms n l k count row ok₀ t₀ ok t = count - t
+μ-loop m comms k count row ok₀ t₀ ok t = count - t
 
 -- ---- of a call
 module _ (c : tie.After-leaky Inv-loop μ-loop) where
@@ -26,16 +26,16 @@ module _ (c : tie.After-leaky Inv-loop μ-loop) where
   count = c .leaky .result
 
   few : count ≤ 1500000
-  few = omega (arith, leaky-most (start .args .l) (start .pre .0 .0), c .leaky .ensures)
+  few = omega (arith, leaky-most (start .args .f .l) (start .pre .0 .0 .most), c .leaky .ensures)
 
   read-all : 8 + count * 16 ≤ length (now (start .args .m))
   read-all = omega (arith, start .pre .1 .0, c .leaky .ensures)
 
-  whole : length (now (start .args .comms)) ≡ start .args .n * (count * 32)
-  whole = start .pre .1 .1 ∙ ap (λ j. start .args .n * (j * 32)) (sym (c .leaky .ensures))
+  whole : length (now (start .args .comms)) ≡ start .args .f .n * (count * 32)
+  whole = start .pre .1 .1 ∙ ap (λ j. start .args .f .n * (j * 32)) (sym (c .leaky .ensures))
 
   row-in : start .args .k * (count * 32) + count * 32 ≤ length (now (start .args .comms))
-  row-in = omega (arith, in-chunks (start .args .k) (start .args .n) (count * 32) (start .pre .0 .1 .1), whole)
+  row-in = omega (arith, in-chunks (start .args .k) (start .args .f .n) (count * 32) (start .pre .0 .1), whole)
 
 mul-row : tie.Need-mul-row Inv-loop μ-loop
 mul-row c = omega (arith, few c)
@@ -49,9 +49,6 @@ loop-holds c = (omega arith, sym (all-zero _))
 -- a part of k bytes from a on
 cut : (a k : ℕ) → a + k - a ≡ k
 cut a k = omega arith
-
-cut-length : (a k : ℕ) (s : List ℕ) → a + k ≤ length s → length (take (a + k - a) (drop a s)) ≡ k
-cut-length a k s h = length-get a (a + k - a) s (omega arith) ∙ cut a k
 
 -- ---- in a turn
 module _ (c : tie.After-at-once Inv-loop μ-loop) where
@@ -117,8 +114,8 @@ window-opens-requires c κs =
     let y = c .before .before in
     let a = start (call y) .args in (
       y .at-once .ensures .2,
-      cut-length (8 + t y * 16) (w y * 16) (now (a .m)) (read-in y),
-      cut-length (from y) (w y * 32) (now (a .comms)) (comms-within y),
+      lent-part (8 + t y * 16) (w y * 16) _ (now (a .m)) refl (read-in y),
+      lent-part (from y) (w y * 32) _ (now (a .comms)) refl (comms-within y),
     )
 
 add-t : tie.Need-add-t Inv-loop μ-loop
@@ -149,7 +146,7 @@ returns c =
     let a = start y .args in
     l .inv .1
     ∙ ap₂ (λ j i. allOf j (opensAt i (now (a .comms)) (a .k) (now (a .m))))
-    (let e : l .t ≡ leaky (a .l) = omega (arith, y .leaky .ensures) in e) (y .leaky .ensures)
+    (let e : l .t ≡ leaky (a .f .l) = omega (arith, y .leaky .ensures) in e) (y .leaky .ensures)
 
 pub opens-spec : {M : Type 1} → statement M
 opens-spec =

@@ -5,7 +5,7 @@ use Rattle.lists.specs.Over.{length-cat}
 use Rattle.lists.specs.Same.{same?}
 use Rattle.block.specs.Block.{blockAt, bytesOf}
 use Rattle.blake3_lanes.specs.Lanes.{hashAt}
-use Rattle.rounds.specs.FashareLaws.{length-hash}
+use Rattle.blake3.specs.ByteLaws.{length-hash}
 use Rattle.flaand_hash.proofs.window_opens.Statement.{statement}
 use Rattle.flaand_hash.proofs.window_opens.Tie as tie
 

@@ -1,6 +1,6 @@
 -- The loop's invariant: the sum has the first k parties.
-use Rattle.lists.specs.Kit.{_≡_, refl, ap, ap₂, _∙_, Bool, ℕ, _-_, _≤_, arith, now, needs}
-use Rattle.algebra.specs.Group.{XorGroup, sel}
+use Rattle.lists.specs.Kit.{_≡_, ap, ap₂, _∙_, ℕ, _-_, _≤_, arith, now, needs}
+use Rattle.algebra.specs.Group.{sel}
 use Rattle.algebra.specs.Sum.{others, neq}
 use Rattle.block.specs.declared.Block.{Block}
 use Rattle.block.specs.Group.{blocks}
@@ -26,8 +26,8 @@ loop-again c =
     let a = l .before .before .before .args in
     let f : ℕ → Block = λ k. blocks .op (keyAt (now (a .recs)) (a .at) k) (macAt (now (a .recs)) (a .at) k) in (
       omega arith,
-      c .xor2 .ensures ∙ others-turn blocks (a .i) f (l .loop .k) (l .loop .sum) _ (l .loop .inv .1)
-          (c .before .const-mul .ensures ∙ ap (sel blocks (neq (a .i) (l .loop .k)))
+      c .xor2 .ensures ∙ others-turn blocks (a .f .i) f (l .loop .k) (l .loop .sum) _ (l .loop .inv .1)
+          (c .before .const-mul .ensures ∙ ap (sel blocks (neq (a .f .i) (l .loop .k)))
           (c .before .before .xor .ensures ∙ ap₂ (blocks .op) (m .before .key-at .ensures) (m .mac-at .ensures))),
     )
 
@@ -35,9 +35,12 @@ returns : tie.Need-returns Inv-loop μ-loop
 returns c =
     let l = c .before in
     let a = l .before .before .before .args in
-    l .loop .inv .1 ∙ ap (λ m. others blocks (a .i) m (λ k. blocks .op (keyAt (now (a .recs)) (a .at) k) (macAt (now (a .recs)) (a .at) k))) (let e : l .loop .k ≡ a .n = omega arith in e)
+    l .loop .inv .1
+    ∙ ap (λ m. others blocks (a .f .i) m (λ k. blocks .op (keyAt (now (a .recs)) (a .at) k) (macAt (now (a .recs)) (a .at) k)))
+    (let e : l .loop .k ≡ a .f .n = omega arith in e)
 
 pub keys-and-macs-spec : {M : Type 1} → statement M
 keys-and-macs-spec =
     tie.close
-    (tie.spec Inv-loop μ-loop (λ c κs. search needs) loop-holds (λ c κs. search needs) (λ c κs. search needs) (λ c κs. search needs) (λ c κs. search needs) (λ c κs. search needs) (λ c. search needs) (λ c. search needs) loop-again returns)
+    (tie.spec Inv-loop μ-loop (λ c κs. search needs) loop-holds (λ c κs. search needs) (λ c κs. search needs) (λ c κs. search needs)
+    (λ c κs. search needs) (λ c κs. search needs) (λ c. search needs) (λ c. search needs) loop-again returns)

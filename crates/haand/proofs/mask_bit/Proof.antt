@@ -10,7 +10,7 @@ inside : (c : tie.After-leaky) → let a = c .before .before .args in a .k * c .
 inside c =
     let s = c .before .before in
     let a = s .args in
-    omega (arith, in-chunks (a .k) (a .n) (leaky (a .l)) (s .pre .0 .1 .0), s .pre .0 .1 .1, ap (λ m. a .k * m) (c .leaky .ensures))
+    omega (arith, in-chunks (a .k) (a .f .n) (leaky (a .f .l)) (s .pre .0 .1 .0), s .pre .0 .1 .1, ap (λ m. a .k * m) (c .leaky .ensures))
 
 returns : tie.Need-returns
 returns c =

@@ -1,11 +1,11 @@
 use Rattle.lists.specs.Kit.{ap, _∙_, now, needs}
-use Rattle.algebra.specs.Group.{XorGroup}
+use Rattle.lists.specs.Over.{two-parts}
 use Rattle.block.specs.declared.Block.{Block}
 use Rattle.block.specs.Block.{bytesOf}
 use Rattle.block.specs.Group.{blocks}
 use Rattle.block.specs.Trip.{length-bytesOf}
 use Rattle.encode.specs.Encode.{twoBits}
-use Rattle.haand.specs.Parts.{entryOf, two-parts}
+use Rattle.haand.specs.Parts.{entryOf}
 use Rattle.haand.proofs.put_entry.Statement.{statement}
 use Rattle.haand.proofs.put_entry.Tie as tie
 

@@ -14,15 +14,15 @@ returns c =
     let st = s .before .before .before .before in
     let a = st .args in (
       c .before .before .before .clear .ensures ∙ ap (λ m. replicate m 0) (st .pre .0 .0) ∙ sym
-          (row-own (a .i) 18 _ (a .k) (s .if1 .taken)),
-      c .zero .ensures ∙ sel-own blocks (a .i) (a .k) _ (s .if1 .taken),
+          (row-own (a .f .i) 18 _ (a .k) (s .if1 .taken)),
+      c .zero .ensures ∙ sel-own blocks (a .f .i) (a .k) _ (s .if1 .taken),
     )
 
 -- the hash of another party lies within
-inside : (s : tie.Start) → s .args .i ≢ s .args .k → place (s .args .i) (s .args .k) * 32 + 32 ≤ (s .args .n - 1) * 32
+inside : (s : tie.Start) → s .args .f .i ≢ s .args .k → place (s .args .f .i) (s .args .k) * 32 + 32 ≤ (s .args .f .n - 1) * 32
 inside s ne =
     let a = s .args in
-    in-chunks (place (a .i) (a .k)) (a .n - 1) 32 (place-lt (a .n) (a .i) (a .k) (s .pre .0 .1 .0) (s .pre .0 .1 .1) ne)
+    in-chunks (place (a .f .i) (a .k)) (a .f .n - 1) 32 (place-lt (a .f .n) (a .f .i) (a .k) (s .pre .0 .1 .0) (s .pre .0 .1 .1) ne)
 
 hash-of-requires : tie.Need-hash-of-requires
 hash-of-requires c κs =
@@ -45,8 +45,8 @@ returns-2 c =
       p .put-entry .ensures
           ∙ (λ j. entryOf (h .hash-of .ensures .0 j) (h2 .hash-of2 .ensures .0 j) (a .p) (h .hash-of .ensures .1 j)
           (h2 .hash-of2 .ensures .1 j))
-          ∙ sym (row-other (a .i) 18 (entryAt (a .i) (now (a .keys)) (now (a .sums)) (a .p)) (a .k) (s .if1 .left)),
-      sel-other blocks (a .i) (a .k) _ _ (s .if1 .left) (h .hash-of .ensures .0),
+          ∙ sym (row-other (a .f .i) 18 (entryAt (a .f .i) (now (a .keys)) (now (a .sums)) (a .p)) (a .k) (s .if1 .left)),
+      sel-other blocks (a .f .i) (a .k) _ _ (s .if1 .left) (h .hash-of .ensures .0),
     )
 
 pub put-entry-of-spec : {M : Type 1} → statement M

@@ -2,7 +2,6 @@ use Rattle.lists.specs.Kit.{ap, _∙_, List, _++_, ℕ, _+_, _-_, _*_, arith, l
 use lib.ListN.{length-drop}
 use Rattle.lists.specs.Over.{cat, over-full}
 use Rattle.lists.specs.Sect.{get-rest}
-use Rattle.algebra.specs.Group.{XorGroup}
 use Rattle.algebra.specs.Sum.{others}
 use Rattle.block.specs.declared.Block.{Block}
 use Rattle.block.specs.Block.{bytesOf}
@@ -10,7 +9,6 @@ use Rattle.block.specs.Group.{blocks}
 use Rattle.block.specs.Trip.{length-bytesOf}
 use Rattle.share.specs.Record.{recordLen, keyAt}
 use Rattle.engine.specs.declared.Frame.{Frame}
-use Rattle.engine.specs.Step.{frame}
 use Rattle.rounds.specs.Area.{leakyLen, rows}
 use Rattle.rounds.specs.Loops.{rowOf}
 use Rattle.rounds.specs.Haand as R
@@ -32,9 +30,9 @@ unfolding leakyLen
 put-entries-requires c κs =
     let s = c .before .before .before .before .before .before in
     let a = s .args in
-    let at = a .t * recordLen (a .n) in (
+    let at = a .t * recordLen (a .f .n) in (
       (
-        s .pre .0 .0 .ranges .eight,
+        s .pre .0 .0 .ranges .range .eight,
         (
           s .pre .0 .0 .ranges .own,
           ap length (get-rest 32 (now (a .out))) ∙ length-drop 32 (now (a .out)) ∙
@@ -42,8 +40,8 @@ put-entries-requires c κs =
         ),
       ),
       (
-        ap length (s .pre .1 .0) ∙ length-hashes (a .n) (a .i) (keyAt (now (a .recs)) at),
-        ap length (s .pre .1 .1) ∙ length-hashes (a .n) (a .i) (λ k. blocks .op (keyAt (now (a .recs)) at k) (a .delta .0)),
+        ap length (s .pre .1 .0) ∙ length-hashes (a .f) (keyAt (now (a .recs)) at),
+        ap length (s .pre .1 .1) ∙ length-hashes (a .f) (λ k. blocks .op (keyAt (now (a .recs)) at k) (a .delta .0)),
       ),
     )
 
@@ -65,17 +63,18 @@ returns c =
     let a = s .args in
     let r = now (a .recs) in
     let own = s .pre .0 .0 .ranges .own in
-    let f : Frame = frame (a .n) (a .l) (a .i) in
+    let f : Frame = a .f in
     let front : List ℕ = bytesOf (R.phi f (a .delta .0) r (a .t)) in
-    let sums : List ℕ = bytesOf (others blocks (a .i) (a .n) (λ j. R.G (R.x f r (a .t) .key j))) in
+    let sums : List ℕ = bytesOf (others blocks (a .f .i) (a .f .n) (λ j. R.G (R.x f r (a .t) .key j))) in
     let entries : List ℕ = rows f 18 (R.leakyEntry f (a .delta .0) r (a .t)) in
-    three-parts 16 (length (now (a .out)) - 32) front sums entries _ _ _ (now (a .out)) (omega arith) (length-bytesOf (R.phi f (a .delta .0) r (a .t)))
+    three-parts 16 (length (now (a .out)) - 32) front sums entries _ _ _ (now (a .out)) (omega arith)
+    (length-bytesOf (R.phi f (a .delta .0) r (a .t)))
     (st .store .ensures ∙ ap bytesOf (x .phi .ensures))
     (c .before .before .store2 .ensures
     ∙ ap bytesOf (p .put-entries .ensures .1 ∙ sums-of f (a .delta .0) r (a .t) (now (a .keys)) (now (a .sums)) own (s .pre .1 .0)
     (s .pre .1 .1)))
     (p .put-entries .ensures .0
-    ∙ ap (λ (q : Block). cat (a .n) (rowOf (a .i) 18 (entryAt (a .i) (now (a .keys)) (now (a .sums)) q))) (x .phi .ensures)
+    ∙ ap (λ (q : Block). cat (a .f .n) (rowOf (a .f .i) 18 (entryAt (a .f .i) (now (a .keys)) (now (a .sums)) q))) (x .phi .ensures)
     ∙ entries-of f (a .delta .0) r (a .t) (now (a .keys)) (now (a .sums)) own (s .pre .1 .0) (s .pre .1 .1))
     ∙ over-full (front ++ (sums ++ entries)) (now (a .out)) (32 + (length (now (a .out)) - 32)) (omega arith)
 

@@ -5,7 +5,6 @@ use borrow.Rule.Slice.PartMut.{putMid}
 use Rattle.lists.specs.Over.{Written, written-zero, written-turn, written-end, in-chunks, next-chunk}
 use Rattle.plan.specs.PlanLaws.{leaky-most}
 use Rattle.engine.specs.declared.Frame.{Frame}
-use Rattle.engine.specs.Step.{frame}
 use Rattle.rounds.specs.Area.{leakyLen}
 use Rattle.rounds.specs.Loops.{lent-part}
 use Rattle.rounds.specs.Haand as R
@@ -16,22 +15,22 @@ use Rattle.haand.proofs.put_rows.Statement.{statement}
 use Rattle.haand.proofs.put_rows.Tie as tie
 
 abbrev Inv-loop : tie.InvT-loop
-Inv-loop out₀ hashes recs delta n i l t m size len p₀ out p =
-    (p ≤ m) × Written (λ p. R.leakyRow (frame n l i) (delta .0) recs (t + p)) p (p * leakyLen n) out₀ out
+Inv-loop out₀ hashes recs delta f t m n size len p₀ out p =
+    (p ≤ m) × Written (λ p. R.leakyRow f (delta .0) recs (t + p)) p (p * leakyLen (f .n)) out₀ out
 
 abbrev μ-loop : tie.MeasureT-loop
-μ-loop out₀ hashes recs delta n i l t m size len p₀ out p = m - p
+μ-loop out₀ hashes recs delta f t m n size len p₀ out p = m - p
 
 -- ---- of a call
 module _ (s : tie.Start Inv-loop μ-loop) where
   abbrev f : Frame
-  f = frame (s .args .n) (s .args .l) (s .args .i)
+  f = s .args .f
 
   abbrev g : ℕ → List ℕ
   g p = R.leakyRow f (s .args .delta .0) (now (s .args .recs)) (s .args .t + p)
 
   abbrev row : ℕ
-  row = leakyLen (s .args .n)
+  row = leakyLen (s .args .f .n)
 
 loop-holds : tie.Need-loop-holds Inv-loop μ-loop
 loop-holds c = let s = c .before .before .before .before in (omega arith, rw zero-mul (written-zero (g s) (now (s .args .out))))
@@ -51,7 +50,7 @@ module _ (c : tie.In-loop Inv-loop μ-loop) where
   len-is = c .before .before .leaky-len .ensures
 
   abbrev size : ℕ
-  size = (start .args .n - 1) * 32
+  size = (start .args .f .n - 1) * 32
 
   row-in : p * len + len ≤ length (c .before .loop .out)
   row-in =
@@ -59,23 +58,25 @@ module _ (c : tie.In-loop Inv-loop μ-loop) where
         arith,
         in-chunks p (start .args .m) (row start) (c .loop-test .taken),
         c .before .loop .inv .1 .same,
-        start .pre .1 .0 .1 .1,
+        start .pre .0 .2,
         ap
             (λ m. p * m) len-is,
         len-is,
       )
 
   hash-in : 1024 + p * size + size ≤ length (now (start .args .hashes))
-  hash-in = omega (arith, in-chunks p (start .args .m) size (c .loop-test .taken), start .pre .1 .0 .1 .0, start .pre .1 .1 .0 .long)
+  hash-in = omega (arith, in-chunks p (start .args .m) size (c .loop-test .taken), start .pre .0 .1, start .pre .1 .0 .long)
 
-  asked : Asked (start .args .n) (start .args .i) (start .args .l) (start .args .t + p) (now (start .args .recs))
-  asked = record { ranges = start .pre .0 .0; records = start .pre .0 .1; below = omega (arith, c .loop-test .taken, start .pre .1 .0 .0) }
+  asked : Asked (start .args .f) (start .args .t + p) (now (start .args .recs))
+  asked =
+      let p = start .pre .0 .0 in
+      record { ranges = p .ranges; records = p .records; below = omega (arith, c .loop-test .taken, p .below) }
 
 put-row-requires : tie.Need-put-row-requires Inv-loop μ-loop
 put-row-requires c κs =
     let i = c .before .before .before in
     let s = start i in
-    let h = s .pre .1 .1 in (
+    let h = s .pre .1 in (
       (asked i, lent-part (p i * len i) (len i) (row s) (i .before .loop .out) (len-is i) (row-in i)),
       (
         lent-hashes (h .0) (p i) (p i * size i) (p i * size i + size i) (i .loop-test .taken) (omega arith) refl,
@@ -96,7 +97,7 @@ loop-again c =
           (written-turn (g s) (p i) (p i * row s) (p i * row s + row s) ((p i + 1) * row s) (now (s .args .out)) (k .out)
           (w .put-row .last .0) (k .inv .1)
           (w .put-row .ensures) (ap (λ m. p i * row s + m) long)
-          (omega (arith, in-chunks (p i) (s .args .m) (row s) (i .loop-test .taken), s .pre .1 .0 .1 .1)) (sym (next-chunk (p i) (row s)))),
+          (omega (arith, in-chunks (p i) (s .args .m) (row s) (i .loop-test .taken), s .pre .0 .2)) (sym (next-chunk (p i) (row s)))),
     )
 
 same-length : tie.Need-same-length Inv-loop μ-loop
@@ -108,7 +109,7 @@ returns c =
     let l = c .before .loop in
     let e : l .p ≡ s .args .m = omega arith in
     written-end (g s) (l .p) (s .args .m) (l .p * row s) (now (s .args .out)) (l .out) (l .inv .1) e
-    (omega (arith, s .pre .1 .0 .1 .1, ap (λ m. m * row s) e))
+    (omega (arith, s .pre .0 .2, ap (λ m. m * row s) e))
 
 pub put-rows-spec : {M : Type 1} → statement M
 put-rows-spec =
@@ -116,7 +117,7 @@ put-rows-spec =
     (tie.spec
     Inv-loop
     μ-loop
-    (λ c. omega (arith, c .before .before .before .pre .0 .0 .two))
+    (λ c. omega (arith, c .before .before .before .pre .0 .0 .ranges .own))
     (λ c. search needs)
     (λ c κs. search needs)
     loop-holds
@@ -135,7 +136,8 @@ put-rows-spec =
     (λ c. search needs)
     (λ c. search needs)
     (λ c. hash-in (c .before .before))
-    (λ c. let i = c .before .before .before in omega (arith, asked i .below, leaky-most (start i .args .l) (start i .pre .0 .0 .most)))
+    (λ c. let i = c .before .before .before in
+    omega (arith, asked i .below, leaky-most (start i .args .f .l) (asked i .ranges .range .most)))
     put-row-requires
     (λ c. search needs)
     (λ c. search needs)

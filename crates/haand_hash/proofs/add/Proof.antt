@@ -1,7 +1,6 @@
 -- The loop's invariant: the first j Blocks stand in front, each plus d.
 use Rattle.lists.specs.Kit.{ap, _∙_, List, ℕ, _+_, _-_, _*_, _≤_, arith, now, needs}
 use Rattle.lists.specs.Over.{Written, written-zero, written-turn, written-end}
-use Rattle.algebra.specs.Group.{XorGroup}
 use Rattle.block.specs.declared.Block.{Block}
 use Rattle.block.specs.Block.{blockAt, bytesOf}
 use Rattle.block.specs.Group.{blocks}

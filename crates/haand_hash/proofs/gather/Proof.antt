@@ -1,97 +1,85 @@
 -- The loop's invariant: the parts of the first p positions are written.
-use Rattle.lists.specs.Kit.{_≡_, refl, sym, ap, _∙_, List, ℕ, _+_, _-_, _*_, _≤_, arith, length, now, needs}
-use native.Mathlib.Nat.{zero-mul, le-mul-of-pos-right}
-use Rattle.lists.specs.Over.{Written, written-zero, written-turn, written-end, in-record, in-chunks, next-chunk}
+use Rattle.lists.specs.Kit.{_≡_, refl, sym, ap, _∙_, List, ℕ, _+_, _-_, _*_, _<_, _≤_, arith, length, now, needs}
+use native.Mathlib.Nat.{zero-mul}
+use Rattle.lists.specs.Over.{Written, written-zero, written-turn, written-end, in-chunks, next-chunk}
 use Rattle.block.specs.Block.{bytesOf}
 use Rattle.block.specs.Trip.{length-bytesOf}
 use Rattle.share.specs.Record.{recordLen}
+use Rattle.plan.specs.Plan.{leaky}
 use Rattle.engine.specs.Area.{toOthers, length-toOthers}
 use Rattle.rounds.specs.Loops.{lent-part}
+use Rattle.area.specs.Positions.{position-most, x-in}
 use Rattle.haand_hash.specs.Window.{partOf}
 use Rattle.haand_hash.proofs.gather.Statement.{statement}
 use Rattle.haand_hash.proofs.gather.Tie as tie
 
 abbrev Inv-loop : tie.InvT-loop
-Inv-loop out₀ recs n i t m keys len step p₀ out p =
-    (p ≤ m) × Written (λ p. toOthers n i (λ k. bytesOf (partOf keys recs ((t + p) * recordLen n) k))) p (p * ((n - 1) * 16)) out₀ out
+Inv-loop out₀ recs f t m keys n len p₀ out p =
+    (p ≤ m) × Written (λ p. toOthers (f .n) (f .i) (λ k. bytesOf (partOf keys recs ((t + p) * recordLen (f .n)) k))) p
+    (p * ((f .n - 1) * 16)) out₀ out
 
 abbrev μ-loop : tie.MeasureT-loop
-μ-loop out₀ recs n i t m keys len step p₀ out p = m - p
+μ-loop out₀ recs f t m keys n len p₀ out p = m - p
 
 -- ---- of a call
 module _ (s : tie.Start Inv-loop μ-loop) where
   abbrev g : ℕ → List ℕ
-  g p = toOthers (s .args .n) (s .args .i) (λ k. bytesOf (partOf (s .args .keys) (now (s .args .recs))
-      ((s .args .t + p) * recordLen (s .args .n)) k))
+  g p = toOthers (s .args .f .n) (s .args .f .i) (λ k. bytesOf (partOf (s .args .keys) (now (s .args .recs))
+      ((s .args .t + p) * recordLen (s .args .f .n)) k))
 
   abbrev len : ℕ
-  len = (s .args .n - 1) * 16
+  len = (s .args .f .n - 1) * 16
 
   long : (p : ℕ) → length (g p) ≡ len
   long p =
       let a = s .args in
-      length-toOthers 16 (a .n) (a .i) (λ k. bytesOf (partOf (a .keys) (now (a .recs)) ((a .t + p) * recordLen (a .n)) k))
-      (λ k h ne. length-bytesOf (partOf (a .keys) (now (a .recs)) ((a .t + p) * recordLen (a .n)) k))
+      length-toOthers 16 (a .f .n) (a .f .i) (λ k. bytesOf (partOf (a .keys) (now (a .recs)) ((a .t + p) * recordLen (a .f .n)) k))
+      (λ k h ne. length-bytesOf (partOf (a .keys) (now (a .recs)) ((a .t + p) * recordLen (a .f .n)) k))
 
 loop-holds : tie.Need-loop-holds Inv-loop μ-loop
-loop-holds c = let s = c .before .before .before in (omega arith, rw zero-mul (written-zero (g s) (now (s .args .out))))
+loop-holds c = let s = c .before .before in (omega arith, rw zero-mul (written-zero (g s) (now (s .args .out))))
 
 -- ---- in a turn
 module _ (c : tie.In-loop Inv-loop μ-loop) where
   abbrev start : tie.Start Inv-loop μ-loop
-  start = c .before .before .before .before .before
+  start = c .before .before .before .before
 
   abbrev p : ℕ
   p = c .before .loop .p
 
   part-in : p * len start + len start ≤ length (c .before .loop .out)
   part-in = omega
-      (arith, in-chunks p (start .args .m) (len start) (c .loop-test .taken), c .before .loop .inv .1 .same, start .pre .0 .1 .1)
+      (arith, in-chunks p (start .args .m) (len start) (c .loop-test .taken), c .before .loop .inv .1 .same, start .pre .1)
 
-  record-in : (start .args .t + p) * recordLen (start .args .n) + recordLen (start .args .n) ≤ length (now (start .args .recs))
-  record-in =
-      let a = start .args in
-      let e = in-record (a .t + p) (a .t + a .m) (recordLen (a .n)) 0 (recordLen (a .n)) (length (now (a .recs)))
-      (omega (arith, c .loop-test .taken)) (omega arith) (start .pre .1) in
-      omega (arith, e)
+  below : start .args .t + p < leaky (start .args .f .l)
+  below = omega (arith, c .loop-test .taken, start .pre .0 .below)
 
-  step-is : (start .args .t + p) * c .before .before .record-len .result ≡ (start .args .t + p) * recordLen (start .args .n)
-  step-is = ap (λ m. (start .args .t + p) * m) (c .before .before .record-len .ensures)
-
-mul-a : tie.Need-mul-a Inv-loop μ-loop
-mul-a c = omega (arith, part-in c)
-
-add-e : tie.Need-add-e Inv-loop μ-loop
-add-e c = omega (arith, part-in c)
-
-add-put-parts : tie.Need-add-put-parts Inv-loop μ-loop
-add-put-parts c =
-    let i = c .before in
-    let n = recordLen (start i .args .n) in
-    omega (arith, record-in i, le-mul-of-pos-right {m = n} (start i .args .t + p i) (omega arith))
-
-mul-put-parts : tie.Need-mul-put-parts Inv-loop μ-loop
-mul-put-parts c = let i = c .before in omega (arith, record-in i, step-is i)
+add-x-at : tie.Need-add-x-at Inv-loop μ-loop
+add-x-at c = let i = c .before in omega (arith, position-most (start i .args .f) (start i .pre .0 .ranges .range) _ (below i))
 
 put-parts-requires : tie.Need-put-parts-requires Inv-loop μ-loop
 put-parts-requires c κs =
-    let i = c .before in
+    let i = c .before .before in
     let s = start i in (
-      (omega (arith, s .pre .0 .0), (s .pre .0 .1 .0, lent-part (p i * len s) (len s) (len s) (i .before .loop .out) refl (part-in i))),
-      omega (arith, record-in i, step-is i),
+      (
+        omega (arith, s .pre .0 .ranges .own),
+        (s .pre .0 .ranges .range .eight, lent-part (p i * len s) (len s) (len s) (i .before .loop .out) refl (part-in i)),
+      ),
+      omega (arith, x-in (s .args .f) (now (s .args .recs)) (s .pre .0 .records) (s .args .t + p i) (below i), c .x-at .ensures),
     )
 
 loop-again : tie.Need-loop-again Inv-loop μ-loop
 loop-again c =
     let w = c .before .before in
-    let i = w .before .before in
+    let i = w .before .before .before in
     let s = start i in
     let a = s .args in
     let k = i .before .loop in (
       omega (arith, i .loop-test .taken),
       written-turn (g s) (p i) (p i * len s) (p i * len s + len s) ((p i + 1) * len s) (now (a .out)) (k .out) (w .put-parts .last .0)
           (k .inv .1)
-          (w .put-parts .ensures ∙ ap (λ at. toOthers (a .n) (a .i) (λ k. bytesOf (partOf (a .keys) (now (a .recs)) at k))) (step-is i))
+          (w .put-parts .ensures ∙ ap (λ at. toOthers (a .f .n) (a .f .i) (λ k. bytesOf (partOf (a .keys) (now (a .recs)) at k)))
+          (w .before .x-at .ensures))
           (ap (λ m. p i * len s + m) (long s (p i))) (omega (arith, part-in i, k .inv .1 .same)) (sym (next-chunk (p i) (len s))),
     )
 
@@ -100,11 +88,11 @@ same-length c = c .before .loop .inv .1 .same
 
 returns : tie.Need-returns Inv-loop μ-loop
 returns c =
-    let s = c .before .before .before .before .before in
+    let s = c .before .before .before .before in
     let l = c .before .loop in
     let e : l .p ≡ s .args .m = omega arith in
     written-end (g s) (l .p) (s .args .m) (l .p * len s) (now (s .args .out)) (l .out) (l .inv .1) e
-    (omega (arith, s .pre .0 .1 .1, ap (λ m. m * len s) e))
+    (omega (arith, s .pre .1, ap (λ m. m * len s) e))
 
 pub gather-spec : {M : Type 1} → statement M
 gather-spec =
@@ -112,17 +100,16 @@ gather-spec =
     (tie.spec
     Inv-loop
     μ-loop
-    (λ c. search needs)
-    (λ c. search needs)
-    (λ c κs. search needs)
+    (λ c. omega (arith, c .before .before .pre .0 .ranges .own))
+    (λ c. omega (arith, c .before .before .pre .0 .ranges .range .eight))
     loop-holds
-    mul-a
-    add-e
+    (λ c. omega (arith, part-in c))
+    (λ c. omega (arith, part-in c))
     (λ c. search needs)
     (λ c. search needs)
     (λ c. part-in c)
-    add-put-parts
-    mul-put-parts
+    add-x-at
+    (λ c κs. let i = c .before in (start i .pre .0 .ranges .range, below i))
     put-parts-requires
     (λ c. search needs)
     (λ c. search needs)

@@ -2,7 +2,6 @@ use Rattle.lists.specs.Kit.{_≡_, sym, ap, _∙_, List, _++_, true, ℕ, _+_, 
 use lib.Seq.{length-take-le}
 use Rattle.lists.specs.Over.{length-cat}
 use Rattle.lists.specs.Sect.{put, length-get, length-put}
-use Rattle.algebra.specs.Group.{XorGroup}
 use Rattle.block.specs.declared.Block.{Block}
 use Rattle.block.specs.Block.{blockAt, bytesOf}
 use Rattle.block.specs.Group.{blocks}
@@ -16,13 +15,13 @@ use Rattle.haand_hash.proofs.hash_keys.Tie as tie
 -- ---- of a call
 module _ (s : tie.Start) where
   abbrev len : ℕ
-  len = bytesIn (s .args .n) (s .args .m) 16
+  len = bytesIn (s .args .f .n) (s .args .m) 16
 
-  abbrev f : ℕ → ℕ → Block
-  f p k = partOf true (now (s .args .recs)) ((s .args .t + p) * recordLen (s .args .n)) k
+  abbrev part : ℕ → ℕ → Block
+  part p k = partOf true (now (s .args .recs)) ((s .args .t + p) * recordLen (s .args .f .n)) k
 
   room : len ≤ 1024
-  room = omega (arith, s .pre .fits)
+  room = omega (arith, s .pre .1)
 
   small : Small (s .args .delta .0)
   small = record { low = omega (arith, s .good); high = omega (arith, s .good) }
@@ -33,8 +32,7 @@ slice-aggregate-gather c = let s = c .before .before in sym (length-take-le (len
 gather-requires : tie.Need-gather-requires
 gather-requires c κs =
     let s = c .before .before in
-    let p = s .pre in
-    ((p .two, (p .eight, length-take-le (len s) (replicate 1024 0) (room s))), p .inside)
+    (s .pre .0, length-take-le (len s) (replicate 1024 0) (room s))
 
 -- the keys, and zeros behind them
 module _ (c : tie.After-gather) where
@@ -45,7 +43,8 @@ module _ (c : tie.After-gather) where
   keys = c .gather .last .0 ++ drop (len start) (replicate 1024 0)
 
   long : length keys ≡ 1024
-  long = let a = start .args in filled-length (a .n) (a .i) (a .m) (f start) (replicate 1024 0) (c .gather .last .0) (c .gather .ensures)
+  long = let a = start .args in filled-length (a .f) (a .m) (part start) (replicate 1024 0) (c .gather .last .0)
+      (c .gather .ensures)
       (room start)
 
 part-blocks-end : tie.Need-part-blocks-end
@@ -86,12 +85,12 @@ returns c =
     let g = turn d in
     let s = start g in
     let a = s .args in
-    let b : (p k : ℕ) → Small (f s p k) = λ p k. small-part true (now (a .recs)) ((a .t + p) * recordLen (a .n)) k
+    let b : (p k : ℕ) → Small (part s p k) = λ p k. small-part true (now (a .recs)) ((a .t + p) * recordLen (a .f .n)) k
     (λ j. g .before .before .shared-slice-known .given j .fits) in
-    let e = filled (a .n) (a .i) (a .m) (f s) (replicate 1024 0) (g .gather .last .0) (g .gather .ensures) (room s) in (
-      first-hashed (a .n) (a .i) (a .m) (f s) (keys g) b e (a .delta .0) (d .add .last .0) _ (small s) (long g) (s .pre .fits)
+    let e = filled (a .f) (a .m) (part s) (replicate 1024 0) (g .gather .last .0) (g .gather .ensures) (room s) in (
+      first-hashed (a .f) (a .m) (part s) (keys g) b e (a .delta .0) (d .add .last .0) _ (small s) (long g) (s .pre .1)
           (d .add .ensures) (c .hash-window .ensures),
-      second-hashed (a .n) (a .i) (a .m) (f s) (keys g) b e (a .delta .0) (d .add .last .0) _ (small s) (long g) (s .pre .fits)
+      second-hashed (a .f) (a .m) (part s) (keys g) b e (a .delta .0) (d .add .last .0) _ (small s) (long g) (s .pre .1)
           (d .add .ensures) (c .hash-window .ensures),
     )
 

@@ -10,13 +10,13 @@ use Rattle.haand_hash.proofs.hash_macs.Tie as tie
 -- ---- of a call
 module _ (s : tie.Start) where
   abbrev len : ℕ
-  len = bytesIn (s .args .n) (s .args .m) 16
+  len = bytesIn (s .args .f .n) (s .args .m) 16
 
-  abbrev f : ℕ → ℕ → Block
-  f p k = partOf false (now (s .args .recs)) ((s .args .t + p) * recordLen (s .args .n)) k
+  abbrev part : ℕ → ℕ → Block
+  part p k = partOf false (now (s .args .recs)) ((s .args .t + p) * recordLen (s .args .f .n)) k
 
   room : len ≤ 1024
-  room = omega (arith, s .pre .fits)
+  room = omega (arith, s .pre .1)
 
 slice-aggregate-gather : tie.Need-slice-aggregate-gather
 slice-aggregate-gather c = let s = c .before .before in sym (length-take-le (len s) (replicate 1024 0) (room s))
@@ -24,8 +24,7 @@ slice-aggregate-gather c = let s = c .before .before in sym (length-take-le (len
 gather-requires : tie.Need-gather-requires
 gather-requires c κs =
     let s = c .before .before in
-    let p = s .pre in
-    ((p .two, (p .eight, length-take-le (len s) (replicate 1024 0) (room s))), p .inside)
+    (s .pre .0, length-take-le (len s) (replicate 1024 0) (room s))
 
 -- the Blocks, and zeros behind them
 module _ (c : tie.After-gather) where
@@ -33,7 +32,8 @@ module _ (c : tie.After-gather) where
   start = c .before .before .before
 
   long : length (c .gather .last .0 ++ drop (len start) (replicate 1024 0)) ≡ 1024
-  long = let a = start .args in filled-length (a .n) (a .i) (a .m) (f start) (replicate 1024 0) (c .gather .last .0) (c .gather .ensures)
+  long = let a = start .args in filled-length (a .f) (a .m) (part start) (replicate 1024 0) (c .gather .last .0)
+      (c .gather .ensures)
       (room start)
 
 slice-aggregate-hash-window : tie.Need-slice-aggregate-hash-window
@@ -47,9 +47,9 @@ returns c =
     let g = c .before .before .before .before in
     let s = start g in
     let a = s .args in
-    window-hashed (a .n) (a .i) (a .m) (f s) _ (λ p k. small-part false (now (a .recs)) ((a .t + p) * recordLen (a .n)) k
+    window-hashed (a .f) (a .m) (part s) _ (λ p k. small-part false (now (a .recs)) ((a .t + p) * recordLen (a .f .n)) k
     (λ j. g .before .before .shared-slice-known .given j .fits))
-    (filled (a .n) (a .i) (a .m) (f s) (replicate 1024 0) (g .gather .last .0) (g .gather .ensures) (room s)) _ (s .pre .fits)
+    (filled (a .f) (a .m) (part s) (replicate 1024 0) (g .gather .last .0) (g .gather .ensures) (room s)) _ (s .pre .1)
     (c .hash-window .ensures)
 
 pub hash-macs-spec : {M : Type 1} → statement M

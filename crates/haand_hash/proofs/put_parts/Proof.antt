@@ -9,10 +9,10 @@ use Rattle.haand_hash.proofs.put_parts.Statement.{statement}
 use Rattle.haand_hash.proofs.put_parts.Tie as tie
 
 abbrev Inv-loop : tie.InvT-loop
-Inv-loop out₀ recs at n i keys last q₀ out q = (q ≤ n - 1) × Sent n i 16 (λ k. bytesOf (partOf keys recs at k)) q out₀ out
+Inv-loop out₀ recs at keys n i last q₀ out q = (q ≤ n - 1) × Sent n i 16 (λ k. bytesOf (partOf keys recs at k)) q out₀ out
 
 abbrev μ-loop : tie.MeasureT-loop
-μ-loop out₀ recs at n i keys last q₀ out q = n - 1 - q
+μ-loop out₀ recs at keys n i last q₀ out q = n - 1 - q
 
 -- of a call
 abbrev part : tie.Start Inv-loop μ-loop → ℕ → List ℕ
@@ -21,7 +21,7 @@ part s k = bytesOf (partOf (s .args .keys) (now (s .args .recs)) (s .args .at) k
 loop-holds : tie.Need-loop-holds Inv-loop μ-loop
 loop-holds c =
     let s = c .before .before in
-    (omega arith, sent-none (s .args .n) (s .args .i) 16 (part s) (now (s .args .out)))
+    (omega arith, sent-none (s .args .f .n) (s .args .f .i) 16 (part s) (now (s .args .out)))
 
 -- ---- in a turn
 module _ (c : tie.In-loop Inv-loop μ-loop) where
@@ -34,13 +34,14 @@ module _ (c : tie.In-loop Inv-loop μ-loop) where
   part-in : q * 16 + 16 ≤ length (c .before .loop .out)
   part-in =
       let a = start .args in
-      sent-in (a .n) (a .i) 16 (part start) 16 q (now (a .out)) (c .before .loop .out) refl (start .pre .0 .1 .1) (c .before .loop .inv .1)
+      sent-in (a .f .n) (a .f .i) 16 (part start) 16 q (now (a .out)) (c .before .loop .out) refl (start .pre .0 .1 .1)
+      (c .before .loop .inv .1)
       (c .loop-test .taken)
 
 part-of-requires : tie.Need-part-of-requires Inv-loop μ-loop
 part-of-requires c κs =
     let s = start (c .before) in
-    let k = other-below (s .args .n) (s .args .i) (q (c .before)) (c .before .loop-test .taken) in
+    let k = other-below (s .args .f .n) (s .args .f .i) (q (c .before)) (c .before .loop-test .taken) in
     (omega (arith, k, c .other .ensures), omega (arith, k, c .other .ensures))
 
 part-store-end : tie.Need-part-store-end Inv-loop μ-loop
@@ -58,7 +59,8 @@ loop-again c =
     let s = start i in
     let a = s .args in (
       omega (arith, i .loop-test .taken),
-      sent-turn (a .n) (a .i) 16 (part s) 16 (q i) (now (a .out)) (i .before .loop .out) refl (s .pre .0 .1 .1) (i .before .loop .inv .1)
+      sent-turn (a .f .n) (a .f .i) 16 (part s) 16 (q i) (now (a .out)) (i .before .loop .out) refl (s .pre .0 .1 .1)
+          (i .before .loop .inv .1)
           (λ k h. length-bytesOf (partOf (a .keys) (now (a .recs)) (a .at) k)) (o .other .result) (p .store .last .0) (i .loop-test .taken)
           (o .other .ensures)
           (p .store .ensures ∙ ap bytesOf (b .part-of .ensures)),
@@ -72,7 +74,7 @@ returns c =
     let s = c .before .before .before .before in
     let a = s .args in
     let l = c .before .loop in
-    sent-end (a .n) (a .i) 16 (part s) 16 (l .q) (now (a .out)) (l .out) refl (s .pre .0 .1 .1) (l .inv .1) (omega arith)
+    sent-end (a .f .n) (a .f .i) 16 (part s) 16 (l .q) (now (a .out)) (l .out) refl (s .pre .0 .1 .1) (l .inv .1) (omega arith)
 
 pub put-parts-spec : {M : Type 1} → statement M
 put-parts-spec =

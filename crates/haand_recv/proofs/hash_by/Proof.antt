@@ -12,20 +12,20 @@ returns : tie.Need-returns
 returns c =
     let a = c .before .before .before .args in
     let e = c .before .if1 .taken in
-    (c .zero .ensures ∙ sel-own blocks (a .i) (a .k) _ e, sel-own bits (a .i) (a .k) _ e)
+    (c .zero .ensures ∙ sel-own blocks (a .f .i) (a .k) _ e, sel-own bits (a .f .i) (a .k) _ e)
 
 hash-of-requires : tie.Need-hash-of-requires
 hash-of-requires c κs =
     let s = c .before .before in
     let a = s .args in
-    let p = place-lt (a .n) (a .i) (a .k) (s .pre .0) (s .pre .1 .0) (c .if1 .left) in
-    (c .if1 .left, omega (arith, in-chunks (place (a .i) (a .k)) (a .n - 1) 32 p, s .pre .1 .1))
+    let p = place-lt (a .f .n) (a .f .i) (a .k) (s .pre .0) (s .pre .1 .0) (c .if1 .left) in
+    (c .if1 .left, omega (arith, in-chunks (place (a .f .i) (a .k)) (a .f .n - 1) 32 p, s .pre .1 .1))
 
 returns-2 : tie.Need-returns-2
 returns-2 c =
     let a = c .before .before .before .args in
     let ne = c .before .if1 .left in
-    (sel-other blocks (a .i) (a .k) _ _ ne (c .hash-of .ensures .0), sel-other bits (a .i) (a .k) _ _ ne (c .hash-of .ensures .1))
+    (sel-other blocks (a .f .i) (a .k) _ _ ne (c .hash-of .ensures .0), sel-other bits (a .f .i) (a .k) _ _ ne (c .hash-of .ensures .1))
 
 pub hash-by-spec : {M : Type 1} → statement M
 hash-by-spec = tie.close (tie.spec (λ c κs. search needs) returns hash-of-requires returns-2)

@@ -3,7 +3,7 @@ use Rattle.engine.specs.declared.Session.{Session}
 use Rattle.engine.specs.Step.{Reply, replyOf, Outcome, roundSpec}
 use Rattle.engine.specs.Plain.{protocolOf}
 use Rattle.rounds.specs.Table.{table}
-use Rattle.session.specs.Given.{lent}
+use Rattle.admit.specs.Admit.{given}
 use Rattle.nuzsdike.specs.Interface.{NO-PARTY}
 use Rattle.nuzsdike.specs.Narrow.{Narrow, named}
 use Rattle.nuzsdike.specs.InterfaceLaws.{rounds, rounds-not, round-narrow, round-named}
@@ -25,7 +25,7 @@ packed-requires c κs = search needs
 returns : tie.Need-returns
 returns c =
     let a = c .before .before .before .before .before .before .before .before .before .before .before .args in
-    rounds-not (now (a .session)) (a .round) (lent (now (a .incoming)) (now (a .starts)) (now (a .lens)) (now (a .missing)) (now (a .r)) (now (a .perm)) (now (a .out))) (now (a .work)) (c .before .if1 .taken) (c .packed .result) (c .packed .ensures)
+    rounds-not (now (a .session)) (a .round) (given (now (a .incoming)) (now (a .starts)) (now (a .lens)) (now (a .missing)) (now (a .r)) (now (a .perm)) (now (a .out))) (now (a .work)) (c .before .if1 .taken) (c .packed .result) (c .packed .ensures)
 
 -- src/lib.rt:159:9
 load-requires : tie.Need-load-requires
@@ -39,7 +39,7 @@ round-requires c κs = search needs
 store-requires : tie.Need-store-requires
 store-requires c κs =
     let a = c .before .before .before .before .before .before .before .before .before .before .before .before .before .before .before .before .before .before .before .before .before .args in
-    let q = (lent (now (a .incoming)) (now (a .starts)) (now (a .lens)) (now (a .missing)) (now (a .r)) (now (a .perm)) (now (a .out))) in
+    let q = (given (now (a .incoming)) (now (a .starts)) (now (a .lens)) (now (a .missing)) (now (a .r)) (now (a .perm)) (now (a .out))) in
     let l = c .before .before .before .before .before .before .before .before .before in (
       c .before .before .before .before .before .before .before .before .before .before .before .if1 .left,
       subst (λ (s : Session). Narrow s) (sym (ap (λ (o : Outcome). o .session) (c .before .before .before .before .before .before .round .ensures)))
@@ -50,7 +50,7 @@ store-requires c κs =
 answer-requires : tie.Need-answer-requires
 answer-requires c κs =
     let a = c .before .before .before .before .before .before .before .before .before .before .before .before .before .before .before .before .before .before .before .before .before .before .before .before .args in
-    let q = (lent (now (a .incoming)) (now (a .starts)) (now (a .lens)) (now (a .missing)) (now (a .r)) (now (a .perm)) (now (a .out))) in
+    let q = (given (now (a .incoming)) (now (a .starts)) (now (a .lens)) (now (a .missing)) (now (a .r)) (now (a .perm)) (now (a .out))) in
     let l = c .before .before .before .before .before .before .before .before .before .before .before .before in
     subst (λ (v : Reply). named v ≤ NO-PARTY) (sym (ap (λ (o : Outcome). o .reply) (c .before .before .before .before .before .before .before .before .before .round .ensures)))
     (round-named (l .load .result) (a .round) q (now (a .work)) (l .load .ensures .1))
@@ -71,7 +71,7 @@ same-length-3 c = search needs
 returns-2 : tie.Need-returns-2
 returns-2 c =
     let a = c .before .before .before .before .before .before .before .before .before .before .before .before .before .before .before .before .before .before .before .before .before .before .before .before .before .args in
-    let q = (lent (now (a .incoming)) (now (a .starts)) (now (a .lens)) (now (a .missing)) (now (a .r)) (now (a .perm)) (now (a .out))) in
+    let q = (given (now (a .incoming)) (now (a .starts)) (now (a .lens)) (now (a .missing)) (now (a .r)) (now (a .perm)) (now (a .out))) in
     let l = c .before .before .before .before .before .before .before .before .before .before .before .before .before in
     let o = c .before .before .before .before .before .before .before .before .before .before in
     rounds (now (a .session)) (a .round) q (now (a .work)) (c .before .before .before .before .before .before .before .before .before .before .before .before .before .before .before .if1 .left) (c .answer .result) (c .before .before .before .store .last .0)

@@ -1,11 +1,15 @@
 use Rattle.lists.specs.Kit.{refl, needs}
+use Rattle.rounds.specs.Area.{sizes, sizeOf, workLen}
 use Rattle.opening.specs.Given.{buffers?}
 use Rattle.opening.proofs.buffers_due.Statement.{statement}
 use Rattle.opening.proofs.buffers_due.Tie as tie
 
 returns : tie.Need-returns
-unfolding buffers?
-returns c = rw (c .before .out-len .ensures, c .before .before .before .work-len .ensures, c .before .before .before .before .before .masks-len .ensures, c .before .before .before .before .before .before .before .pairs-len .ensures) refl
+unfolding buffers? workLen sizeOf sizes
+returns c =
+    let w = c .before .before .before in
+    let m = w .before .before in
+    rw (c .before .out-len .ensures, w .work-len .ensures, m .masks-len .ensures, m .before .before .pairs-len .ensures) refl
 
 pub buffers-due-spec : {M : Type 1} → statement M
 buffers-due-spec =

@@ -1,13 +1,25 @@
-use Rattle.lists.specs.Kit.{_≡_, refl, ap, _*_, arith, needs}
+use Rattle.lists.specs.Kit.{refl, ap, _*_, arith, needs}
 use Rattle.share.specs.Record.{recordLen}
+use Rattle.rounds.specs.Area.{sizes, sizeOf}
 use Rattle.opening.specs.Given.{bytesOf}
 use Rattle.opening.proofs.bytes_fault.Statement.{statement}
 use Rattle.opening.proofs.bytes_fault.Tie as tie
 
 check-records-requires : tie.Need-check-records-requires
+unfolding sizeOf sizes
 check-records-requires c κs =
-    let s = c .before .before .before .before .before in
-    ((omega (arith, s .pre .range .eight), s .pre .own), omega (arith, s .pre .bits, ap (λ k. k * recordLen (s .args .n)) (c .bits-count .ensures)))
+    let s = c .before .before .before .before .before in (
+      (s .pre .0 .range .eight, s .pre .0 .own),
+      omega (arith, s .pre .1 .bits, ap (λ k. k * recordLen (s .args .f .n)) (c .bits-count .ensures)),
+    )
+
+check-records-requires-2 : tie.Need-check-records-requires-2
+unfolding sizeOf sizes
+check-records-requires-2 c κs = search needs
+
+check-records-requires-3 : tie.Need-check-records-requires-3
+unfolding sizeOf sizes
+check-records-requires-3 c κs = search needs
 
 returns : tie.Need-returns
 unfolding bytesOf
@@ -29,8 +41,8 @@ bytes-fault-spec =
     (tie.spec
     (λ c κs. search needs)
     check-records-requires
-    (λ c κs. search needs)
-    (λ c κs. search needs)
+    check-records-requires-2
+    check-records-requires-3
     (λ c κs. search needs)
     (λ c κs. search needs)
     (λ c κs. search needs)

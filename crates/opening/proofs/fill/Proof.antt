@@ -3,7 +3,10 @@ use Rattle.opening.proofs.fill.Statement.{statement}
 use Rattle.opening.proofs.fill.Tie as tie
 
 returns : tie.Need-returns
-returns c = rw (c .before .before .clear-rest .ensures, c .before .before .before .before .before .before .put-lists .ensures, c .before .before .before .before .before .before .before .before .before .before .put-seeds .ensures) refl
+returns c =
+    let z = c .before .before in
+    let x = z .before .before .before .before in
+    rw (z .clear-rest .ensures, x .put-lists .ensures, x .before .before .before .before .put-seeds .ensures) refl
 
 pub fill-spec : {M : Type 1} → statement M
 fill-spec =

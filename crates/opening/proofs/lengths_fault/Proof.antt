@@ -1,4 +1,4 @@
-use Rattle.lists.specs.Kit.{_≡_, needs}
+use Rattle.lists.specs.Kit.{needs}
 use Rattle.opening.specs.OpeningLaws.{tested}
 use Rattle.opening.proofs.lengths_fault.Statement.{statement}
 use Rattle.opening.proofs.lengths_fault.Tie as tie
@@ -18,7 +18,7 @@ returns c =
       c .before .before .before .before .before .before .before .before .unless2 .ensures,
       c .before .before .before .before .before .before .before .before .before .unless .ensures,
       c .before .before .before .before .before .before .before .before .before .before .parties .ensures,
-    ) (tested (a .n) (a .i) (a .l) (a .bits) (a .alpha) (a .beta) (a .rest))
+    ) (tested (a .f) (a .bits) (a .alpha) (a .beta) (a .rest))
 
 pub lengths-fault-spec : {M : Type 1} → statement M
 lengths-fault-spec =

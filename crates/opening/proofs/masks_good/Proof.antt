@@ -1,15 +1,16 @@
-use Rattle.lists.specs.Kit.{_≡_, refl, sym, ap, _∙_, _+_, _-_, _*_, _≤_, arith, length, getD, now, needs}
+use Rattle.lists.specs.Kit.{_≡_, sym, ap, _∙_, _+_, _-_, _*_, _≤_, arith, length, now, needs}
 use mathlib.Core.Logic.{⊎-elim}
 use Rattle.lists.specs.All.{allOf, all-zero}
 use Rattle.lists.specs.Over.{in-chunks}
-use Rattle.plan.specs.Plan.{leaky}
+use Rattle.engine.specs.Step.{frame}
+use Rattle.area.specs.Sizes.{size-masks}
 use Rattle.opening.specs.Given.{row?, masks?}
 use Rattle.opening.specs.OpeningLaws.{row-other, row-own}
 use Rattle.opening.proofs.masks_good.Statement.{statement}
 use Rattle.opening.proofs.masks_good.Tie as tie
 
 abbrev Inv-loop : tie.InvT-loop
-Inv-loop masks n i l count good₀ k₀ good k = (k ≤ n) × (good ≡ allOf k (row? i l masks))
+Inv-loop masks n i l count good₀ k₀ good k = (k ≤ n) × (good ≡ allOf k (row? (frame n l i) masks))
 
 abbrev μ-loop : tie.MeasureT-loop
 μ-loop masks n i l count good₀ k₀ good k = n - k
@@ -24,7 +25,11 @@ inside : (c : tie.Then1 Inv-loop μ-loop)
 inside c =
     let y = c .before .before .before .leaky in
     let s = c .before .before .before .before .before in
-    omega (arith, in-chunks (c .before .before .loop .k) (s .args .n) (y .result) (c .before .loop-test .taken), s .pre .1 ∙ ap (λ m. s .args .n * m) (sym (y .ensures)))
+    omega (
+      arith,
+      in-chunks (c .before .before .loop .k) (s .args .f .n) (y .result) (c .before .loop-test .taken),
+      s .pre .1 ∙ size-masks (s .args .f) ∙ ap (λ m. s .args .f .n * m) (sym (y .ensures)),
+    )
 
 mul-row-good : tie.Need-mul-row-good Inv-loop μ-loop
 mul-row-good c = omega (arith, inside c)
@@ -36,11 +41,12 @@ loop-again : tie.Need-loop-again Inv-loop μ-loop
 loop-again c =
     let o = c .before .before .loop in
     let y = c .before .before .before .leaky in
-    let a = c .before .before .before .before .before .args in (
+    let a = c .before .before .before .before .before .args in
+    let masks = now (a .masks) in (
       search needs,
       ⊎-elim
-          (λ w. w .2 ∙ row-other (a .i) (a .l) (now (a .masks)) (o .k) (o .good) (o .inv .1) (y .result) _ (w .0 .taken) (y .ensures) (w .1 .ensures))
-          (λ w. w .1 ∙ row-own (a .i) (a .l) (now (a .masks)) (o .k) (o .good) (o .inv .1) (w .0 .left))
+          (λ w. w .2 ∙ row-other (a .f) masks (o .k) (o .good) (o .inv .1) (y .result) _ (w .0 .taken) (y .ensures) (w .1 .ensures))
+          (λ w. w .1 ∙ row-own (a .f) masks (o .k) (o .good) (o .inv .1) (w .0 .left))
           (c .if1 .came),
     )
 
@@ -48,7 +54,7 @@ returns : tie.Need-returns Inv-loop μ-loop
 unfolding masks?
 returns c =
     let a = c .before .before .before .before .args in
-    c .before .loop .inv .1 ∙ ap (λ k. allOf k (row? (a .i) (a .l) (now (a .masks)))) (let e : c .before .loop .k ≡ a .n = omega arith in e)
+    c .before .loop .inv .1 ∙ ap (λ k. allOf k (row? (a .f) (now (a .masks)))) (let e : c .before .loop .k ≡ a .f .n = omega arith in e)
 
 pub masks-good-spec : {M : Type 1} → statement M
 masks-good-spec =

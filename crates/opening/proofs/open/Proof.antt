@@ -1,47 +1,49 @@
-use Rattle.lists.specs.Kit.{_≡_, now, needs}
+use Rattle.lists.specs.Kit.{_∙_, now, needs}
 use Rattle.engine.specs.Step.{replyOf}
 use Rattle.rounds.specs.Opening.{Args}
-use Rattle.opening.specs.Given.{args, lens}
-use Rattle.opening.specs.OpeningLaws.{Due, refuses, due}
-use Rattle.opening.specs.FilledLaws.{seeds-given, lists-given, out-given, left}
+use Rattle.opening.specs.Given.{args, lens, Due}
+use Rattle.opening.specs.OpeningLaws.{refuses, due}
+use Rattle.opening.specs.FilledLaws.{given, left}
 use Rattle.opening.proofs.open.Statement.{statement}
 use Rattle.opening.proofs.open.Tie as tie
 
-abbrev given : tie.Start → Args
-given s = args (s .args .n) (s .args .i) (s .args .l) (now (s .args .delta)) (now (s .args .seed)) (now (s .args .pairs)) (now (s .args .bits)) (now (s .args .alpha)) (now (s .args .beta)) (now (s .args .masks)) (now (s .args .work)) (now (s .args .out))
+abbrev asked : tie.Start → Args
+asked s =
+    let a = s .args in
+    args (a .n) (a .i) (a .l) (now (a .delta)) (now (a .seed)) (now (a .pairs)) (now (a .bits)) (now (a .alpha)) (now (a .beta))
+    (now (a .masks)) (now (a .work)) (now (a .out))
 
 -- where nothing was refused
 module _ (c : tie.Else1) where
-  abbrev start : tie.Start
-  start = c .before .before .before .before .before .before .before .before .before .before .before
+  abbrev all : Args
+  all = asked (c .before .before .before .before .before .before .before .before .before .before .before)
 
-  behind : Due (start .args .n) (start .args .i) (start .args .l) (lens (given start))
-  behind = due (given start) (c .before .reason .result) (c .before .reason .ensures) (c .if1 .left)
+  behind : Due (all .party) (lens all)
+  behind = due all (c .before .reason .result) (c .before .reason .ensures) (c .if1 .left)
 
 returns : tie.Need-returns
 unfolding replyOf
 returns c =
-    let s = c .before .before .before .before .before .before .before .before .before .before .before in
-    refuses (given s) (c .before .reason .result) (c .before .reason .ensures) (c .if1 .taken)
+    refuses (asked (c .before .before .before .before .before .before .before .before .before .before .before)) (c .before .reason .result)
+    (c .before .reason .ensures) (c .if1 .taken)
 
 fill-requires : tie.Need-fill-requires
-fill-requires c κs =
-    let d = behind (c .before) in
-    let g = given (start (c .before)) in
-    (seeds-given g d, lists-given g d)
+fill-requires c κs = let d = behind (c .before) in ((given (all (c .before)) d, d .seeds), d .lists)
 
 write-commitments-requires : tie.Need-write-commitments-requires
 write-commitments-requires c κs =
-    let e = c .before .before .before .before .before in
-    let d = behind e in
-    ((d .range .two, d .range .eight), (out-given (given (start e)) d, d .seed))
+    let p = c .before .before .before .before in
+    let d = behind (p .before .before) in
+    (record { ranges = d .ranges; whole = p .fill .kept .0 ∙ d .work }, d .out)
 
 returns-2 : tie.Need-returns-2
 unfolding replyOf
 returns-2 c =
-    let e = c .before .before .before .before .before .before .before .before in
-    left (given (start e)) (behind e) (e .before .reason .result) (c .before .before .before .before .before .before .fill .last .0) (c .before .before .write-commitments .last .0)
-    (e .before .reason .ensures) (e .if1 .left) (c .before .before .before .before .before .before .fill .ensures) (c .before .before .write-commitments .ensures)
+    let w = c .before .before in
+    let p = w .before .before .before .before .before in
+    let e = p .before .before in
+    left (all e) (behind e) (e .before .reason .result) (p .fill .last .0) (w .write-commitments .last .0) (e .before .reason .ensures)
+    (e .if1 .left) (p .fill .ensures) (w .write-commitments .ensures)
 
 pub open-spec : {M : Type 1} → statement M
 open-spec =

@@ -1,8 +1,7 @@
-use Rattle.lists.specs.Kit.{_≡_, sym, ap, _∙_, Bool, needs}
-use Rattle.engine.specs.Step.{frame}
+use Rattle.lists.specs.Kit.{_≡_, sym, ap, _∙_, needs}
 use Rattle.rounds.specs.Opening.{lengthsFault}
-use Rattle.opening.specs.Given.{buffers?}
-use Rattle.opening.specs.OpeningLaws.{or-left, or-right, due-of, asked-of}
+use Rattle.opening.specs.Given.{Lens, buffers?}
+use Rattle.opening.specs.OpeningLaws.{or-left, or-right, due-of}
 use Rattle.opening.proofs.reason.Statement.{statement}
 use Rattle.opening.proofs.reason.Tie as tie
 
@@ -11,13 +10,13 @@ module _ (c : tie.After-lengths-fault) where
   abbrev start : tie.Start
   start = c .before .before .before .before .before .before
 
-  told : c .lengths-fault .result
-      ≡ lengthsFault (frame (start .args .n) (start .args .l) (start .args .i)) (start .args .v .bits) (start .args .v .alpha) (start .args .v .beta)
-      (buffers? (start .args .n) (start .args .l) (start .args .v))
+  abbrev v : Lens
+  v = start .args .v
+
+  told : c .lengths-fault .result ≡ lengthsFault (start .args .f) (v .bits) (v .alpha) (v .beta) (buffers? (start .args .f) v)
   told =
       c .lengths-fault .ensures
-      ∙ ap (lengthsFault (frame (start .args .n) (start .args .l) (start .args .i)) (start .args .v .bits) (start .args .v .alpha) (start .args .v .beta))
-      (c .before .buffers-due .ensures)
+      ∙ ap (lengthsFault (start .args .f) (v .bits) (v .alpha) (v .beta)) (c .before .buffers-due .ensures)
 
 returns : tie.Need-returns
 returns c =
@@ -27,8 +26,12 @@ returns c =
 bytes-fault-requires : tie.Need-bytes-fault-requires
 bytes-fault-requires c κs =
     let s = start (c .before) in
-    asked-of (s .args .n) (s .args .i) (s .args .l) (s .args .v) _ _ _ _ (s .pre .0) (s .pre .1) (s .pre .2) (s .pre .3)
-    (due-of (s .args .n) (s .args .i) (s .args .l) (s .args .v) (sym (told (c .before)) ∙ c .if1 .left))
+    let p = s .pre in
+    let d = due-of (s .args .f) (s .args .v) (sym (told (c .before)) ∙ c .if1 .left) in (
+      d .ranges,
+      record { bits = sym (p .0) ∙ d .lists .bits; alpha = sym (p .1) ∙ d .lists .alpha; beta = sym (p .2) ∙ d .lists .beta },
+      sym (p .3) ∙ d .seeds .masks,
+    )
 
 returns-2 : tie.Need-returns-2
 returns-2 c = c .bytes-fault .ensures ∙ sym (or-right _ _ (sym (told (c .before .before)) ∙ c .before .if1 .left))

@@ -1,7 +1,6 @@
-use Rattle.lists.specs.Kit.{_≡_, refl, sym, ap, _∙_, _+_, _-_, _≤_, arith, length, getD, now, needs}
+use Rattle.lists.specs.Kit.{_≡_, refl, sym, ap, _∙_, _+_, _-_, _≤_, arith, getD, now, needs}
 use lib.Dec.{leb}
-use Rattle.lists.specs.All.{allOf, all-zero}
-use Rattle.opening.specs.OpeningLaws.{all-more}
+use Rattle.lists.specs.All.{allOf, all-zero, all-more}
 use Rattle.opening.proofs.row_good.Statement.{statement}
 use Rattle.opening.proofs.row_good.Tie as tie
 
@@ -18,7 +17,10 @@ loop-again : tie.Need-loop-again Inv-loop μ-loop
 loop-again c = (search needs, all-more _ (c .before .before .loop .t) _ _ (c .before .before .loop .inv .1) refl)
 
 returns : tie.Need-returns Inv-loop μ-loop
-returns c = c .before .loop .inv .1 ∙ ap (λ k. allOf k (λ t. leb (getD (now (c .before .before .args .masks)) (c .before .before .args .at + t) 0) 1)) (let e : c .before .loop .t ≡ c .before .before .args .count = omega arith in e)
+returns c =
+    let a = c .before .before .args in
+    let e : c .before .loop .t ≡ a .count = omega arith in
+    c .before .loop .inv .1 ∙ ap (λ k. allOf k (λ t. leb (getD (now (a .masks)) (a .at + t) 0) 1)) e
 
 pub row-good-spec : {M : Type 1} → statement M
 row-good-spec =

@@ -1,27 +1,26 @@
 -- `plan::next_round` meets its contract.
-use Rattle.lists.specs.Kit.{refl, sym, ap, _∙_, _&&_, arith, needs}
-use lib.Dec.{eqb}
+use Rattle.lists.specs.Kit.{arith, needs}
 use Rattle.lists.specs.Pick.{tests}
-use borrow.Author.Tests.{lt-leb}
-use Rattle.plan.specs.Plan.{nextRound}
+use Rattle.engine.specs.Order.{nextIn}
+use Rattle.plan.specs.PlanLaws.{next-skips, next-on}
 use Rattle.plan.proofs.next_round.Statement.{statement}
 use Rattle.plan.proofs.next_round.Tie as tie
 
 returns : tie.Need-returns
-unfolding nextRound
+unfolding nextIn
 returns c = search (arith, tests)
 
 returns-2 : tie.Need-returns-2
-unfolding nextRound
 returns-2 c =
-    let n = c .before .before .before .args .n in
-    rw (lt-leb _ _ (c .before .before .if1 .left), sym (ap (λ b. eqb n 2 && b) (c .before .is-echo .ensures)) ∙ c .if2 .taken) refl
+    let a = c .before .before .before .args in
+    let e = c .before .is-echo in
+    next-skips (a .n) (a .k) (e .result) (omega arith) (e .ensures) (c .if2 .taken)
 
 returns-3 : tie.Need-returns-3
-unfolding nextRound
 returns-3 c =
-    let n = c .before .before .before .args .n in
-    rw (lt-leb _ _ (c .before .before .if1 .left), sym (ap (λ b. eqb n 2 && b) (c .before .is-echo .ensures)) ∙ c .if2 .left) refl
+    let a = c .before .before .before .args in
+    let e = c .before .is-echo in
+    next-on (a .n) (a .k) (e .result) (omega arith) (e .ensures) (c .if2 .left)
 
 pub next-round-spec : {M : Type 1} → statement M
 next-round-spec =

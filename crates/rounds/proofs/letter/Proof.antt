@@ -7,7 +7,7 @@ use Rattle.rounds.proofs.letter.Tie as tie
 
 part-requires : tie.Need-part-requires
 unfolding R.inside
-part-requires c κs = le-leb _ _ (c .before .before .before .before .before .pre .1)
+part-requires c κs = le-leb _ _ (c .before .before .before .pre .1)
 
 returns : tie.Need-returns
 unfolding R.partOf Mail.letter

@@ -14,8 +14,10 @@ returns c =
     let delta = s .before .before .before .before .args .delta .0 in
     c .equals .ensures
     ∙ ap₂ eqBlock (c .before .load .ensures)
-    (x .xor-delta .ensures ∙ ap₂ (blocks .op) (s .sum-key .ensures) (t .times .ensures ∙ ap (λ (v : Bool). sel blocks v delta) (b .bit .ensures)))
+    (x .xor-delta .ensures ∙ ap₂ (blocks .op) (s .sum-key .ensures)
+    (t .times .ensures ∙ ap (λ (v : Bool). sel blocks v delta) (b .bit .ensures)))
 
 pub mac-holds-spec : {M : Type 1} → statement M
 mac-holds-spec =
-    tie.close (tie.spec (λ c κs. search needs) (λ c κs. search needs) (λ c κs. search needs) (λ c κs. search needs) (λ c κs. search needs) (λ c κs. search needs) returns)
+    tie.close (tie.spec (λ c κs. search needs) (λ c κs. search needs) (λ c κs. search needs) (λ c κs. search needs) (λ c κs. search needs)
+    (λ c κs. search needs) returns)

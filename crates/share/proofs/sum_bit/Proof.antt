@@ -1,8 +1,8 @@
 use Rattle.lists.specs.Kit.{ap₂, _∙_, Bool, not, now, needs}
+use Rattle.algebra.specs.Group.{xor-addb}
 use mathlib.Core.Bool.{Bool·beq}
 use Rattle.share.specs.Record.{bitAt}
 use Rattle.share.specs.Share.{shareAt, shares}
-use Rattle.share.specs.ShareLaws.{xor-bits}
 use Rattle.share.proofs.sum_bit.Statement.{statement}
 use Rattle.share.proofs.sum_bit.Tie as tie
 
@@ -11,7 +11,7 @@ unfolding shares shareAt
 returns c =
     let a = c .before .before .before .before .args in
     ap₂ (λ (x y : Bool). not (Bool·beq x y)) (c .before .bit-at .ensures) (c .bit-at2 .ensures)
-    ∙ xor-bits (bitAt (now (a .s)) (a .a)) (bitAt (now (a .t)) (a .b))
+    ∙ xor-addb (bitAt (now (a .s)) (a .a)) (bitAt (now (a .t)) (a .b))
 
 pub sum-bit-spec : {M : Type 1} → statement M
 sum-bit-spec =

@@ -7,21 +7,23 @@ use Rattle.rounds.specs.TossLaws.{numbered, length-numbered}
 use Rattle.toss.proofs.commitment.Statement.{statement}
 use Rattle.toss.proofs.commitment.Tie as tie
 
--- the seed is at the front
-seed-here : (c : tie.After-copy) → c .copy .last .0 ≡ now (c .before .before .before .args .seed)
-seed-here c = copied (replicate 32 0) (now (c .before .before .before .args .seed)) _ (sym (c .before .before .before .pre)) (c .copy .ensures)
+-- the seed in front
+put : (c : tie.After-copy) → c .copy .last .0 ≡ now (c .before .before .before .args .seed)
+put c = let s = c .before .before .before in copied (replicate 32 0) (now (s .args .seed)) _ (sym (s .pre)) (c .copy .ensures)
 
 slice-aggregate-digest-of : tie.Need-slice-aggregate-digest-of
 slice-aggregate-digest-of c =
-    let s = c .before .before .before .before .before in
-    sym (length-numbered (now (s .args .seed)) (c .before .before .copy .last .0) (s .args .j / 256 % 256) (s .args .j % 256) (s .pre) (seed-here (c .before .before)))
+    let p = c .before .before in
+    let s = p .before .before .before in
+    sym (length-numbered (now (s .args .seed)) (p .copy .last .0) (s .args .j / 256 % 256) (s .args .j % 256) (s .pre) (put p))
 
 returns : tie.Need-returns
 unfolding Toss.commitment hash
 returns c =
-    let s = c .before .before .before .before .before .before in
+    let p = c .before .before .before in
+    let s = p .before .before .before in
     ap bytes (c .digest-of .ensures
-    ∙ ap digest (numbered (now (s .args .seed)) (c .before .before .before .copy .last .0) (s .args .j / 256 % 256) (s .args .j % 256) (s .pre) (seed-here (c .before .before .before))))
+    ∙ ap digest (numbered (now (s .args .seed)) (p .copy .last .0) (s .args .j / 256 % 256) (s .args .j % 256) (s .pre) (put p)))
 
 pub commitment-spec : {M : Type 1} → statement M
 commitment-spec =

@@ -1,34 +1,34 @@
-use Rattle.lists.specs.Kit.{_≡_, ℕ, _-_, _≤_, arith, now, needs}
+use Rattle.lists.specs.Kit.{_-_, _≤_, arith, now, needs}
 use Rattle.rounds.specs.Mail.{letter}
 use Rattle.rounds.specs.TossLaws.{Tossed, tossed-zero, tossed-turn, tossed-end}
 use Rattle.toss.proofs.joint_seed.Statement.{statement}
 use Rattle.toss.proofs.joint_seed.Tie as tie
 
 abbrev Inv-loop : tie.InvT-loop
-Inv-loop seed incoming starts lens n i x₀ k₀ x k = (k ≤ n) × Tossed i seed (letter incoming starts lens) k x
+Inv-loop seed incoming mail f n x₀ k₀ x k = (k ≤ n) × Tossed (f .i) seed (letter incoming mail) k x
 
 abbrev μ-loop : tie.MeasureT-loop
-μ-loop seed incoming starts lens n i x₀ k₀ x k = n - k
+μ-loop seed incoming mail f n x₀ k₀ x k = n - k
 
 loop-holds : tie.Need-loop-holds Inv-loop μ-loop
 loop-holds c =
-    let s = c .before .before .before .before .before .before .before in
+    let s = c .before .before .before .before .before in
     let a = s .args in
-    (search needs, tossed-zero (a .i) (now (a .seed)) (letter (now (a .incoming)) (now (a .starts)) (now (a .lens))) (c .before .xor-inplace .last .0) (s .pre .0 .1) (c .before .xor-inplace .ensures))
+    (search needs, tossed-zero (a .f .i) (now (a .seed)) (letter (now (a .incoming)) (a .mail)) (c .before .xor-inplace .last .0) (s .pre .0 .1) (c .before .xor-inplace .ensures))
 
 loop-again : tie.Need-loop-again Inv-loop μ-loop
 loop-again c =
     let l = c .before .before .before .before .before .before in
-    let a = c .before .before .before .before .before .before .before .before .before .before .before .before .before .before .args in (
+    let a = c .before .before .before .before .before .before .before .before .before .before .before .before .args in (
       omega (arith, c .before .before .before .before .before),
       rw (c .before .xor-inplace2 .ensures)
-          (tossed-turn (a .i) (now (a .seed)) (letter (now (a .incoming)) (now (a .starts)) (now (a .lens))) (l .loop .k) (l .loop .x) (c .before .before .before .before .told-row .result) (l .loop .inv .1) (c .before .before .before .before .told-row .ensures)),
+          (tossed-turn (a .f .i) (now (a .seed)) (letter (now (a .incoming)) (a .mail)) (l .loop .k) (l .loop .x) (c .before .before .before .before .told-row .result) (l .loop .inv .1) (c .before .before .before .before .told-row .ensures)),
     )
 
 returns : tie.Need-returns Inv-loop μ-loop
-returns c l =
-    let a = c .before .before .before .before .before .before .before .before .before .args in
-    tossed-end (a .i) (now (a .seed)) (letter (now (a .incoming)) (now (a .starts)) (now (a .lens))) (a .n) l (c .before .loop .k) (c .before .loop .x) (c .before .loop .inv .1) (omega arith)
+returns c =
+    let a = c .before .before .before .before .before .before .before .args in
+    tossed-end (a .f .i) (now (a .seed)) (letter (now (a .incoming)) (a .mail)) (a .f .n) (a .f .l) (c .before .loop .k) (c .before .loop .x) (c .before .loop .inv .1) (omega arith)
 
 pub joint-seed-spec : {M : Type 1} → statement M
 joint-seed-spec =

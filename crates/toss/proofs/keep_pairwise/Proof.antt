@@ -1,82 +1,98 @@
-use Rattle.lists.specs.Kit.{_≡_, refl, sym, ap, _∙_, List, ℕ, _+_, _-_, _*_, _<_, _≤_, arith, length, take, drop, now, needs}
-use Rattle.lists.specs.Over.{in-chunks}
+use Rattle.lists.specs.Kit.{refl, ap, _∙_, List, ℕ, _+_, _-_, _*_, _≤_, arith, length, now, needs}
+use Rattle.lists.specs.Sect.{get}
 use Rattle.fill.specs.Copied.{copied}
-use Rattle.engine.specs.Step.{frame}
-use Rattle.engine.specs.Area.{off}
-use Rattle.rounds.specs.Area.{PAIRS, PAIRWISE, sizeOf, workLen, at, keep}
+use Rattle.engine.specs.declared.Frame.{Frame}
+use Rattle.rounds.specs.Area.{PAIRS, PAIRWISE, at, keep}
+use Rattle.rounds.specs.declared.Mail.{Mail}
 use Rattle.rounds.specs.Mail.{letter}
 use Rattle.rounds.specs.RowsLaws.{Laid, laid-zero, laid-turn, laid-end}
-use Rattle.rounds.specs.TossLaws.{pairRow, pair-rows, pairwise-size, pairs-before, pairwise-inside, pairs-there, length-pairs}
+use Rattle.rounds.specs.TossLaws.{pairRow, pair-rows, pairwise-size, pairs-there, length-pairs}
+use Rattle.area.specs.GivenLaws.{section-inside}
+use Rattle.area.specs.Sizes.{size-pairs}
 use Rattle.toss.proofs.keep_pairwise.Statement.{statement}
 use Rattle.toss.proofs.keep_pairwise.Tie as tie
 
 -- row k of what is kept, of the work area at entry
-abbrev row : List ℕ → List ℕ → List ℕ → List ℕ → ℕ → ℕ → ℕ → ℕ → List ℕ
-row work incoming starts lens n i l = pairRow i (at (frame n l i) PAIRS work) (letter incoming starts lens)
+abbrev row : List ℕ → List ℕ → Mail → Frame → ℕ → List ℕ
+row work incoming mail f = pairRow (f .i) (at f PAIRS work) (letter incoming mail)
 
 abbrev Inv-loop : tie.InvT-loop
-Inv-loop work₀ pairs-at rows-at incoming starts lens n i l pairs-end k₀ work k =
-    (k ≤ n) × Laid (row work₀ incoming starts lens n i l) 32 rows-at k work₀ work
+Inv-loop work₀ incoming mail f n pairs-at pairs-end rows-at k₀ work k = (k ≤ n) × Laid (row work₀ incoming mail f) 32 rows-at k work₀ work
 
 abbrev μ-loop : tie.MeasureT-loop
-μ-loop work₀ pairs-at rows-at incoming starts lens n i l pairs-end k₀ work k = n - k
+μ-loop work₀ incoming mail f n pairs-at pairs-end rows-at k₀ work k = n - k
 
--- the seeds end before the rows, and the rows within
-module _ (c : tie.Start Inv-loop μ-loop) where
-  before : c .args .pairs-at + 32 * c .args .n ≤ c .args .rows-at
-  before = omega (arith, pairs-before (c .args .n) (c .args .l) (c .args .i), c .pre)
+-- the seeds lie within, and the rows
+seeds-in : (c : tie.After-section-at Inv-loop μ-loop) → let a = c .before .before .before .args in
+    c .section-at .result + 32 * a .f .n ≤ length (now (a .work))
+seeds-in c =
+    let s = c .before .before .before in
+    omega (arith, section-inside (s .pre .0) PAIRS (omega arith), size-pairs (s .args .f), c .section-at .ensures)
 
-  inside : c .args .rows-at + 32 * c .args .n ≤ length (now (c .args .work))
-  inside = omega (arith, pairwise-inside (c .args .n) (c .args .l) (c .args .i), c .pre)
+rows-in : (c : tie.After-section-at2 Inv-loop μ-loop) → let a = c .before .before .before .before .args in
+    c .section-at2 .result + a .f .n * 32 ≤ length (now (a .work))
+rows-in c =
+    let s = c .before .before .before .before in
+    omega (arith, section-inside (s .pre .0) PAIRWISE (omega arith), pairwise-size (s .args .f .n) (s .args .f .l) (s .args .f .i), c .section-at2 .ensures)
 
 add-pairs-end : tie.Need-add-pairs-end Inv-loop μ-loop
-add-pairs-end c = omega (arith, before (c .before .before .before .before), inside (c .before .before .before .before), c .before .before .before .before .good)
+add-pairs-end c = omega (arith, seeds-in c, c .before .before .before .good)
 
 loop-holds : tie.Need-loop-holds Inv-loop μ-loop
 loop-holds c =
     let a = c .before .before .before .before .args in
-    (search needs, laid-zero (row (now (a .work)) (now (a .incoming)) (now (a .starts)) (now (a .lens)) (a .n) (a .i) (a .l)) 32 (a .rows-at) (now (a .work)) (omega (arith, inside (c .before .before .before .before))))
+    let g = row (now (a .work)) (now (a .incoming)) (a .mail) (a .f) in
+    (search needs, laid-zero g 32 (c .section-at2 .result) (now (a .work)) (omega (arith, rows-in c)))
 
 part-pair-seed-end : tie.Need-part-pair-seed-end Inv-loop μ-loop
-part-pair-seed-end c = omega (arith, before (c .before .before .before .before .before .before .before), inside (c .before .before .before .before .before .before .before), c .before .before .loop .inv .1 .same)
+part-pair-seed-end c = let l = c .before .before in omega (arith, seeds-in (l .before .before), l .loop .inv .1 .same)
 
 pair-seed-requires : tie.Need-pair-seed-requires Inv-loop μ-loop
 pair-seed-requires c κs =
     let l = c .before .before .before in
-    let s = l .before .before .before .before .before in
-    let a = s .args in
-    let fits = length-pairs (a .n) (a .l) (a .i) (a .pairs-at) (a .pairs-at + 32 * a .n) (a .rows-at) (l .loop .k) _ (now (a .work)) (l .loop .work) (s .pre .1 .0 .0) refl (s .pre .1 .0 .1) (l .loop .inv .1) (s .pre .0 .1 .1) in
-    ((s .pre .0 .0, (s .pre .0 .1 .0, (c .before .before .loop-test .taken, fits))), s .pre .1 .1)
+    let d = l .before in
+    let s = d .before .before .before .before in
+    let f = s .args .f in
+    let p = d .before .section-at .result in
+    let fits = length-pairs (f .n) (f .l) (f .i) p (p + 32 * f .n) (d .section-at2 .result) (l .loop .k) _ (now (s .args .work)) (l .loop .work)
+    (d .before .section-at .ensures) refl (d .section-at2 .ensures) (l .loop .inv .1) (s .pre .0 .whole) in
+    ((s .pre .0 .ranges .range .eight, (s .pre .0 .ranges .own, (c .before .before .loop-test .taken, fits))), s .pre .1)
 
 -- row k lies within
-room : (c : tie.After-pair-seed Inv-loop μ-loop) → c .before .before .before .before .before .before .before .before .before .args .rows-at + c .before .before .before .before .loop .k * 32 + 32 ≤ length (now (c .before .before .before .before .before .before .before .before .before .args .work))
-room c = omega (arith, inside (c .before .before .before .before .before .before .before .before .before), c .before .before .before)
+room : (c : tie.In-loop Inv-loop μ-loop) → let d = c .before .before in
+    d .section-at2 .result + c .before .loop .k * 32 + 32 ≤ length (now (d .before .before .before .before .args .work))
+room c = omega (arith, rows-in (c .before .before), c)
 
 add-a : tie.Need-add-a Inv-loop μ-loop
-add-a c = omega (arith, room c, c .before .before .before .before .before .before .before .before .before .good)
+add-a c = let t = c .before .before .before in omega (arith, room t, t .before .before .before .before .before .before .good)
 
 add-e : tie.Need-add-e Inv-loop μ-loop
-add-e c = omega (arith, room c, c .before .before .before .before .before .before .before .before .before .good)
+add-e c = let t = c .before .before .before in omega (arith, room t, t .before .before .before .before .before .before .good)
 
 part-copy-end : tie.Need-part-copy-end Inv-loop μ-loop
-part-copy-end c = omega (arith, room c, c .before .before .before .before .loop .inv .1 .same)
+part-copy-end c = let t = c .before .before .before in omega (arith, room t, t .before .loop .inv .1 .same)
 
 loop-again : tie.Need-loop-again Inv-loop μ-loop
 loop-again c =
-    let p = c .before .before in
-    let q = p .before .before .before in
-    let l = q .before .before .before .before in
-    let s = l .before .before .before .before .before in
-    let a = s .args in
-    let g = row (now (a .work)) (now (a .incoming)) (now (a .starts)) (now (a .lens)) (a .n) (a .i) (a .l) in
-    let m = letter (now (a .incoming)) (now (a .starts)) (now (a .lens)) in
-    let e = pairs-there (a .n) (a .l) (a .i) (a .pairs-at) (a .pairs-at + 32 * a .n) (a .rows-at) (l .loop .k) g (now (a .work)) (l .loop .work) (s .pre .1 .0 .0) refl (s .pre .1 .0 .1) (l .loop .inv .1) in (
-      omega (arith, q .before .before .before),
-      laid-turn g 32 (a .rows-at) (now (a .work)) (l .loop .k) (l .loop .work) (l .loop .inv .1) (a .rows-at + l .loop .k * 32) (a .rows-at + l .loop .k * 32 + 32)
-          (p .copy .last .0) refl refl (room q)
-          (copied (take (a .rows-at + l .loop .k * 32 + 32 - (a .rows-at + l .loop .k * 32)) (drop (a .rows-at + l .loop .k * 32) (l .loop .work)))
-          (q .pair-seed .result) _ (omega arith) (p .copy .ensures)
-          ∙ q .pair-seed .ensures ∙ ap (λ x. pairRow (a .i) x m (l .loop .k)) e) (p .copy .kept .0),
+    let y = c .before .before in
+    let q = y .before .before .before in
+    let t = q .before .before .before in
+    let l = t .before in
+    let d = l .before in
+    let a = d .before .before .before .before .args in
+    let f = a .f in
+    let w = now (a .work) in
+    let m = letter (now (a .incoming)) (a .mail) in
+    let g = row w (now (a .incoming)) (a .mail) f in
+    let p = d .before .section-at .result in
+    let b = d .section-at2 .result in
+    let o = b + l .loop .k * 32 in
+    let e = pairs-there (f .n) (f .l) (f .i) p (p + 32 * f .n) b (l .loop .k) g w (l .loop .work) (d .before .section-at .ensures) refl
+    (d .section-at2 .ensures) (l .loop .inv .1) in (
+      omega (arith, t),
+      laid-turn g 32 b w (l .loop .k) (l .loop .work) (l .loop .inv .1) o (o + 32) (y .copy .last .0) refl refl (room t)
+          (copied (get o (o + 32 - o) (l .loop .work)) (q .pair-seed .result) _ (search needs) (y .copy .ensures)
+          ∙ q .pair-seed .ensures ∙ ap (λ x. pairRow (f .i) x m (l .loop .k)) e) (y .copy .kept .0),
     )
 
 same-length : tie.Need-same-length Inv-loop μ-loop
@@ -85,12 +101,13 @@ same-length c = c .before .loop .inv .1 .same
 returns : tie.Need-returns Inv-loop μ-loop
 returns c =
     let l = c .before in
-    let s = l .before .before .before .before .before in
-    let a = s .args in
-    let f = frame (a .n) (a .l) (a .i) in
-    let g = row (now (a .work)) (now (a .incoming)) (now (a .starts)) (now (a .lens)) (a .n) (a .i) (a .l) in
-    laid-end f PAIRWISE 32 (a .n) (l .loop .k) g (now (a .work)) (l .loop .work) (rw (sym (s .pre .1 .0 .1)) (l .loop .inv .1)) (omega arith) (pairwise-size (a .n) (a .l) (a .i))
-    ∙ ap (λ x. keep f PAIRWISE x (now (a .work))) (pair-rows (a .n) (a .l) (a .i) (at f PAIRS (now (a .work))) (letter (now (a .incoming)) (now (a .starts)) (now (a .lens))))
+    let d = l .before in
+    let a = d .before .before .before .before .args in
+    let f = a .f in
+    let w = now (a .work) in
+    laid-end f PAIRWISE 32 (f .n) (l .loop .k) (row w (now (a .incoming)) (a .mail) f) w (l .loop .work)
+    (rw (← d .section-at2 .ensures) (l .loop .inv .1)) (omega arith) (pairwise-size (f .n) (f .l) (f .i))
+    ∙ ap (λ x. keep f PAIRWISE x w) (pair-rows (f .n) (f .l) (f .i) (at f PAIRS w) (letter (now (a .incoming)) (a .mail)))
 
 pub keep-pairwise-spec : {M : Type 1} → statement M
 keep-pairwise-spec =
@@ -98,8 +115,10 @@ keep-pairwise-spec =
     (tie.spec
     Inv-loop
     μ-loop
+    (λ c κs. search needs)
     (λ c. search needs)
     add-pairs-end
+    (λ c κs. search needs)
     loop-holds
     (λ c. search needs)
     (λ c. search needs)

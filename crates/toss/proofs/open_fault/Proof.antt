@@ -11,29 +11,29 @@ use Rattle.toss.proofs.open_fault.Tie as tie
 
 returns : tie.Need-returns
 returns c =
-    let a = c .before .before .before .before .before .args in
-    fault-own (a .i) (a .k) (openFault (now (a .comms)) (letter (now (a .incoming)) (now (a .starts)) (now (a .lens)))) (c .if1 .taken)
+    let a = c .before .before .before .args in
+    fault-own (a .f .i) (a .k) (openFault (now (a .comms)) (letter (now (a .incoming)) (a .mail))) (c .if1 .taken)
 
 letter-requires : tie.Need-letter-requires
 letter-requires c κs =
-    let s = c .before .before .before .before .before in
+    let s = c .before .before .before in
     let a = s .args in
-    letter-fits (a .n) (a .i) 40 (now (a .incoming)) (now (a .starts)) (now (a .lens)) (s .pre .1) (a .k) (s .pre .0 .1 .1 .0) (c .if1 .left)
+    letter-fits (s .pre .1) (a .k) (s .pre .0 .1 .1 .0) (c .if1 .left)
 
 part-commitment-end : tie.Need-part-commitment-end
 part-commitment-end c =
-    let s = c .before .before .before .before .before .before in
+    let s = c .before .before .before .before in
     let a = s .args in
-    omega (arith, ap length (c .letter .ensures), letter-long (a .n) (a .i) 40 (now (a .incoming)) (now (a .starts)) (now (a .lens)) (s .pre .1) (a .k) (s .pre .0 .1 .1 .0) (c .before .if1 .left))
+    omega (arith, ap length (c .letter .ensures), letter-long (s .pre .1) (a .k) (s .pre .0 .1 .1 .0) (c .before .if1 .left))
 
 -- what was compared, by the answer
-answers : (c : tie.After-is) (x : ℕ) → x ≡ pick (c .is .result) 0 2 → let a = c .before .before .before .before .before .before .before .before .before .args in
-    x ≡ faultAt (a .i) (openFault (now (a .comms)) (letter (now (a .incoming)) (now (a .starts)) (now (a .lens)))) (a .k)
+answers : (c : tie.After-is) (x : ℕ) → x ≡ pick (c .is .result) 0 2 → let a = c .before .before .before .before .before .before .before .args in
+    x ≡ faultAt (a .f .i) (openFault (now (a .comms)) (letter (now (a .incoming)) (a .mail))) (a .k)
 unfolding Toss.told
 answers c x e =
-    let a = c .before .before .before .before .before .before .before .before .before .args in
-    let m = letter (now (a .incoming)) (now (a .starts)) (now (a .lens)) in
-    fault-other (a .i) (a .k) x (openFault (now (a .comms)) m) (c .before .before .before .before .if1 .left)
+    let a = c .before .before .before .before .before .before .before .args in
+    let m = letter (now (a .incoming)) (a .mail) in
+    fault-other (a .f .i) (a .k) x (openFault (now (a .comms)) m) (c .before .before .before .before .if1 .left)
     (e ∙ open-of (now (a .comms)) m (a .k) (bytes (c .before .commitment .result .0)) (c .is .result)
     (c .before .commitment .ensures ∙ ap (λ s. Toss.commitment (Toss.told s) (a .k)) (c .before .before .before .letter .ensures)) (c .is .ensures))
 

@@ -1,61 +1,51 @@
-use Rattle.lists.specs.Kit.{_≡_, ap, _∙_, _+_, _-_, _*_, _≤_, arith, length, now, needs}
-use Rattle.blake3.specs.Tree.{bytes}
-use Rattle.rounds.specs.Toss.{commMsg}
-use Rattle.rounds.specs.TossLaws.{comm-put}
-use Rattle.rounds.specs.OthersLaws.{Sent, sent-zero, sent-turn, sent-end}
+use Rattle.lists.specs.Kit.{sym, ap, _∙_, List, _++_, ℕ, _+_, _-_, _*_, arith, length, needs}
+use Rattle.lists.specs.Over.{cat}
+use Rattle.block.specs.Block.{le8}
+use Rattle.blake3.specs.ByteLaws.{length-bytes}
+use Rattle.encode.specs.Encode.{encode}
+use Rattle.plan.specs.Plan.{msgLen, listLen, countDue, kindOf}
+use Rattle.engine.specs.Area.{toOthers}
+use Rattle.rounds.specs.Area.{SEED}
+use Rattle.rounds.specs.Toss as Toss
+use Rattle.area.specs.GivenLaws.{lent-length}
+use Rattle.area.specs.Sizes.{size-seed}
 use Rattle.toss.proofs.write_commitments.Statement.{statement}
 use Rattle.toss.proofs.write_commitments.Tie as tie
 
-abbrev Inv-loop : tie.InvT-loop
-Inv-loop out₀ seed n i d last q₀ out q = (q ≤ n - 1) × Sent n i (λ r. commMsg seed i) 40 q out₀ out
+commitment-requires : tie.Need-commitment-requires
+commitment-requires c κs =
+    let s = c .before .before .before in
+    lent-length (s .pre .0) SEED _ _ (omega arith) (size-seed (s .args .f)) (c .section .ensures)
 
-abbrev μ-loop : tie.MeasureT-loop
-μ-loop out₀ seed n i d last q₀ out q = n - 1 - q
+write-same-requires : tie.Need-write-same-requires
+unfolding msgLen listLen countDue kindOf
+write-same-requires c κs =
+    let k = c .before .before .before in
+    let m = k .before .before in
+    let s = m .before .before .before .before in
+    let long = ap length (k .store .ensures) ∙ length-bytes (m .commitment .result .0) in
+    (s .pre .0 .ranges .range .two, s .pre .1 ∙ ap (λ t. (s .args .f .n - 1) * (8 + t)) (sym long))
 
-loop-holds : tie.Need-loop-holds Inv-loop μ-loop
-loop-holds c =
-    let a = c .before .before .before .args in
-    (omega arith, sent-zero (a .n) (a .i) (λ r. commMsg (now (a .seed)) (a .i)) 40 (now (a .out)))
-
-loop-again : tie.Need-loop-again Inv-loop μ-loop
-loop-again c =
-    let p = c .before .before in
-    let l = p .before .before .before in
-    let s = l .before .before .before .before in
-    let a = s .args in
-    let e = comm-put (now (a .seed)) (bytes (l .before .commitment .result .0)) (p .put-commitment .last .0) (a .i) (p .put-commitment .ensures) (l .before .commitment .ensures) in (
-      omega (arith, p .before .before),
-      sent-turn (a .n) (a .i) (λ r. commMsg (now (a .seed)) (a .i)) 40 (now (a .out)) (s .pre .1 .0) (l .loop .q) (l .loop .out)
-          (p .put-commitment .last .0) (p .before .before .loop-test .taken) (l .loop .inv .1) e (p .put-commitment .kept .0),
-    )
-
-same-length : tie.Need-same-length Inv-loop μ-loop
-same-length c = c .before .loop .inv .1 .same
-
-returns : tie.Need-returns Inv-loop μ-loop
+returns : tie.Need-returns
+unfolding Toss.commMsg encode cat
 returns c =
-    let l = c .before in
-    let s = l .before .before .before .before in
-    let a = s .args in
-    sent-end (a .n) (a .i) (λ r. commMsg (now (a .seed)) (a .i)) 40 (now (a .out)) (s .pre .1 .0) (l .loop .q) (l .loop .out) (l .loop .inv .1) (omega arith)
+    let w = c .before .before in
+    let k = w .before .before .before .before in
+    let m = k .before .before in
+    let f = m .before .before .before .before .args .f in
+    w .write-same .ensures (f .i)
+    ∙ ap (λ (x : List ℕ). toOthers (f .n) (f .i) (λ _. le8 1 ++ x))
+    (k .store .ensures ∙ m .commitment .ensures ∙ ap (λ (x : List ℕ). Toss.commitment x (f .i)) (m .before .section .ensures))
 
 pub write-commitments-spec : {M : Type 1} → statement M
 write-commitments-spec =
     tie.close
     (tie.spec
-    Inv-loop
-    μ-loop
     (λ c κs. search needs)
-    (λ c. search needs)
-    loop-holds
-    (λ c. search needs)
-    (λ c. search needs)
-    (λ c. search needs)
-    (λ c. search needs)
+    commitment-requires
     (λ c. search needs)
     (λ c κs. search needs)
     (λ c. search needs)
+    write-same-requires
     (λ c. search needs)
-    loop-again
-    same-length
     returns)

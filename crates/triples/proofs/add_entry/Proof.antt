@@ -27,7 +27,13 @@ z-long c =
     let s = c .before .before .before .before .before in
     let a = s .args in
     let z = recordOf (a .f .n) (a .f .i) (zShare (a .f) (a .delta .0) (now (a .recs)) (now (a .zs)) (now (a .es)) (a .t)) in
-    omega (arith, ap length (c .z-record .ensures), length-append z (replicate (257 - recordLen (a .f .n)) 0), length-recordOf (a .f .n) (a .f .i) (zShare (a .f) (a .delta .0) (now (a .recs)) (now (a .zs)) (now (a .es)) (a .t)))
+    omega (
+      arith,
+      ap length (c .z-record .ensures),
+      length-append z (replicate (257 - recordLen (a .f .n)) 0),
+      length-recordOf (a .f .n)
+          (a .f .i) (zShare (a .f) (a .delta .0) (now (a .recs)) (now (a .zs)) (now (a .es)) (a .t)),
+    )
 
 small : (s : tie.Start) → Small (s .args .delta .0)
 small s = record { low = omega (arith, s .good); high = omega (arith, s .good) }
@@ -38,16 +44,20 @@ mul-combine-two c = let z = c .before in omega (arith, read-in z, z .before .bef
 combine-two-requires : tie.Need-combine-two-requires
 combine-two-requires c κs =
     let z = c .before .before in
-    let s = z .before .before .before .before .before .before in
-    ((s .pre .0 .0 .eight, omega (arith, z .record-len .ensures), omega (arith, z .record-len .ensures, s .pre .0 .2)), (read-in z, omega (arith, z-long (z .before))))
+    let s = z .before .before .before .before .before .before in (
+      (s .pre .0 .0 .range .eight, omega (arith, z .record-len .ensures), omega (arith, z .record-len .ensures, s .pre .0 .2)),
+      (read-in z, omega (arith, z-long (z .before))),
+    )
 
 returns : tie.Need-returns
 returns c g w =
     let z = c .before .before .before .before .before in
     let s = z .before .before .before .before .before .before in
     let a = s .args in
-    holds-step (a .f) (a .delta .0) (now (a .recs)) (now (a .zs)) (now (a .es)) (λ j. z .before .before .before .before .shared-slice-known .given j .fits) (small s) (a .t) (257 - recordLen (a .f .n))
-    (z .before .z-record .result) (z .before .z-record .ensures) g (a .d) (now (a .pair)) w (z .record-len .result) (a .t * z .record-len .result) (c .before .before .combine-two .last .0)
+    holds-step (a .f) (a .delta .0) (now (a .recs)) (now (a .zs)) (now (a .es))
+    (λ j. z .before .before .before .before .shared-slice-known .given j .fits) (small s) (a .t) (257 - recordLen (a .f .n))
+    (z .before .z-record .result) (z .before .z-record .ensures) g (a .d) (now (a .pair)) w (z .record-len .result)
+    (a .t * z .record-len .result) (c .before .before .combine-two .last .0)
     (z .record-len .ensures) (ap (λ m. a .t * m) (z .record-len .ensures)) (s .pre .0 .2) (c .before .before .combine-two .ensures)
 
 pub add-entry-spec : {M : Type 1} → statement M

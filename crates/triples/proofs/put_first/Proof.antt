@@ -26,7 +26,7 @@ copy-record-requires : tie.Need-copy-record-requires
 copy-record-requires c κs =
     let z = c .before in
     let s = z .before .before .before .before .before in
-    ((s .pre .0 .0 .eight, rw length-take-drop (omega (arith, z .record-len .ensures, s .pre .0 .2))), read-in z)
+    ((s .pre .0 .0 .range .eight, rw length-take-drop (omega (arith, z .record-len .ensures, s .pre .0 .2))), read-in z)
 
 returns : tie.Need-returns
 unfolding leakyAt x
@@ -36,9 +36,11 @@ returns c =
     let z = p .before .before in
     let s = z .before .before .before .before .before in
     let a = s .args in
-    pair-left (a .f) (leakyAt (a .f) (a .delta .0) (now (a .recs)) (now (a .zs)) (now (a .es)) (a .t)) (z .record-len .result) (now (a .pair)) (p .copy-record .last .0) (q .put-z-record .last .0)
+    pair-left (a .f) (leakyAt (a .f) (a .delta .0) (now (a .recs)) (now (a .zs)) (now (a .es)) (a .t)) (z .record-len .result)
+    (now (a .pair)) (p .copy-record .last .0) (q .put-z-record .last .0)
     (z .record-len .ensures) (s .pre .0 .2)
-    (p .copy-record .ensures ∙ ap (λ m. recordOf (a .f .n) (a .f .i) (shareAt (now (a .recs)) (a .t * m))) (z .record-len .ensures)) (q .put-z-record .ensures)
+    (p .copy-record .ensures ∙ ap (λ m. recordOf (a .f .n) (a .f .i) (shareAt (now (a .recs)) (a .t * m))) (z .record-len .ensures))
+    (q .put-z-record .ensures)
 
 pub put-first-spec : {M : Type 1} → statement M
 put-first-spec =

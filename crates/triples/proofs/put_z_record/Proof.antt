@@ -17,7 +17,8 @@ use Rattle.triples.proofs.put_z_record.Statement.{statement}
 use Rattle.triples.proofs.put_z_record.Tie as tie
 
 abbrev Inv-loop : tie.InvT-loop
-Inv-loop out₀ recs zs es delta t at n i l k₀ out k = (k ≤ n) × Filled (entryOf i (zShare (frame n l i) (delta .0) recs zs es t)) n k out₀ out
+Inv-loop out₀ recs zs es delta t at n i l k₀ out k =
+    (k ≤ n) × Filled (entryOf i (zShare (frame n l i) (delta .0) recs zs es t)) n k out₀ out
 
 abbrev μ-loop : tie.MeasureT-loop
 μ-loop out₀ recs zs es delta t at n i l k₀ out k = n - k
@@ -31,7 +32,7 @@ module _ (s : tie.Start Inv-loop μ-loop) where
   below = s .pre .0 .1
 
 r-at-requires : tie.Need-r-at-requires Inv-loop μ-loop
-r-at-requires c κs = let s = c .before .before .before .before in (s .pre .0 .0 .eight, s .pre .0 .0 .most, below s)
+r-at-requires c κs = let s = c .before .before .before .before in (s .pre .0 .0 .range, below s)
 
 loop-holds : tie.Need-loop-holds Inv-loop μ-loop
 loop-holds c =
@@ -50,13 +51,14 @@ module _ (c : tie.In-loop Inv-loop μ-loop) where
   record-in =
       omega (
         arith,
-        r-in (start .args .f) (now (start .args .recs)) (now (start .args .zs)) (now (start .args .es)) (start .pre .1) (start .args .t) (below start),
+        r-in (start .args .f) (now (start .args .recs)) (now (start .args .zs)) (now (start .args .es)) (start .pre .1)
+            (start .args .t) (below start),
         c .before .before .r-at .ensures,
         c .loop-test .taken,
       )
 
   few : k < 8
-  few = omega (arith, c .loop-test .taken, start .pre .0 .0 .eight)
+  few = omega (arith, c .loop-test .taken, start .pre .0 .0 .range .eight)
 
 mac-off-requires : tie.Need-mac-off-requires Inv-loop μ-loop
 mac-off-requires c κs = few c
@@ -69,7 +71,11 @@ z-key-requires c κs =
     let i = c .before in
     let s = start i in (
       (few i, record-in i),
-      (s .pre .0 .0 .most, e-in (s .args .f) (now (s .args .recs)) (now (s .args .zs)) (now (s .args .es)) (s .pre .1) (s .args .t) (below s) (k i) (i .loop-test .taken)),
+      (
+        s .pre .0 .0 .range .most,
+        e-in (s .args .f) (now (s .args .recs)) (now (s .args .zs)) (now (s .args .es)) (s .pre .1)
+            (s .args .t) (below s) (k i) (i .loop-test .taken),
+      ),
     )
 
 part-put-entry-of-end : tie.Need-part-put-entry-of-end Inv-loop μ-loop
@@ -92,15 +98,19 @@ loop-again c =
     let at = i .before .before .r-at in
     let a = s .args in (
       omega (arith, i .loop-test .taken),
-      filled-turn (i .before .loop .inv .1) (o .mac-off .result) (o .mac-off .result + 32) (o .mac-off .ensures) refl (p .put-entry-of .last .0) (i .loop-test .taken)
+      filled-turn (i .before .loop .inv .1) (o .mac-off .result) (o .mac-off .result + 32) (o .mac-off .ensures) refl
+          (p .put-entry-of .last .0) (i .loop-test .taken)
           (p .put-entry-of .ensures
           ∙ ap₂ (entryBytes (a .f .i) (k i))
           (p .before .mac-at .ensures ∙ ap (λ q. macAt (now (a .recs)) q (k i)) (at .ensures))
-          (y .z-key .ensures ∙ ap (λ q. blocks .op (keyAt (now (a .recs)) q (k i)) (sel blocks (odd (getD (now (a .es)) (k i * leaky (a .f .l) + a .t) 0)) (a .delta .0))) (at .ensures))),
+          (y .z-key .ensures ∙ ap
+          (λ q. blocks .op (keyAt (now (a .recs)) q (k i)) (sel blocks (odd (getD (now (a .es)) (k i * leaky (a .f .l) + a .t) 0))
+          (a .delta .0))) (at .ensures))),
     )
 
 -- z lies within
-z-within : (c : tie.After-loop Inv-loop μ-loop) → let s = c .before .before .before .before .before .before .before in s .args .t * 17 < length (now (s .args .zs))
+z-within : (c : tie.After-loop Inv-loop μ-loop) → let s = c .before .before .before .before .before .before .before in
+    s .args .t * 17 < length (now (s .args .zs))
 z-within c =
     let s = c .before .before .before .before .before .before .before in
     z-in (s .args .f) (now (s .args .recs)) (now (s .args .zs)) (now (s .args .es)) (s .pre .1) (s .args .t) (below s)
@@ -121,7 +131,8 @@ returns : tie.Need-returns Inv-loop μ-loop
 unfolding recordOf zShare zAt
 returns c =
     let l = c .before .before .before in
-    filled-bit (l .loop .inv .1) (c .bit-byte .result) _ (omega (arith, c .before .before .loop-test .left)) (c .bit-byte .ensures ∙ ap num (c .before .bit .ensures))
+    filled-bit (l .loop .inv .1) (c .bit-byte .result) _ (omega (arith, c .before .before .loop-test .left))
+    (c .bit-byte .ensures ∙ ap num (c .before .bit .ensures))
 
 pub put-z-record-spec : {M : Type 1} → statement M
 put-z-record-spec =

@@ -1,91 +1,73 @@
-use Rattle.lists.specs.Kit.{_≡_, sym, ap, ap₂, _∙_, List, _++_, ℕ, _-_, _*_, _<_, _≤_, arith, length, take, drop, replicate, now, needs}
+use Rattle.lists.specs.Kit.{_≡_, sym, ap, ap₂, _∙_, List, _++_, ℕ, _-_, _*_, _≤_, arith, replicate, now, needs}
 use lib.Seq.{length-take-le}
-use Rattle.engine.specs.declared.Frame.{Frame}
-use Rattle.rounds.specs.Area.{BITS, ZS, ES, PERM, DS, SECTIONS, at}
 use Rattle.lists.specs.Over.{drop-replicate}
-use Rattle.area.specs.Place.{Place}
-use Rattle.buckets.specs.Place.{ranged, place-in, place-at}
+use Rattle.engine.specs.declared.Frame.{Frame}
+use Rattle.rounds.specs.Area.{BITS, ZS, ES, PERM, DS, at}
+use Rattle.area.specs.GivenLaws.{place-at, place-fits}
 use Rattle.triples.specs.Given.{bucketed-is}
-use Rattle.triples.specs.Laws.{row-same, row-is}
+use Rattle.triples.specs.Laws.{row-of}
 use Rattle.triples.proofs.triple_row.Statement.{statement}
 use Rattle.triples.proofs.triple_row.Tie as tie
 
--- a section that is lent
-module _ (s : tie.Start) where
+fits : (c : tie.After-record-len) → 2 * c .record-len .result ≤ 514
+fits c = omega (arith, c .record-len .ensures, c .before .before .pre .0 .ranges .range .eight)
+
+-- what is lent are the sections
+module _ (c : tie.After-lent5) where
+  abbrev sized : tie.After-record-len
+  sized = c .before .before .before .before .before
+
+  abbrev s : tie.Start
+  s = sized .before .before
+
   abbrev f : Frame
   f = s .args .f
 
   abbrev w : List ℕ
   w = now (s .args .work)
 
-  inside : (k a e : ℕ) → k < SECTIONS → Place f k a e → e ≤ length w
-  inside k a e b p = place-in f w (s .pre .0 .0) k a e b p
+  recs-are : now (c .before .before .before .before .lent .result) ≡ at f BITS w
+  recs-are = c .before .before .before .before .lent .ensures ∙ place-at f BITS _ _ (s .pre .2 .recs) w
 
-  is : (k a e : ℕ) → k < SECTIONS → Place f k a e → take (e - a) (drop a w) ≡ at f k w
-  is k a e b p = place-at f w (s .pre .0 .0) k a e b p
+  zs-are : now (c .before .before .before .lent2 .result) ≡ at f ZS w
+  zs-are = c .before .before .before .lent2 .ensures ∙ place-at f ZS _ _ (s .pre .2 .zs) w
 
-  recs-are : take (s .args .recs .1 - s .args .recs .0) (drop (s .args .recs .0) w) ≡ at f BITS w
-  recs-are = is BITS (s .args .recs .0) (s .args .recs .1) (omega arith) (s .pre .1 .0 .0)
+  es-are : now (c .before .before .lent3 .result) ≡ at f ES w
+  es-are = c .before .before .lent3 .ensures ∙ place-at f ES _ _ (s .pre .2 .es) w
 
-  zs-are : take (s .args .zs .1 - s .args .zs .0) (drop (s .args .zs .0) w) ≡ at f ZS w
-  zs-are = is ZS (s .args .zs .0) (s .args .zs .1) (omega arith) (s .pre .1 .0 .1)
+  perm-is : now (c .before .lent4 .result) ≡ at f PERM w
+  perm-is = c .before .lent4 .ensures ∙ place-at f PERM _ _ (s .pre .2 .perm) w
 
-  es-are : take (s .args .es .1 - s .args .es .0) (drop (s .args .es .0) w) ≡ at f ES w
-  es-are = is ES (s .args .es .0) (s .args .es .1) (omega arith) (s .pre .1 .0 .2)
-
-  perm-is : take (s .args .perm .1 - s .args .perm .0) (drop (s .args .perm .0) w) ≡ at f PERM w
-  perm-is = is PERM (s .args .perm .0) (s .args .perm .1) (omega arith) (s .pre .1 .1 .0)
-
-  ds-are : take (s .args .opened .1 - s .args .opened .0) (drop (s .args .opened .0) w) ≡ at f DS w
-  ds-are = is DS (s .args .opened .0) (s .args .opened .1) (omega arith) (s .pre .1 .1 .1)
-
-fits : (c : tie.After-record-len) → 2 * c .record-len .result ≤ 514
-fits c = omega (arith, c .record-len .ensures, c .before .before .pre .0 .0 .ranges .eight)
+  ds-are : now (c .lent5 .result) ≡ at f DS w
+  ds-are = c .lent5 .ensures ∙ place-at f DS _ _ (s .pre .2 .opened) w
 
 slice-aggregate-put-triple : tie.Need-slice-aggregate-put-triple
-slice-aggregate-put-triple c = sym (length-take-le (2 * c .before .record-len .result) (replicate 514 0) (fits (c .before)))
-
-part-put-triple-end : tie.Need-part-put-triple-end
-part-put-triple-end c =
-    let s = c .before .before .before in
-    omega (arith, s .pre .1 .0 .0 .ends, inside s BITS (s .args .recs .0) (s .args .recs .1) (omega arith) (s .pre .1 .0 .0))
-
-part-put-triple-end-2 : tie.Need-part-put-triple-end-2
-part-put-triple-end-2 c =
-    let s = c .before .before .before .before in
-    omega (arith, s .pre .1 .0 .1 .ends, inside s ZS (s .args .zs .0) (s .args .zs .1) (omega arith) (s .pre .1 .0 .1))
-
-part-put-triple-end-3 : tie.Need-part-put-triple-end-3
-part-put-triple-end-3 c =
-    let s = c .before .before .before .before .before in
-    omega (arith, s .pre .1 .0 .2 .ends, inside s ES (s .args .es .0) (s .args .es .1) (omega arith) (s .pre .1 .0 .2))
-
-part-put-triple-end-4 : tie.Need-part-put-triple-end-4
-part-put-triple-end-4 c =
-    let s = c .before .before .before .before .before .before in
-    omega (arith, s .pre .1 .1 .0 .ends, inside s PERM (s .args .perm .0) (s .args .perm .1) (omega arith) (s .pre .1 .1 .0))
-
-part-put-triple-end-5 : tie.Need-part-put-triple-end-5
-part-put-triple-end-5 c =
-    let s = c .before .before .before .before .before .before .before in
-    omega (arith, s .pre .1 .1 .1 .ends, inside s DS (s .args .opened .0) (s .args .opened .1) (omega arith) (s .pre .1 .1 .1))
+slice-aggregate-put-triple c =
+    let z = sized (c .before) in
+    sym (length-take-le (2 * z .record-len .result) (replicate 514 0) (fits z))
 
 put-triple-requires : tie.Need-put-triple-requires
 put-triple-requires c κs =
-    let z = c .before .before .before .before .before .before in
-    let s = z .before .before in (
-      (ranged (f s) (s .pre .0 .0 .ranges), s .pre .0 .1, length-take-le (2 * z .record-len .result) (replicate 514 0) (fits z) ∙ ap (λ m. 2 * m) (z .record-len .ensures)),
-      bucketed-is (f s) (w s) (s .pre .0 .0) _ _ _ _ _ (recs-are s) (zs-are s) (es-are s) (perm-is s) (ds-are s),
+    let p = c .before in
+    let z = sized p in
+    let a = s p in (
+      (
+        a .pre .0 .ranges,
+        a .pre .1,
+        length-take-le (2 * z .record-len .result) (replicate 514 0) (fits z)
+            ∙ ap (λ m. 2 * m) (z .record-len .ensures),
+      ),
+      bucketed-is (a .pre .0) (recs-are p) (zs-are p) (es-are p) (perm-is p) (ds-are p),
     )
 
 returns : tie.Need-returns
 returns c =
-    let z = c .before .before .before .before .before .before .before .before in
-    let s = z .before .before in
-    let a = s .args in
+    let p = c .before .before .before in
+    let z = sized p in
+    let a = s p .args in
     ap₂ _++_
-    (c .before .put-triple .ensures ∙ row-is (f s) (a .delta .0) _ _ _ _ _ (a .j)
-    ∙ row-same (f s) (a .delta .0) _ _ _ _ _ _ _ _ _ _ (a .j) (recs-are s) (zs-are s) (es-are s) (perm-is s) (ds-are s))
+    (row-of (a .f) (a .delta .0) (w p) (a .j) (c .before .put-triple .last .0) (recs-are p) (zs-are p) (es-are p) (perm-is p) (ds-are p)
+    (c .before .put-triple .ensures))
     (drop-replicate (2 * z .record-len .result) 514 0 ∙ ap (λ m. replicate (514 - 2 * m) 0) (z .record-len .ensures))
 
 pub triple-row-spec : {M : Type 1} → statement M
@@ -94,22 +76,12 @@ triple-row-spec =
     (tie.spec
     (λ c κs. search needs)
     (λ c. search needs)
-    fits
+    (λ c κs. let s = c .before .before in place-fits (s .pre .0) BITS _ _ (omega arith) (s .pre .2 .recs))
+    (λ c κs. let s = c .before .before .before in place-fits (s .pre .0) ZS _ _ (omega arith) (s .pre .2 .zs))
+    (λ c κs. let s = c .before .before .before .before in place-fits (s .pre .0) ES _ _ (omega arith) (s .pre .2 .es))
+    (λ c κs. let s = c .before .before .before .before .before in place-fits (s .pre .0) PERM _ _ (omega arith) (s .pre .2 .perm))
+    (λ c κs. let s = c .before .before .before .before .before .before in place-fits (s .pre .0) DS _ _ (omega arith) (s .pre .2 .opened))
+    (λ c. fits (sized c))
     slice-aggregate-put-triple
-    (λ c. search needs)
-    (λ c. search needs)
-    part-put-triple-end
-    (λ c. search needs)
-    (λ c. search needs)
-    part-put-triple-end-2
-    (λ c. search needs)
-    (λ c. search needs)
-    part-put-triple-end-3
-    (λ c. search needs)
-    (λ c. search needs)
-    part-put-triple-end-4
-    (λ c. search needs)
-    (λ c. search needs)
-    part-put-triple-end-5
     put-triple-requires
     returns)

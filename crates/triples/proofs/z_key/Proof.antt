@@ -5,7 +5,8 @@ use Rattle.triples.proofs.z_key.Statement.{statement}
 use Rattle.triples.proofs.z_key.Tie as tie
 
 -- e lies within
-read-in : (c : tie.After-leaky) → let s = c .before .before .before in s .args .k * c .leaky .result + s .args .t < length (now (s .args .es))
+read-in : (c : tie.After-leaky) → let s = c .before .before .before in
+    s .args .k * c .leaky .result + s .args .t < length (now (s .args .es))
 read-in c =
     let s = c .before .before .before in
     omega (arith, ap (λ m. s .args .k * m) (c .leaky .ensures), s .pre .1 .1)
@@ -26,7 +27,8 @@ returns c =
     c .z-key .ensures
     ∙ ap₂ (blocks .op) (c .before .before .key-at .ensures)
     (c .before .times .ensures
-    ∙ ap (λ (v : Bool). sel blocks v (a .delta .0)) (b .bit .ensures ∙ ap (λ m. odd (getD (now (a .es)) (a .k * m + a .t) 0)) (b .before .leaky .ensures)))
+    ∙ ap (λ (v : Bool). sel blocks v (a .delta .0)) (b .bit .ensures ∙ ap (λ m. odd (getD (now (a .es)) (a .k * m + a .t) 0))
+    (b .before .leaky .ensures)))
 
 pub z-key-spec : {M : Type 1} → statement M
 z-key-spec =

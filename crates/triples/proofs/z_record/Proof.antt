@@ -5,7 +5,7 @@ use Rattle.triples.proofs.z_record.Statement.{statement}
 use Rattle.triples.proofs.z_record.Tie as tie
 
 fits : (c : tie.After-record-len) → c .record-len .result ≤ 257
-fits c = omega (arith, c .record-len .ensures, c .before .before .before .before .pre .0 .0 .eight)
+fits c = omega (arith, c .record-len .ensures, c .before .before .before .before .pre .0 .0 .range .eight)
 
 slice-aggregate-put-z-record : tie.Need-slice-aggregate-put-z-record
 slice-aggregate-put-z-record c = sym (length-take-le (c .before .record-len .result) (replicate 257 0) (fits (c .before)))
@@ -19,7 +19,8 @@ put-z-record-requires c κs =
 returns : tie.Need-returns
 returns c =
     let z = c .before .before .before in
-    ap₂ _++_ (c .before .put-z-record .ensures) (drop-replicate (z .record-len .result) 257 0 ∙ ap (λ m. replicate (257 - m) 0) (z .record-len .ensures))
+    ap₂ _++_ (c .before .put-z-record .ensures) (drop-replicate (z .record-len .result) 257 0 ∙ ap (λ m. replicate (257 - m) 0)
+    (z .record-len .ensures))
 
 pub z-record-spec : {M : Type 1} → statement M
 z-record-spec =

@@ -1,0 +1,110 @@
+-- The loop's invariant: the messages to the first q parties but i are written.
+use Rattle.lists.specs.Kit.{_≡_, sym, ap, _∙_, List, ℕ, _+_, _-_, _*_, _<_, _≤_, arith, length, now, needs}
+use Rattle.lists.specs.Over.{in-chunks}
+use Rattle.plan.specs.PlanLaws.{other-below}
+use Rattle.rounds.specs.Loops.{lent-part}
+use Rattle.rounds.specs.OthersLaws.{Sent, sent-zero, sent-turn, sent-end}
+use Rattle.rounds.specs.Buckets.{dvalueMsg}
+use Rattle.dvalue.specs.Dvalues.{told-is}
+use Rattle.dvalue.proofs.put_messages.Statement.{statement}
+use Rattle.dvalue.proofs.put_messages.Tie as tie
+
+abbrev Inv-loop : tie.InvT-loop
+Inv-loop out₀ recs perm f n i len last q₀ out q = (q ≤ f .n - 1) × Sent (f .n) (f .i) (dvalueMsg f recs perm) len q out₀ out
+
+abbrev μ-loop : tie.MeasureT-loop
+μ-loop out₀ recs perm f n i len last q₀ out q = f .n - 1 - q
+
+-- the message to each
+module _ (s : tie.Start Inv-loop μ-loop) where
+  abbrev g : ℕ → List ℕ
+  g = dvalueMsg (s .args .f) (now (s .args .recs)) (now (s .args .perm))
+
+loop-holds : tie.Need-loop-holds Inv-loop μ-loop
+loop-holds c =
+    let s = c .before .before .before .before in
+    (omega arith, sent-zero (s .args .f .n) (s .args .f .i) (g s) (c .msg-len .result) (now (s .args .out)))
+
+module _ (c : tie.At-loop Inv-loop μ-loop) where
+  abbrev start : tie.Start Inv-loop μ-loop
+  start = c .before .before .before .before .before
+
+  abbrev len : ℕ
+  len = c .before .msg-len .result
+
+  long : length (now (start .args .out)) ≡ (start .args .f .n - 1) * len
+  long = start .pre .1 .1 ∙ ap (λ k. (start .args .f .n - 1) * k) (sym (c .before .msg-len .ensures))
+
+  part-in : c .loop .q < start .args .f .n - 1 → c .loop .q * len + len ≤ length (c .loop .out)
+  part-in h = omega (arith, long, in-chunks (c .loop .q) (start .args .f .n - 1) len h, c .loop .inv .1 .same)
+
+mul-a : tie.Need-mul-a Inv-loop μ-loop
+mul-a c = omega (arith, part-in (c .before) (c .loop-test .taken))
+
+add-e : tie.Need-add-e Inv-loop μ-loop
+add-e c = omega (arith, part-in (c .before) (c .loop-test .taken))
+
+other-requires : tie.Need-other-requires Inv-loop μ-loop
+other-requires c κs = omega (arith, c .loop-test .taken, start (c .before) .pre .0 .range .eight)
+
+part-put-message-end : tie.Need-part-put-message-end Inv-loop μ-loop
+part-put-message-end c = part-in (c .before .before) (c .before .loop-test .taken)
+
+put-message-requires : tie.Need-put-message-requires Inv-loop μ-loop
+put-message-requires c κs =
+    let i = c .before .before in
+    let l = i .before in
+    let a = start l .args in
+    let m = len l in (
+      start l .pre .0,
+      (
+        start l .pre .1 .0,
+        (
+          omega (arith, c .before .other .ensures, other-below (a .f .n) (a .f .i) (l .loop .q) (i .loop-test .taken)),
+          lent-part (l .loop .q * m) m _ (l .loop .out) (l .before .msg-len .ensures ∙ told-is (a .f)) (part-in l (i .loop-test .taken)),
+        ),
+      ),
+    )
+
+loop-again : tie.Need-loop-again Inv-loop μ-loop
+loop-again c =
+    let p = c .before .before in
+    let i = p .before .before .before in
+    let l = i .before in
+    let a = start l .args in (
+      omega (arith, i .loop-test .taken),
+      sent-turn (a .f .n) (a .f .i) (g (start l)) (len l) (now (a .out)) (long l) (l .loop .q) (l .loop .out) (p .put-message .last .0)
+          (i .loop-test .taken) (l .loop .inv .1) (p .put-message .ensures ∙ ap (g (start l)) (p .before .before .other .ensures))
+          (p .put-message .kept .0),
+    )
+
+same-length : tie.Need-same-length Inv-loop μ-loop
+same-length c = c .before .loop .inv .1 .same
+
+returns : tie.Need-returns Inv-loop μ-loop
+returns c =
+    let l = c .before in
+    let a = start l .args in
+    sent-end (a .f .n) (a .f .i) (g (start l)) (len l) (now (a .out)) (long l) (l .loop .q) (l .loop .out) (l .loop .inv .1) (omega arith)
+
+pub put-messages-spec : {M : Type 1} → statement M
+put-messages-spec =
+    tie.close
+    (tie.spec
+    Inv-loop
+    μ-loop
+    (λ c κs. c .before .before .before .pre .0 .range)
+    (λ c. search needs)
+    loop-holds
+    mul-a
+    add-e
+    other-requires
+    (λ c. search needs)
+    (λ c. search needs)
+    part-put-message-end
+    put-message-requires
+    (λ c. search needs)
+    (λ c. search needs)
+    loop-again
+    same-length
+    returns)

@@ -1,0 +1,5 @@
+pub mod Given
+pub mod Entries
+pub mod Dvalues
+pub mod Opened
+pub mod Rows

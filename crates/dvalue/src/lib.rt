@@ -1,0 +1,454 @@
+// The buckets of leaky ANDs, round 21. From `faand` and `check_dvalue` of src/mpc/faand.rs; the definitions stand in crates/rounds
+// (Buckets). The permutation is public; bits, MACs, keys and delta decide no branch and no index.
+ghost use mathlib.Core.Path.{_≡_};
+ghost use Prim.Native.Nat.{_+_, _-_, _*_, _<_, _≤_};
+ghost use mathlib.Core.List.{_++_};
+ghost use lib.ListN.{length, getD, replicate};
+ghost use Rattle.lists.specs.Over.{cat};
+ghost use Rattle.algebra.specs.Group.{bits, sel};
+ghost use Rattle.algebra.specs.Sum.{neq};
+ghost use Rattle.share.specs.Record.{recordLen};
+ghost use Rattle.encode.specs.Encode.{dvalueItem};
+ghost use Rattle.plan.specs.Plan.{bucketSize, leaky, msgLen};
+ghost use Rattle.engine.specs.Area.{toOthers};
+ghost use Rattle.message.specs.declared.Kind.the-variants as Kind;
+ghost use Rattle.rounds.specs.Area as Area;
+ghost use Rattle.rounds.specs.Mail.{letter};
+ghost use Rattle.rounds.specs.EchoLaws.{Received};
+ghost use Rattle.rounds.specs.FaultLaws.{Finds, faultAt};
+ghost use Rattle.rounds.specs.Buckets as B;
+ghost use Rattle.rounds.specs.Table as Table;
+ghost use Rattle.area.specs.Given.{Ranged, Work, Place};
+ghost use Rattle.dvalue.specs.Given.{Lent};
+ghost use Rattle.dvalue.specs.Dvalues.{bucketLen, told, bucketHolds, messageHolds, dFault};
+ghost use Rattle.dvalue.specs.Opened.{toldSum, dRow};
+use area::Span;
+use engine::Frame;
+use rounds::Fault;
+use rounds::Mail;
+use share::Delta;
+
+// The bytes of a number of the permutation where it is kept.
+const NUMBER: usize = 4;
+
+// The bytes of a count, and of a MAC.
+const COUNT: usize = 8;
+
+const MAC: usize = 16;
+
+// The most later entries that a bucket has.
+const LATER: usize = 4;
+
+// How many later entries a bucket has.
+pub fn later(f: Frame) -> usize
+    ensures { λ r. ⌜ r ≡ B.later f ⌝ }
+{
+    plan::bucket_size(f.l) - 1
+}
+
+// ---- the permutation
+
+fn from_le4(b0: u8, b1: u8, b2: u8, b3: u8) -> usize
+    ensures { λ r. ⌜ r ≡ ((b3 * 256 + b2) * 256 + b1) * 256 + b0 ⌝ }
+{
+    ((b3 as usize * 256 + b2 as usize) * 256 + b1 as usize) * 256 + b0 as usize
+}
+
+// The 4 bytes at `at`, low byte first.
+fn word4(s: &[u8], at: usize) -> usize
+    requires { ⌜ at + 4 ≤ length (now s) ⌝ }
+    ensures { λ r. ⌜ r ≡ B.word4 (now (s .entry)) at ⌝ }
+{
+    from_le4(s[at], s[at + 1], s[at + 2], s[at + 3])
+}
+
+// Writes v as 4 bytes, low byte first.
+fn store4(out: &mut [u8], v: u32)
+    requires { ⌜ length (now out) ≡ 4 ⌝ }
+    ensures { λ _. ⌜ now (out .exit) ≡ B.le4 v ⌝ }
+{
+    out[0] = (v % 256) as u8;
+    out[1] = (v / 0x100 % 256) as u8;
+    out[2] = (v / 0x1_0000 % 256) as u8;
+    out[3] = (v / 0x100_0000 % 256) as u8;
+}
+
+// The permutation, number by number.
+fn put_numbers(section: &mut [u8], perm: &[u32])
+    requires { ⌜ length (now section) ≡ length (now perm) * 4 ⌝ }
+    ensures { λ _. ⌜ now (section .exit) ≡ cat (length (now (perm .entry))) (λ t. B.le4 (getD (now (perm .entry)) t 0)) ⌝ }
+{
+    let mut t = 0;
+    while t < perm.len() {
+        let a = t * NUMBER;
+        let e = a + NUMBER;
+        store4(&mut section[a..e], perm[t]);
+        t += 1;
+    }
+}
+
+// When round 21 is made: the permutation stays in PERM.
+pub fn hold(work: &mut [u8], perm: &[u32], f: Frame)
+    requires { ⌜ Work f (now work) ⌝ }
+    requires { ⌜ length (now perm) ≡ leaky (f .l) ⌝ }
+    ensures { λ _. ⌜ now (work .exit) ≡ Area.keep f Area.PERM (B.permBytes f (now (perm .entry))) (now (work .entry)) ⌝ }
+{
+    let place = area::place(f, area::PERM);
+    let a = place.0;
+    let e = place.1;
+    put_numbers(&mut work[a..e], perm);
+}
+
+// Entry e of bucket j: the number of a leaky AND.
+pub fn entry(perm: &[u8], f: Frame, j: usize, e: usize) -> usize
+    requires { ⌜ Ranged f ⌝ }
+    requires { ⌜ (length (now perm) ≡ leaky (f .l) * 4) × (j < f .l) × (e < bucketSize (f .l)) ⌝ }
+    ensures { λ r. ⌜ r ≡ B.entry f (now (perm .entry)) j e ⌝ }
+{
+    let at = (j * plan::bucket_size(f.l) + e) * NUMBER;
+    word4(perm, at) % plan::leaky(f.l)
+}
+
+// Where its record y starts.
+pub fn y_at(perm: &[u8], f: Frame, j: usize, e: usize) -> usize
+    requires { ⌜ Ranged f ⌝ }
+    requires { ⌜ (length (now perm) ≡ leaky (f .l) * 4) × (j < f .l) × (e < bucketSize (f .l)) ⌝ }
+    ensures { λ r. ⌜ r ≡ (leaky (f .l) + B.entry f (now (perm .entry)) j e) * recordLen (f .n) ⌝ }
+{
+    (plan::leaky(f.l) + entry(perm, f, j, e)) * share::record_len(f.n)
+}
+
+// ---- the messages of round 21
+
+// The bytes of a bucket in a message: the bits behind their count, the MACs behind theirs.
+fn bucket_len(f: Frame) -> usize
+    ensures { λ r. ⌜ r ≡ bucketLen f ⌝ }
+{
+    2 * COUNT + later(f) * (1 + MAC)
+}
+
+// Bucket j in the message to k: the d values, and their MACs for k.
+fn put_bucket(out: &mut [u8], recs: &[u8], perm: &[u8], f: Frame, j: usize, k: usize)
+    requires { ⌜ Ranged f ⌝ }
+    requires { ⌜ Lent f (now recs) (now perm) ⌝ }
+    requires { ⌜ (j < f .l) × (k < f .n) × (length (now out) ≡ bucketLen f) ⌝ }
+    ensures { λ _. ⌜ now (out .exit) ≡ dvalueItem (B.later f)
+        (λ e. B.d f (now (recs .entry)) (now (perm .entry)) j e .bit) (λ e. B.d f (now (recs .entry)) (now (perm .entry)) j e .mac k) ⌝ }
+{
+    let due = later(f);
+    let y0 = y_at(perm, f, j, 0);
+    encode::put_dvalue_counts(out, due);
+    let mut e = 0;
+    while e < due {
+        let y1 = y_at(perm, f, j, e + 1);
+        let bit = share::sum_bit(recs, y0, recs, y1);
+        let mac = share::sum_mac(recs, y0, recs, y1, k);
+        encode::put_dvalue(out, due, e, bit, mac.0);
+        e += 1;
+    }
+}
+
+// The message to k.
+fn put_message(out: &mut [u8], recs: &[u8], perm: &[u8], f: Frame, k: usize)
+    requires { ⌜ Ranged f ⌝ }
+    requires { ⌜ Lent f (now recs) (now perm) ⌝ }
+    requires { ⌜ (k < f .n) × (length (now out) ≡ told f) ⌝ }
+    ensures { λ _. ⌜ now (out .exit) ≡ B.dvalueMsg f (now (recs .entry)) (now (perm .entry)) k ⌝ }
+{
+    let size = bucket_len(f);
+    let count = f.l;
+    encode::put_count(&mut out[0..COUNT], count);
+    let mut j = 0;
+    while j < count {
+        let a = COUNT + j * size;
+        let e = a + size;
+        put_bucket(&mut out[a..e], recs, perm, f, j, k);
+        j += 1;
+    }
+}
+
+// The messages to all others.
+fn put_messages(out: &mut [u8], recs: &[u8], perm: &[u8], f: Frame)
+    requires { ⌜ Ranged f ⌝ }
+    requires { ⌜ Lent f (now recs) (now perm) ⌝ }
+    requires { ⌜ length (now out) ≡ (f .n - 1) * msgLen (f .n) (f .l) 21 ⌝ }
+    ensures { λ _. ⌜ now (out .exit) ≡ toOthers (f .n) (f .i) (B.dvalueMsg f (now (recs .entry)) (now (perm .entry))) ⌝ }
+{
+    let n = f.n;
+    let i = f.i;
+    let len = plan::msg_len(n, f.l, 21);
+    let last = n - 1;
+    let mut q = 0;
+    while q < last {
+        let a = q * len;
+        let e = a + len;
+        let k = plan::other(i, q);
+        put_message(&mut out[a..e], recs, perm, f, k);
+        q += 1;
+    }
+}
+
+// Round 21: the d values of every bucket, to all others.
+pub fn write(out: &mut [u8], work: &[u8], f: Frame)
+    requires { ⌜ Work f (now work) ⌝ }
+    requires { ⌜ length (now out) ≡ (f .n - 1) * msgLen (f .n) (f .l) 21 ⌝ }
+    ensures { λ _. ⌜ now (out .exit) ≡ toOthers (f .n) (f .i) (B.dvalueMsg f (Area.at f Area.BITS (now (work .entry)))
+        (Area.at f Area.PERM (now (work .entry)))) ⌝ }
+{
+    let recs = area::section(work, f, area::BITS);
+    let perm = area::section(work, f, area::PERM);
+    put_messages(out, recs, perm, f);
+}
+
+// ---- what is received in round 21
+
+// Where bucket j begins in a message.
+fn bucket_at(f: Frame, j: usize) -> usize
+    requires { ⌜ (j < f .l) × (f .l ≤ 300000) ⌝ }
+    ensures { λ r. ⌜ r ≡ B.bucketAt f j ⌝ }
+{
+    COUNT + j * bucket_len(f)
+}
+
+// Whether the MACs of bucket j in k's message m are right.
+fn bucket_holds(
+    m: &[u8],
+    recs: &[u8],
+    perm: &[u8],
+    delta: Delta,
+    f: Frame,
+    k: usize,
+    j: usize,
+) -> bool
+    requires { ⌜ Ranged f ⌝ }
+    requires { ⌜ Lent f (now recs) (now perm) ⌝ }
+    requires { ⌜ (j < f .l) × (k < f .n) × (told f ≤ length (now m)) ⌝ }
+    ensures { λ r. ⌜ r ≡ bucketHolds f (delta .0) (now (recs .entry)) (now (perm .entry)) (now (m .entry)) k j ⌝ }
+{
+    let due = later(f);
+    let bits = bucket_at(f, j) + COUNT;
+    let macs = bits + due + COUNT;
+    let first = y_at(perm, f, j, 0);
+    let mut ok = true;
+    let mut e = 0;
+    while e < due {
+        let next = y_at(perm, f, j, e + 1);
+        ok = ok
+            & share::mac_holds(
+                m,
+                bits + e,
+                macs + e * MAC,
+                recs,
+                first,
+                recs,
+                next,
+                k,
+                delta,
+            );
+        e += 1;
+    }
+    ok
+}
+
+// Whether all MACs in it are: all are looked at.
+fn message_holds(m: &[u8], recs: &[u8], perm: &[u8], delta: Delta, f: Frame, k: usize) -> bool
+    requires { ⌜ Ranged f ⌝ }
+    requires { ⌜ Lent f (now recs) (now perm) ⌝ }
+    requires { ⌜ (k < f .n) × (told f ≤ length (now m)) ⌝ }
+    ensures { λ r. ⌜ r ≡ messageHolds f (delta .0) (now (recs .entry)) (now (perm .entry)) (now (m .entry)) k ⌝ }
+{
+    let count = f.l;
+    let mut ok = true;
+    let mut j = 0;
+    while j < count {
+        ok = ok & bucket_holds(m, recs, perm, delta, f, k, j);
+        j += 1;
+    }
+    ok
+}
+
+// 11 if a MAC of party k is wrong; none of the own number.
+fn d_fault(
+    recs: &[u8],
+    perm: &[u8],
+    delta: Delta,
+    incoming: &[u8],
+    mail: Mail,
+    f: Frame,
+    k: usize,
+) -> u8
+    requires { ⌜ (Ranged f) × (k < f .n) ⌝ }
+    requires { ⌜ Lent f (now recs) (now perm) ⌝ }
+    requires { ⌜ Received (Kind.Dvalues (bucketSize (f .l) - 1)) (f .l) f (now incoming) mail ⌝ }
+    ensures { λ r. ⌜ r ≡ faultAt (f .i) (dFault f (delta .0) (now (recs .entry)) (now (perm .entry))
+        (letter (now (incoming .entry)) mail)) k ⌝ }
+{
+    let i = f.i;
+    if k == i {
+        return 0;
+    }
+    let m = rounds::letter(incoming, mail, k);
+    if message_holds(m, recs, perm, delta, f, k) {
+        0
+    } else {
+        11
+    }
+}
+
+// The first party of which a MAC of a d is wrong.
+fn first_fault(
+    recs: &[u8],
+    perm: &[u8],
+    delta: Delta,
+    incoming: &[u8],
+    mail: Mail,
+    f: Frame,
+) -> Fault
+    requires { ⌜ Ranged f ⌝ }
+    requires { ⌜ Lent f (now recs) (now perm) ⌝ }
+    requires { ⌜ Received (Kind.Dvalues (bucketSize (f .l) - 1)) (f .l) f (now incoming) mail ⌝ }
+    ensures { λ r. ⌜ Finds (r .code) (r .party) (B.dFaults f (delta .0) (now (recs .entry)) (now (perm .entry))
+        (letter (now (incoming .entry)) mail)) ⌝ }
+{
+    let n = f.n;
+    let mut k = 0;
+    while k < n {
+        let code = d_fault(recs, perm, delta, incoming, mail, f, k);
+        if code != 0 {
+            return Fault {
+                code: code,
+                party: k,
+            };
+        }
+        k += 1;
+    }
+    Fault { code: 0, party: 0 }
+}
+
+// Round 21: 11 with the first party of which a MAC of a d isn't the key, plus delta where the bit is 1.
+pub fn judge(work: &[u8], incoming: &[u8], mail: Mail, f: Frame) -> Fault
+    requires { ⌜ Work f (now work) ⌝ }
+    requires { ⌜ Received (Kind.Dvalues (bucketSize (f .l) - 1)) (f .l) f (now incoming) mail ⌝ }
+    ensures { λ r. ⌜ Finds (r .code) (r .party) (B.dFaults f (Table.delta f (now (work .entry)))
+        (Area.at f Area.BITS (now (work .entry))) (Area.at f Area.PERM (now (work .entry)))
+        (letter (now (incoming .entry)) mail)) ⌝ }
+{
+    let delta = area::delta(work, f);
+    let recs = area::section(work, f, area::BITS);
+    let perm = area::section(work, f, area::PERM);
+    first_fault(recs, perm, delta, incoming, mail, f)
+}
+
+// The bit that party k told for the later entry e of bucket j; 0 for the own number.
+fn d_told(incoming: &[u8], mail: Mail, f: Frame, j: usize, e: usize, k: usize) -> bool
+    requires { ⌜ (f .l ≤ 300000) × (j < f .l) × (e < B.later f) × (k < f .n) ⌝ }
+    requires { ⌜ Received (Kind.Dvalues (bucketSize (f .l) - 1)) (f .l) f (now incoming) mail ⌝ }
+    ensures { λ r. ⌜ r ≡ sel bits (neq (f .i) k) (B.dTold f (letter (now (incoming .entry)) mail) k j e) ⌝ }
+{
+    let i = f.i;
+    if k == i {
+        return false;
+    }
+    let m = rounds::letter(incoming, mail, k);
+    block::bit(m, bucket_at(f, j) + COUNT + e)
+}
+
+// The sum of the bits that all others told.
+fn told_sum(incoming: &[u8], mail: Mail, f: Frame, j: usize, e: usize) -> bool
+    requires { ⌜ (f .l ≤ 300000) × (j < f .l) × (e < B.later f) ⌝ }
+    requires { ⌜ Received (Kind.Dvalues (bucketSize (f .l) - 1)) (f .l) f (now incoming) mail ⌝ }
+    ensures { λ r. ⌜ r ≡ toldSum f (letter (now (incoming .entry)) mail) j e ⌝ }
+{
+    let n = f.n;
+    let mut sum = false;
+    let mut k = 0;
+    while k < n {
+        sum = sum ^ d_told(incoming, mail, f, j, e, k);
+        k += 1;
+    }
+    sum
+}
+
+// The opened d.
+fn d_opened(
+    recs: &[u8],
+    perm: &[u8],
+    incoming: &[u8],
+    mail: Mail,
+    f: Frame,
+    j: usize,
+    e: usize,
+) -> bool
+    requires { ⌜ (Ranged f) × (j < f .l) × (e < B.later f) ⌝ }
+    requires { ⌜ Lent f (now recs) (now perm) ⌝ }
+    requires { ⌜ Received (Kind.Dvalues (bucketSize (f .l) - 1)) (f .l) f (now incoming) mail ⌝ }
+    ensures { λ r. ⌜ r ≡ B.dOpened f (now (recs .entry)) (now (perm .entry))
+        (letter (now (incoming .entry)) mail) j e ⌝ }
+{
+    let first = y_at(perm, f, j, 0);
+    let next = y_at(perm, f, j, e + 1);
+    let own = share::sum_bit(recs, first, recs, next);
+    own ^ told_sum(incoming, mail, f, j, e)
+}
+
+// A row of DS: the opened d of bucket j.
+fn put_ds(row: &mut [u8], recs: &[u8], perm: &[u8], incoming: &[u8], mail: Mail, f: Frame, j: usize)
+    requires { ⌜ (Ranged f) × (j < f .l) × (length (now row) ≡ B.later f) ⌝ }
+    requires { ⌜ Lent f (now recs) (now perm) ⌝ }
+    requires { ⌜ Received (Kind.Dvalues (bucketSize (f .l) - 1)) (f .l) f (now incoming) mail ⌝ }
+    ensures { λ _. ⌜ now (row .exit) ≡ dRow f (now (recs .entry)) (now (perm .entry))
+        (letter (now (incoming .entry)) mail) j ⌝ }
+{
+    let mut e = 0;
+    while e < row.len() {
+        row[e] = block::bit_byte(d_opened(recs, perm, incoming, mail, f, j, e));
+        e += 1;
+    }
+}
+
+// The row from the sections of the work area, with zeros behind it.
+fn ds_row(
+    work: &[u8],
+    recs: Span,
+    perm: Span,
+    incoming: &[u8],
+    mail: Mail,
+    f: Frame,
+    j: usize,
+) -> [u8; LATER]
+    requires { ⌜ (Work f (now work)) × (j < f .l) ⌝ }
+    requires { ⌜ (Place f Area.BITS (recs .0) (recs .1)) × (Place f Area.PERM (perm .0) (perm .1)) ⌝ }
+    requires { ⌜ Received (Kind.Dvalues (bucketSize (f .l) - 1)) (f .l) f (now incoming) mail ⌝ }
+    ensures { λ r. ⌜ r ≡ dRow f (Area.at f Area.BITS (now (work .entry))) (Area.at f Area.PERM (now (work .entry)))
+        (letter (now (incoming .entry)) mail) j ++ replicate (4 - B.later f) 0 ⌝ }
+{
+    let mut row = [0u8; LATER];
+    let due = later(f);
+    let records = area::lent(work, recs);
+    let numbers = area::lent(work, perm);
+    put_ds(&mut row[..due], records, numbers, incoming, mail, f, j);
+    row
+}
+
+// Round 21: the opened d of every bucket stays in DS.
+pub fn keep(work: &mut [u8], incoming: &[u8], mail: Mail, f: Frame)
+    requires { ⌜ Work f (now work) ⌝ }
+    requires { ⌜ Received (Kind.Dvalues (bucketSize (f .l) - 1)) (f .l) f (now incoming) mail ⌝ }
+    ensures { λ _. ⌜ now (work .exit) ≡ Area.keep f Area.DS (B.ds f (Area.at f Area.BITS (now (work .entry)))
+        (Area.at f Area.PERM (now (work .entry)))
+        (letter (now (incoming .entry)) mail)) (now (work .entry)) ⌝ }
+{
+    let l = f.l;
+    let recs = area::place(f, area::BITS);
+    let perm = area::place(f, area::PERM);
+    let ds = area::section_at(f, area::DS);
+    let due = later(f);
+    let mut j = 0;
+    while j < l {
+        let row = ds_row(work, recs, perm, incoming, mail, f, j);
+        let a = ds + j * due;
+        let e = a + due;
+        fill::copy(&mut work[a..e], &row);
+        j += 1;
+    }
+}

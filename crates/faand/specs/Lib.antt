@@ -1,0 +1,4 @@
+pub mod Given
+pub mod ItemLaws
+pub mod CheckLaws
+pub mod FinishLaws

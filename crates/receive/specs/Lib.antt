@@ -1,4 +1,0 @@
-pub mod Given
-pub mod MaskLaws
-pub mod WorkLaws
-pub mod MailLaws

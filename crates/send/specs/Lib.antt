@@ -1,3 +1,0 @@
-pub mod Plain
-pub mod Held
-pub mod SendLaws
