@@ -25,7 +25,8 @@ use Rattle.plan.specs.Plan.{echo?, isRound, nextRound, kindOf, countDue, msgLen
 use Rattle.plan.specs.PlanLaws.{Rest, kind-rest, count-rest, out-len-last, out-len}
 use Rattle.engine.specs.declared.Frame.{Frame}
 use Rattle.engine.specs.declared.Session.{Session}
-use Rattle.engine.specs.Step.{Lent, Loan, frame, mask, gone, part, heard, inside, partsIn, lengthsDue, reasonOf, orElse, scan, byParty, formFault}
+use Rattle.engine.specs.Step.{Lent, Loan, frame, mask, gone, part, heard, inside, partsIn, lengthsDue, reasonOf, orElse, scan, byParty}
+use Rattle.engine.specs.Step.{formFault}
 use Rattle.engine.specs.StepLaws.{other-is, mask-ext}
 use Rattle.engine.specs.Area.{mem}
 use Rattle.engine.specs.Order.{echoIn, roundIn}

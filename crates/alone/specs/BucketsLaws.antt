@@ -14,7 +14,8 @@ use Rattle.block.specs.declared.Block.{Block}
 use Rattle.block.specs.Block.{bytesOf}
 use Rattle.share.specs.Record.{recordLen}
 use Rattle.share.specs.Share.{Share, shares, recordOf}
-use Rattle.share.specs.ShareLaws.{SmallShare, small-share-op, small-share-sel, Agree, agree-op, agree-sel, agree-refl, agree-record, length-recordOf, read-here}
+use Rattle.share.specs.ShareLaws.{SmallShare, small-share-op, small-share-sel, Agree, agree-op, agree-sel, agree-refl, agree-record}
+use Rattle.share.specs.ShareLaws.{length-recordOf, read-here}
 use Rattle.permutation.specs.Permutation.{isPerm}
 use Rattle.permutation.specs.PermutationLaws.{perm-below}
 use Rattle.encode.specs.Encode.{dvalueItem}
@@ -24,7 +25,8 @@ use Rattle.engine.specs.declared.Frame.{Frame}
 use Rattle.rounds.specs.Opening.{Args}
 use Rattle.rounds.specs.Haand.{x, y, zRows}
 use Rattle.rounds.specs.Flaand.{eRows}
-use Rattle.rounds.specs.Buckets.{Triple, two, combine, le4, word4, permBytes, entry, later, d, dvalueMsg, dTold, dOpened, ds, zShare, leakyAnd, abc, tripleRow}
+use Rattle.rounds.specs.Buckets.{Triple, two, combine, le4, word4, permBytes, entry, later, d, dvalueMsg, dTold, dOpened, ds, zShare}
+use Rattle.rounds.specs.Buckets.{leakyAnd, abc, tripleRow}
 use Rattle.rounds.specs.Buckets as B
 use Rattle.rounds.specs.Beaver as Beaver
 use Rattle.alone.specs.Formula as F

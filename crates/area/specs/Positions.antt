@@ -52,4 +52,5 @@ pub entry-in : (f : Frame) (rows : List ℕ) → length rows ≡ leaky (f .l) * 
     → t * leakyLen (f .n) + (32 + k * 18) + 18 ≤ length rows
 unfolding leakyLen
 entry-in f rows whole t k b h =
-    in-record t (leaky (f .l)) (leakyLen (f .n)) (32 + k * 18) 18 (length rows) b (omega (arith, in-chunks k (f .n) 18 h)) (omega (arith, whole))
+    in-record t (leaky (f .l)) (leakyLen (f .n)) (32 + k * 18) 18 (length rows) b (omega (arith, in-chunks k (f .n) 18 h))
+    (omega (arith, whole))

@@ -133,7 +133,8 @@ same-halves h s at b l = by (eqBlock a0 b0) refl (eqBlock a1 b1) refl (same? (ge
 
     first : get at 32 s ≡ bytes h → a0 ≡ b0
     first e =
-        ap (λ (x : List ℕ). blockAt x 0) (sym e) ∙ block-take (drop at s) 32 0 (omega arith) ∙ block-drop s at 0 ∙ ap (blockAt s) (add-zero at)
+        ap (λ (x : List ℕ). blockAt x 0) (sym e) ∙ block-take (drop at s) 32 0 (omega arith) ∙ block-drop s at 0
+        ∙ ap (blockAt s) (add-zero at)
 
     second : get at 32 s ≡ bytes h → a1 ≡ b1
     second e = ap (λ (x : List ℕ). blockAt x 16) (sym e) ∙ block-take (drop at s) 32 16 (omega arith) ∙ block-drop s at 16

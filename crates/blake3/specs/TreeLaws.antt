@@ -39,7 +39,8 @@ largest-one n p q u v = by (ltb (u .power .height) (v .power .height)) refl (ltb
     by true e b f = absurd (omega (arith, u .power .is, u .next, v .power .is, v .below, double (u .power .height) (v .power .height) (ltb-true (u .power .height) (v .power .height) e)))
     by false e true f = absurd (omega (arith, u .power .is, u .below, v .power .is, v .next, double (v .power .height) (u .power .height) (ltb-true (v .power .height) (u .power .height) f)))
     by false e false f =
-        let h : u .power .height ≡ v .power .height = omega (arith, ltb-false (u .power .height) (v .power .height) e, ltb-false (v .power .height) (u .power .height) f) in
+        let h : u .power .height ≡ v .power .height =
+        omega (arith, ltb-false (u .power .height) (v .power .height) e, ltb-false (v .power .height) (u .power .height) f) in
         u .power .is ∙ ap (λ (k : ℕ). 2 ^ k) h ∙ sym (v .power .is)
 
 large : (n : ℕ) → n < 2 ^ n
@@ -156,7 +157,8 @@ tree-parent s t f k h p =
     (deep d (chunks (length (drop (CHUNK-LEN * k) s))) (drop (CHUNK-LEN * k) s) (t + k) 0 (omega arith) (omega arith))
 
 -- the same of a part of a list, its two parts given by where they start
-pub tree-parts : (m : List ℕ) (from len t f k n : ℕ) (l r : List ℕ) → from + len ≤ length m → CHUNK-LEN < len → Largest (chunks len) k → n ≡ CHUNK-LEN * k
+pub tree-parts : (m : List ℕ) (from len t f k n : ℕ) (l r : List ℕ) → from + len ≤ length m → CHUNK-LEN < len → Largest (chunks len) k
+    → n ≡ CHUNK-LEN * k
     → l ≡ tree (get from n m) t 0 → r ≡ tree (get (from + n) (len - n) m) (t + k) 0
     → parent l r f ≡ tree (get from len m) t f
 tree-parts m from len t f k n l r h w p e el er =

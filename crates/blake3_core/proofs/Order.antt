@@ -26,6 +26,7 @@ each n (x ∷ l) h t (suc i) = each n l h (second (ltb x n) (below n l) t) i
 pub inside : (i : ℕ) → getD MSG-PERMUTATION i 0 < 16
 inside i = each 16 MSG-PERMUTATION (omega arith) tt i
 
-pub permuted : (m w : List ℕ) (i : ℕ) → i ≡ 16 → w ≡ tab i (λ k. getD m (getD MSG-PERMUTATION k 0) 0) ++ drop i (replicate 16 0) → w ≡ permute m
+pub permuted : (m w : List ℕ) (i : ℕ) → i ≡ 16 → w ≡ tab i (λ k. getD m (getD MSG-PERMUTATION k 0) 0) ++ drop i (replicate 16 0)
+    → w ≡ permute m
 unfolding permute tab
 permuted m w i e q = q ∙ ap (λ (n : ℕ). tab n (λ k. getD m (getD MSG-PERMUTATION k 0) 0) ++ drop n (replicate 16 0)) e

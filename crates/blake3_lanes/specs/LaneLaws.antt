@@ -37,7 +37,8 @@ lane-hash s n ms ds z t b em ed h =
     ∙ ap bytes (block-digest b16 (small-at s b (t * 16)))
 
 -- the Blocks of a window, in the whole
-pub hash-part : (s : List ℕ) (a e j m : ℕ) → a ≡ j * 16 → e ≡ a + m * 16 → cat m (hashAt (take (e - a) (drop a s))) ≡ cat m (λ k. hashAt s (j + k))
+pub hash-part : (s : List ℕ) (a e j m : ℕ) → a ≡ j * 16 → e ≡ a + m * 16
+    → cat m (hashAt (take (e - a) (drop a s))) ≡ cat m (λ k. hashAt s (j + k))
 hash-part s a e j m ea ee = cat-ext m (hashAt (take (e - a) (drop a s))) (λ k. hashAt s (j + k)) (λ k h.
     ap (λ (b : Block). hash (bytesOf b)) (
     block-get s a (e - a) (k * 16) (omega arith) ∙ ap (blockAt s) (let q : a + k * 16 ≡ (j + k) * 16 = omega arith in q)))

@@ -45,4 +45,6 @@ same-words b s h j =
     (0 ∷ 4 ∷ 8 ∷ 12 ∷ 16 ∷ 20 ∷ 24 ∷ 28 ∷ 32 ∷ 36 ∷ 40 ∷ 44 ∷ 48 ∷ 52 ∷ 56 ∷ 60 ∷ [])
 
 pub padded-words : (s b : List ℕ) (i n : ℕ) → length s ≤ i → b ≡ take i s ++ drop i (replicate n 0) → blockWords b ≡ blockWords s
-padded-words s b i n h e = same-words b s (λ k. ap (λ (l : List ℕ). getD l k 0) (e ∙ ap (λ (l : List ℕ). l ++ drop i (replicate n 0)) (take-all i s h)) ∙ behind s i n k)
+padded-words s b i n h e =
+    same-words b s
+    (λ k. ap (λ (l : List ℕ). getD l k 0) (e ∙ ap (λ (l : List ℕ). l ++ drop i (replicate n 0)) (take-all i s h)) ∙ behind s i n k)

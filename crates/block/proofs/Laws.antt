@@ -65,8 +65,10 @@ added-lent a b d x i e h ha w hx = record { here = whole; same = over-length (ta
     part : x ≡ tab (e - i) (λ j. f (i + j))
     part =
         hx
-        ∙ ap (λ (s : List ℕ). xorInplace (take (e - i) s) (take (e - i) (drop i b))) (ap (drop i) (w .here) ∙ drop-at (tab i f) (drop i a) i (length-tab i f))
-        ∙ ap (λ n. tab n (xorAt (take (e - i) (drop i a)) (take (e - i) (drop i b)))) (length-take-drop i e a ∙ (let m : min (e - i) (length a - i) ≡ e - i = omega arith in m))
+        ∙ ap (λ (s : List ℕ). xorInplace (take (e - i) s) (take (e - i) (drop i b)))
+        (ap (drop i) (w .here) ∙ drop-at (tab i f) (drop i a) i (length-tab i f))
+        ∙ ap (λ n. tab n (xorAt (take (e - i) (drop i a)) (take (e - i) (drop i b))))
+        (length-take-drop i e a ∙ (let m : min (e - i) (length a - i) ≡ e - i = omega arith in m))
         ∙ tab-ext (e - i) _ (λ j. f (i + j))
         (λ j l. ap₂ bitXor (getD-take (e - i) (drop i a) j 0 l ∙ getD-drop i a j 0) (getD-take (e - i) (drop i b) j 0 l ∙ getD-drop i b j 0))
 

@@ -175,19 +175,32 @@ module _ (b0 b1 b2 b3 b4 b5 b6 b7 : ℕ) (h0 : b0 < 256) (h1 : b1 < 256) (h2 : b
   unfolding le8
   le8-leOf =
       let e0 : w % 256 ≡ b0 = digit ((((((b7 * 256 + b6) * 256 + b5) * 256 + b4) * 256 + b3) * 256 + b2) * 256 + b1) b0 h0 in
-      let e1 : w / 0x100 % 256 ≡ b1 = ap (λ x. x % 256) (let q : w / 0x100 ≡ (((((b7 * 256 + b6) * 256 + b5) * 256 + b4) * 256 + b3) * 256 + b2) * 256 + b1 = omega arith in q) ∙ digit (((((b7 * 256 + b6) * 256 + b5) * 256 + b4) * 256 + b3) * 256 + b2) b1 h1 in
-      let e2 : w / 0x1_0000 % 256 ≡ b2 = ap (λ x. x % 256) (let q : w / 0x1_0000 ≡ ((((b7 * 256 + b6) * 256 + b5) * 256 + b4) * 256 + b3) * 256 + b2 = omega arith in q) ∙ digit ((((b7 * 256 + b6) * 256 + b5) * 256 + b4) * 256 + b3) b2 h2 in
-      let e3 : w / 0x100_0000 % 256 ≡ b3 = ap (λ x. x % 256) (let q : w / 0x100_0000 ≡ (((b7 * 256 + b6) * 256 + b5) * 256 + b4) * 256 + b3 = omega arith in q) ∙ digit (((b7 * 256 + b6) * 256 + b5) * 256 + b4) b3 h3 in
-      let e4 : w / 0x1_0000_0000 % 256 ≡ b4 = ap (λ x. x % 256) (let q : w / 0x1_0000_0000 ≡ ((b7 * 256 + b6) * 256 + b5) * 256 + b4 = omega arith in q) ∙ digit ((b7 * 256 + b6) * 256 + b5) b4 h4 in
-      let e5 : w / 0x100_0000_0000 % 256 ≡ b5 = ap (λ x. x % 256) (let q : w / 0x100_0000_0000 ≡ (b7 * 256 + b6) * 256 + b5 = omega arith in q) ∙ digit (b7 * 256 + b6) b5 h5 in
-      let e6 : w / 0x1_0000_0000_0000 % 256 ≡ b6 = ap (λ x. x % 256) (let q : w / 0x1_0000_0000_0000 ≡ b7 * 256 + b6 = omega arith in q) ∙ digit (b7) b6 h6 in
-      let e7 : w / 0x100_0000_0000_0000 % 256 ≡ b7 = ap (λ x. x % 256) (let q : w / 0x100_0000_0000_0000 ≡ b7 = omega arith in q) ∙ mod-eq-of-lt h7 in
+      let e1 : w / 0x100 % 256 ≡ b1 =
+      ap (λ x. x % 256)
+      (let q : w / 0x100 ≡ (((((b7 * 256 + b6) * 256 + b5) * 256 + b4) * 256 + b3) * 256 + b2) * 256 + b1 = omega arith in q)
+      ∙ digit (((((b7 * 256 + b6) * 256 + b5) * 256 + b4) * 256 + b3) * 256 + b2) b1 h1 in
+      let e2 : w / 0x1_0000 % 256 ≡ b2 =
+      ap (λ x. x % 256) (let q : w / 0x1_0000 ≡ ((((b7 * 256 + b6) * 256 + b5) * 256 + b4) * 256 + b3) * 256 + b2 = omega arith in q)
+      ∙ digit ((((b7 * 256 + b6) * 256 + b5) * 256 + b4) * 256 + b3) b2 h2 in
+      let e3 : w / 0x100_0000 % 256 ≡ b3 =
+      ap (λ x. x % 256) (let q : w / 0x100_0000 ≡ (((b7 * 256 + b6) * 256 + b5) * 256 + b4) * 256 + b3 = omega arith in q)
+      ∙ digit (((b7 * 256 + b6) * 256 + b5) * 256 + b4) b3 h3 in
+      let e4 : w / 0x1_0000_0000 % 256 ≡ b4 =
+      ap (λ x. x % 256) (let q : w / 0x1_0000_0000 ≡ ((b7 * 256 + b6) * 256 + b5) * 256 + b4 = omega arith in q)
+      ∙ digit ((b7 * 256 + b6) * 256 + b5) b4 h4 in
+      let e5 : w / 0x100_0000_0000 % 256 ≡ b5 =
+      ap (λ x. x % 256) (let q : w / 0x100_0000_0000 ≡ (b7 * 256 + b6) * 256 + b5 = omega arith in q) ∙ digit (b7 * 256 + b6) b5 h5 in
+      let e6 : w / 0x1_0000_0000_0000 % 256 ≡ b6 =
+      ap (λ x. x % 256) (let q : w / 0x1_0000_0000_0000 ≡ b7 * 256 + b6 = omega arith in q) ∙ digit (b7) b6 h6 in
+      let e7 : w / 0x100_0000_0000_0000 % 256 ≡ b7 =
+      ap (λ x. x % 256) (let q : w / 0x100_0000_0000_0000 ≡ b7 = omega arith in q) ∙ mod-eq-of-lt h7 in
       λ i. e0 i ∷ e1 i ∷ e2 i ∷ e3 i ∷ e4 i ∷ e5 i ∷ e6 i ∷ e7 i ∷ []
 
 module _ (s : List ℕ) (h : Bytes s) where
   pub small-word : (at : ℕ) → wordAt s at < 2 ^ 64
   unfolding wordAt
-  small-word at = small-leOf _ _ _ _ _ _ _ _ (h at) (h (at + 1)) (h (at + 2)) (h (at + 3)) (h (at + 4)) (h (at + 5)) (h (at + 6)) (h (at + 7))
+  small-word at =
+      small-leOf _ _ _ _ _ _ _ _ (h at) (h (at + 1)) (h (at + 2)) (h (at + 3)) (h (at + 4)) (h (at + 5)) (h (at + 6)) (h (at + 7))
 
   pub le8-word : (at : ℕ) → at + 8 ≤ length s → le8 (wordAt s at) ≡ take 8 (drop at s)
   unfolding wordAt tab

@@ -24,9 +24,11 @@ unfolding xorInplace
 getD-xor a b i h = getD-tab (length a) i (xorAt a b) 0 h
 
 -- a list that agrees with the XOR in length and at each index
-pub is-xor : (x a b : List ℕ) → length x ≡ length a → ((i : ℕ) → i < length a → getD x i 0 ≡ bitXor (getD a i 0) (getD b i 0)) → x ≡ xorInplace a b
+pub is-xor : (x a b : List ℕ) → length x ≡ length a → ((i : ℕ) → i < length a → getD x i 0 ≡ bitXor (getD a i 0) (getD b i 0))
+    → x ≡ xorInplace a b
 is-xor x a b h e =
-    ext-getD 0 x (xorInplace a b) (h ∙ sym (length-xor a b)) (λ i l. let l′ : i < length a = omega arith in e i l′ ∙ sym (getD-xor a b i l′))
+    ext-getD 0 x (xorInplace a b) (h ∙ sym (length-xor a b))
+    (λ i l. let l′ : i < length a = omega arith in e i l′ ∙ sym (getD-xor a b i l′))
 
 zeros : (n i : ℕ) → _≡_ {A = ℕ} (getD (replicate n 0) i 0) 0
 zeros zero i = refl
@@ -69,7 +71,8 @@ xor-order a b c =
     ∙ sym (xor-assoc (getD a i 0) (getD c i 0) (getD b i 0)) ∙ ap (λ x. bitXor x (getD b i 0)) (sym (getD-xor a c i l′)))
 
 -- ---- associative: where b is not the shortest
-pub xor-group : (a b c : List ℕ) → (length a ≤ length b) ⊎ (length c ≤ length b) → xorInplace (xorInplace a b) c ≡ xorInplace a (xorInplace b c)
+pub xor-group : (a b c : List ℕ) → (length a ≤ length b) ⊎ (length c ≤ length b)
+    → xorInplace (xorInplace a b) c ≡ xorInplace a (xorInplace b c)
 xor-group a b c h =
     is-xor (xorInplace (xorInplace a b) c) a (xorInplace b c) (length-xor (xorInplace a b) c ∙ length-xor a b)
     (λ i l. getD-xor (xorInplace a b) c i (omega (arith, length-xor a b)) ∙ ap (λ x. bitXor x (getD c i 0)) (getD-xor a b i l)

@@ -58,7 +58,9 @@ module _ (a b : List ℕ) (ha : Bytes a) (hb : Bytes b) (at : ℕ) where
       (small-xor (blockAt a at) (blockAt b at) (small-at a ha at) (small-at b hb at))
 
 -- eight bytes added as one word
-pub le8-xor-words : (a b : List ℕ) → Bytes a → Bytes b → length a ≡ 8 → length b ≡ 8 → le8 (bitXor (wordAt a 0) (wordAt b 0)) ≡ xorInplace a b
+pub le8-xor-words : (a b : List ℕ) → Bytes a → Bytes b → length a ≡ 8 → length b ≡ 8
+    → le8 (bitXor (wordAt a 0) (wordAt b 0)) ≡ xorInplace a b
 le8-xor-words a b ha hb h k =
     le8-xor (wordAt a 0) (wordAt b 0)
-    ∙ ap₂ xorInplace (le8-word a ha 0 (omega arith) ∙ take-all 8 a (omega arith)) (le8-word b hb 0 (omega arith) ∙ take-all 8 b (omega arith))
+    ∙ ap₂ xorInplace (le8-word a ha 0 (omega arith) ∙ take-all 8 a (omega arith))
+    (le8-word b hb 0 (omega arith) ∙ take-all 8 b (omega arith))

@@ -35,7 +35,8 @@ module _ (f : Frame) (m : ℕ → List ℕ) where
   scan-ext : (n : ℕ) (c d : ℕ → ℕ) → ((k : ℕ) → k < n → c k ≡ d k) → scan n c ≡ scan n d
   unfolding scan
   scan-ext zero c d h = refl
-  scan-ext (suc n) c d h = ap₂ orElse (scan-ext n c d (λ k l. h k (omega arith))) (ap (λ x. record { code = x; party = n }) (h n (le-refl (suc n))))
+  scan-ext (suc n) c d h =
+      ap₂ orElse (scan-ext n c d (λ k l. h k (omega arith))) (ap (λ x. record { code = x; party = n }) (h n (le-refl (suc n))))
 
   pub party-masked : (c : ℕ → List ℕ → ℕ) → byParty f (λ k. c k (mask f m k)) ≡ byParty f (λ k. c k (m k))
   unfolding byParty
@@ -46,7 +47,8 @@ module _ (f : Frame) (m : ℕ → List ℕ) where
   unfolding digests
   digests-are k = rows-masked (hashVec k)
 
-  pub echo-checks : (k : ℕ) (w : List ℕ) → echoCheck table k f w (mask f m) ≡ orElse (byParty f (echoFaults (f .n) (f .i) (at f HASHES w) m)) (pending table k f w)
+  pub echo-checks : (k : ℕ) (w : List ℕ)
+      → echoCheck table k f w (mask f m) ≡ orElse (byParty f (echoFaults (f .n) (f .i) (at f HASHES w) m)) (pending table k f w)
   unfolding echoCheck hashes at echo
   echo-checks k w = ap (λ (e : Fault). orElse e (pending table k f w)) (party-masked (λ j. echoFault (f .n) (f .i) j (at f HASHES w)))
 
@@ -123,7 +125,9 @@ unfolding waits
 waits-is code party p e = go (eqb code 0) refl
   where
     go : (b : Bool) → eqb code 0 ≡ b → code ∷ p ∷ [] ≡ pick (eqb code 0) (0 ∷ 0 ∷ []) (code ∷ party ∷ [])
-    go true q = ap₂ (λ c d. c ∷ d ∷ []) (eqb-true code 0 q) (e ∙ ap (λ b. pick b 0 party) q) ∙ sym (ap (λ b. pick b (0 ∷ 0 ∷ []) (code ∷ party ∷ [])) q)
+    go true q =
+        ap₂ (λ c d. c ∷ d ∷ []) (eqb-true code 0 q) (e ∙ ap (λ b. pick b 0 party) q)
+        ∙ sym (ap (λ b. pick b (0 ∷ 0 ∷ []) (code ∷ party ∷ [])) q)
     go false q = ap (λ d. code ∷ d ∷ []) (e ∙ ap (λ b. pick b 0 party) q) ∙ sym (ap (λ b. pick b (0 ∷ 0 ∷ []) (code ∷ party ∷ [])) q)
 
 -- they are those of the fault that was found
@@ -131,6 +135,7 @@ pub waits-found : (code party : ℕ) (x : Fault) → Finds code party x → wait
 unfolding waits
 waits-found code party x h = go (eqb (x .code) 0) refl
   where
-    go : (b : Bool) → eqb (x .code) 0 ≡ b → pick (eqb code 0) (0 ∷ 0 ∷ []) (code ∷ party ∷ []) ≡ pick (eqb (x .code) 0) (0 ∷ 0 ∷ []) (x .code ∷ x .party ∷ [])
+    go : (b : Bool) → eqb (x .code) 0 ≡ b
+        → pick (eqb code 0) (0 ∷ 0 ∷ []) (code ∷ party ∷ []) ≡ pick (eqb (x .code) 0) (0 ∷ 0 ∷ []) (x .code ∷ x .party ∷ [])
     go true q = rw (h .code-is, q) refl
     go false q = rw (h .code-is, h .party-is (eqb-false (x .code) 0 q)) refl

@@ -12,7 +12,8 @@ use Rattle.algebra.specs.Group.{XorGroup, sel}
 use Rattle.share.specs.Record.{recordLen}
 use Rattle.share.specs.RecordLaws.{bit-part, mac-part, key-part}
 use Rattle.share.specs.Share.{Share, shareAt, shares, recordOf}
-use Rattle.share.specs.ShareLaws.{SmallShare, small-share-op, small-share-sel, small-share-at, Agree, agree-record, agree-op, agree-refl, read-here, length-recordOf}
+use Rattle.share.specs.ShareLaws.{SmallShare, small-share-op, small-share-sel, small-share-at, Agree, agree-record, agree-op, agree-refl}
+use Rattle.share.specs.ShareLaws.{read-here, length-recordOf}
 use Rattle.rounds.specs.Buckets.{Triple, two}
 use Rattle.combine.specs.Pair.{pairAt, putPair}
 
@@ -44,7 +45,8 @@ module _ (n i z : ℕ) (g : Triple) (t : List ℕ) (apart : recordLen n ≤ z) (
 
   pub length-putPair : length (putPair n i z g t) ≡ length t
   unfolding putPair
-  length-putPair = length-put z (recordLen n) (recordOf n i (g .tz)) once (length-recordOf n i (g .tz)) (omega (arith, once-long)) ∙ once-long
+  length-putPair =
+      length-put z (recordLen n) (recordOf n i (g .tz)) once (length-recordOf n i (g .tz)) (omega (arith, once-long)) ∙ once-long
 
   -- what stands between the two stays
   pub put-between : (a k : ℕ) → recordLen n ≤ a → a + k ≤ z → get a k (putPair n i z g t) ≡ get a k t
@@ -109,7 +111,8 @@ module _ (n i z len : ℕ) (h : Triple) (d : Bool) (t x y : List ℕ) (long : le
   unfolding two pairAt
   x-left =
       hx ∙ ap (λ k. recordOf n i (shares .op (shareAt (get 0 k t) 0) (h .tx))) whole
-      ∙ agree-record n i _ _ (agree-op n i (shareAt (get 0 (recordLen n) t) 0) (h .tx) (shareAt t 0) (h .tx) (agree-cut n i 0 t) (agree-refl n i (h .tx)))
+      ∙ agree-record n i _ _
+      (agree-op n i (shareAt (get 0 (recordLen n) t) 0) (h .tx) (shareAt t 0) (h .tx) (agree-cut n i 0 t) (agree-refl n i (h .tx)))
 
   z-old : get z (z + len - z) (put 0 (len - 0) x t) ≡ get z (recordLen n) t
   z-old =

@@ -27,7 +27,8 @@ module _ (n i len : ℕ) (g : Triple) (out x y z : List ℕ) (long : len ≡ rec
   three-left =
       let lx : length (recordOf n i (g .tx)) ≡ len = length-recordOf n i (g .tx) ∙ sym long in
       let ly : length (recordOf n i (g .ty)) ≡ len = length-recordOf n i (g .ty) ∙ sym long in
-      let two : length (recordOf n i (g .tx) ++ recordOf n i (g .ty)) ≡ 2 * len = length-append (recordOf n i (g .tx)) (recordOf n i (g .ty)) ∙ (omega arith) in
+      let two : length (recordOf n i (g .tx) ++ recordOf n i (g .ty)) ≡ 2 * len =
+      length-append (recordOf n i (g .tx)) (recordOf n i (g .ty)) ∙ (omega arith) in
       over-next (recordOf n i (g .tx) ++ recordOf n i (g .ty)) (recordOf n i (g .tz)) z out _ (2 * len) (3 * len - 2 * len) (3 * len)
       (over-next (recordOf n i (g .tx)) (recordOf n i (g .ty)) y out _ len (2 * len - len) (2 * len)
       (over-next [] (recordOf n i (g .tx)) x out out 0 (len - 0) len refl refl hx (omega arith))
@@ -98,7 +99,8 @@ module _ (n i : ℕ) (g : Triple) (out : List ℕ) where
         pair = holds-turn n i (2 * recordLen n) g h d out (w .pair) out′ (omega arith) fits s e′;
         y-here =
             ap (get (recordLen n) (recordLen n)) e′
-            ∙ put-between n i (2 * recordLen n) p out (omega arith) fits (recordLen n) (recordLen n) (omega arith) (omega arith) ∙ w .y-here;
+            ∙ put-between n i (2 * recordLen n) p out (omega arith) fits (recordLen n) (recordLen n) (omega arith) (omega arith)
+            ∙ w .y-here;
         long = ap length e′ ∙ length-putPair n i (2 * recordLen n) p out (omega arith) fits ∙ w .long;
       }
 
@@ -113,7 +115,8 @@ module _ (n : ℕ) (s : List ℕ) where
   small-triple h t = record { x = small-share-at n s (3 * t * recordLen n) h; z = small-share-at n s ((3 * t + 2) * recordLen n) h }
 
   -- a step reads x and z of triple t alone
-  pub two-pair : (g : Triple) (d : Bool) (t len : ℕ) → len ≡ recordLen n → two g (pairAt s (3 * t * len) s ((3 * t + 2) * len)) d ≡ two g (triple n s t) d
+  pub two-pair : (g : Triple) (d : Bool) (t len : ℕ) → len ≡ recordLen n
+      → two g (pairAt s (3 * t * len) s ((3 * t + 2) * len)) d ≡ two g (triple n s t) d
   unfolding two pairAt triple
   two-pair g d t len e = ap (λ k. two g (pairAt s (3 * t * k) s ((3 * t + 2) * k)) d) e
 

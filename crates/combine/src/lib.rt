@@ -134,7 +134,7 @@ fn reason(n: usize, i: usize, count: usize, triples: &[u8], d: &[u8], out: &[u8]
     if out.len() != 3 * len {
         return 17;
     }
-    let fault = share::check_records(triples, n, i, 3 * count);
+    let fault = records::check_records(triples, n, i, 3 * count);
     if fault != 0 {
         return fault;
     }

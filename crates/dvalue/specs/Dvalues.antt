@@ -27,7 +27,7 @@ use Rattle.rounds.specs.declared.Mail.{Mail}
 use Rattle.rounds.specs.Mail.{letter}
 use Rattle.rounds.specs.EchoLaws.{Received}
 use Rattle.rounds.specs.Buckets.{later, d, dvalueMsg, bucketAt, dTold, dMacTold, dFaults}
-use Rattle.dvalue.specs.Entries.{later-most, yAt, d-read}
+use Rattle.buckets.specs.Entries.{later-most, yAt, d-read}
 
 -- ---- lengths
 -- the bytes of a bucket, and of a message

@@ -10,7 +10,7 @@ use Rattle.algebra.specs.Sum.{others}
 use Rattle.share.specs.Share.{Share, shareAt, shares}
 use Rattle.engine.specs.declared.Frame.{Frame}
 use Rattle.rounds.specs.Buckets.{later, dTold, dOpened, ds}
-use Rattle.dvalue.specs.Entries.{yAt, d-read}
+use Rattle.buckets.specs.Entries.{yAt, d-read}
 
 -- the sum of the bits that the others told
 unfoldable pub toldSum : Frame → (ℕ → List ℕ) → ℕ → ℕ → Bool

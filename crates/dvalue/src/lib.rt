@@ -1,15 +1,13 @@
-// The buckets of leaky ANDs, round 21. From `faand` and `check_dvalue` of src/mpc/faand.rs; the definitions stand in crates/rounds
+// The d values of the buckets, round 21. From `faand` and `check_dvalue` of src/mpc/faand.rs; the definitions stand in crates/rounds
 // (Buckets). The permutation is public; bits, MACs, keys and delta decide no branch and no index.
 ghost use mathlib.Core.Path.{_≡_};
-ghost use Prim.Native.Nat.{_+_, _-_, _*_, _<_, _≤_};
+ghost use Prim.Native.Nat.{_-_, _*_, _<_, _≤_};
 ghost use mathlib.Core.List.{_++_};
-ghost use lib.ListN.{length, getD, replicate};
-ghost use Rattle.lists.specs.Over.{cat};
+ghost use lib.ListN.{length, replicate};
 ghost use Rattle.algebra.specs.Group.{bits, sel};
 ghost use Rattle.algebra.specs.Sum.{neq};
-ghost use Rattle.share.specs.Record.{recordLen};
 ghost use Rattle.encode.specs.Encode.{dvalueItem};
-ghost use Rattle.plan.specs.Plan.{bucketSize, leaky, msgLen};
+ghost use Rattle.plan.specs.Plan.{bucketSize, msgLen};
 ghost use Rattle.engine.specs.Area.{toOthers};
 ghost use Rattle.message.specs.declared.Kind.the-variants as Kind;
 ghost use Rattle.rounds.specs.Area as Area;
@@ -19,7 +17,7 @@ ghost use Rattle.rounds.specs.FaultLaws.{Finds, faultAt};
 ghost use Rattle.rounds.specs.Buckets as B;
 ghost use Rattle.rounds.specs.Table as Table;
 ghost use Rattle.area.specs.Given.{Ranged, Work, Place};
-ghost use Rattle.dvalue.specs.Given.{Lent};
+ghost use Rattle.buckets.specs.Given.{Lent};
 ghost use Rattle.dvalue.specs.Dvalues.{bucketLen, told, bucketHolds, messageHolds, dFault};
 ghost use Rattle.dvalue.specs.Opened.{toldSum, dRow};
 use area::Span;
@@ -27,9 +25,6 @@ use engine::Frame;
 use rounds::Fault;
 use rounds::Mail;
 use share::Delta;
-
-// The bytes of a number of the permutation where it is kept.
-const NUMBER: usize = 4;
 
 // The bytes of a count, and of a MAC.
 const COUNT: usize = 8;
@@ -39,92 +34,13 @@ const MAC: usize = 16;
 // The most later entries that a bucket has.
 const LATER: usize = 4;
 
-// How many later entries a bucket has.
-pub fn later(f: Frame) -> usize
-    ensures { λ r. ⌜ r ≡ B.later f ⌝ }
-{
-    plan::bucket_size(f.l) - 1
-}
-
-// ---- the permutation
-
-fn from_le4(b0: u8, b1: u8, b2: u8, b3: u8) -> usize
-    ensures { λ r. ⌜ r ≡ ((b3 * 256 + b2) * 256 + b1) * 256 + b0 ⌝ }
-{
-    ((b3 as usize * 256 + b2 as usize) * 256 + b1 as usize) * 256 + b0 as usize
-}
-
-// The 4 bytes at `at`, low byte first.
-fn word4(s: &[u8], at: usize) -> usize
-    requires { ⌜ at + 4 ≤ length (now s) ⌝ }
-    ensures { λ r. ⌜ r ≡ B.word4 (now (s .entry)) at ⌝ }
-{
-    from_le4(s[at], s[at + 1], s[at + 2], s[at + 3])
-}
-
-// Writes v as 4 bytes, low byte first.
-fn store4(out: &mut [u8], v: u32)
-    requires { ⌜ length (now out) ≡ 4 ⌝ }
-    ensures { λ _. ⌜ now (out .exit) ≡ B.le4 v ⌝ }
-{
-    out[0] = (v % 256) as u8;
-    out[1] = (v / 0x100 % 256) as u8;
-    out[2] = (v / 0x1_0000 % 256) as u8;
-    out[3] = (v / 0x100_0000 % 256) as u8;
-}
-
-// The permutation, number by number.
-fn put_numbers(section: &mut [u8], perm: &[u32])
-    requires { ⌜ length (now section) ≡ length (now perm) * 4 ⌝ }
-    ensures { λ _. ⌜ now (section .exit) ≡ cat (length (now (perm .entry))) (λ t. B.le4 (getD (now (perm .entry)) t 0)) ⌝ }
-{
-    let mut t = 0;
-    while t < perm.len() {
-        let a = t * NUMBER;
-        let e = a + NUMBER;
-        store4(&mut section[a..e], perm[t]);
-        t += 1;
-    }
-}
-
-// When round 21 is made: the permutation stays in PERM.
-pub fn hold(work: &mut [u8], perm: &[u32], f: Frame)
-    requires { ⌜ Work f (now work) ⌝ }
-    requires { ⌜ length (now perm) ≡ leaky (f .l) ⌝ }
-    ensures { λ _. ⌜ now (work .exit) ≡ Area.keep f Area.PERM (B.permBytes f (now (perm .entry))) (now (work .entry)) ⌝ }
-{
-    let place = area::place(f, area::PERM);
-    let a = place.0;
-    let e = place.1;
-    put_numbers(&mut work[a..e], perm);
-}
-
-// Entry e of bucket j: the number of a leaky AND.
-pub fn entry(perm: &[u8], f: Frame, j: usize, e: usize) -> usize
-    requires { ⌜ Ranged f ⌝ }
-    requires { ⌜ (length (now perm) ≡ leaky (f .l) * 4) × (j < f .l) × (e < bucketSize (f .l)) ⌝ }
-    ensures { λ r. ⌜ r ≡ B.entry f (now (perm .entry)) j e ⌝ }
-{
-    let at = (j * plan::bucket_size(f.l) + e) * NUMBER;
-    word4(perm, at) % plan::leaky(f.l)
-}
-
-// Where its record y starts.
-pub fn y_at(perm: &[u8], f: Frame, j: usize, e: usize) -> usize
-    requires { ⌜ Ranged f ⌝ }
-    requires { ⌜ (length (now perm) ≡ leaky (f .l) * 4) × (j < f .l) × (e < bucketSize (f .l)) ⌝ }
-    ensures { λ r. ⌜ r ≡ (leaky (f .l) + B.entry f (now (perm .entry)) j e) * recordLen (f .n) ⌝ }
-{
-    (plan::leaky(f.l) + entry(perm, f, j, e)) * share::record_len(f.n)
-}
-
 // ---- the messages of round 21
 
 // The bytes of a bucket in a message: the bits behind their count, the MACs behind theirs.
 fn bucket_len(f: Frame) -> usize
     ensures { λ r. ⌜ r ≡ bucketLen f ⌝ }
 {
-    2 * COUNT + later(f) * (1 + MAC)
+    2 * COUNT + buckets::later(f) * (1 + MAC)
 }
 
 // Bucket j in the message to k: the d values, and their MACs for k.
@@ -135,12 +51,12 @@ fn put_bucket(out: &mut [u8], recs: &[u8], perm: &[u8], f: Frame, j: usize, k: u
     ensures { λ _. ⌜ now (out .exit) ≡ dvalueItem (B.later f)
         (λ e. B.d f (now (recs .entry)) (now (perm .entry)) j e .bit) (λ e. B.d f (now (recs .entry)) (now (perm .entry)) j e .mac k) ⌝ }
 {
-    let due = later(f);
-    let y0 = y_at(perm, f, j, 0);
+    let due = buckets::later(f);
+    let y0 = buckets::y_at(perm, f, j, 0);
     encode::put_dvalue_counts(out, due);
     let mut e = 0;
     while e < due {
-        let y1 = y_at(perm, f, j, e + 1);
+        let y1 = buckets::y_at(perm, f, j, e + 1);
         let bit = share::sum_bit(recs, y0, recs, y1);
         let mac = share::sum_mac(recs, y0, recs, y1, k);
         encode::put_dvalue(out, due, e, bit, mac.0);
@@ -225,14 +141,14 @@ fn bucket_holds(
     requires { ⌜ (j < f .l) × (k < f .n) × (told f ≤ length (now m)) ⌝ }
     ensures { λ r. ⌜ r ≡ bucketHolds f (delta .0) (now (recs .entry)) (now (perm .entry)) (now (m .entry)) k j ⌝ }
 {
-    let due = later(f);
+    let due = buckets::later(f);
     let bits = bucket_at(f, j) + COUNT;
     let macs = bits + due + COUNT;
-    let first = y_at(perm, f, j, 0);
+    let first = buckets::y_at(perm, f, j, 0);
     let mut ok = true;
     let mut e = 0;
     while e < due {
-        let next = y_at(perm, f, j, e + 1);
+        let next = buckets::y_at(perm, f, j, e + 1);
         ok = ok
             & share::mac_holds(
                 m,
@@ -385,8 +301,8 @@ fn d_opened(
     ensures { λ r. ⌜ r ≡ B.dOpened f (now (recs .entry)) (now (perm .entry))
         (letter (now (incoming .entry)) mail) j e ⌝ }
 {
-    let first = y_at(perm, f, j, 0);
-    let next = y_at(perm, f, j, e + 1);
+    let first = buckets::y_at(perm, f, j, 0);
+    let next = buckets::y_at(perm, f, j, e + 1);
     let own = share::sum_bit(recs, first, recs, next);
     own ^ told_sum(incoming, mail, f, j, e)
 }
@@ -423,7 +339,7 @@ fn ds_row(
         (letter (now (incoming .entry)) mail) j ++ replicate (4 - B.later f) 0 ⌝ }
 {
     let mut row = [0u8; LATER];
-    let due = later(f);
+    let due = buckets::later(f);
     let records = area::lent(work, recs);
     let numbers = area::lent(work, perm);
     put_ds(&mut row[..due], records, numbers, incoming, mail, f, j);
@@ -442,7 +358,7 @@ pub fn keep(work: &mut [u8], incoming: &[u8], mail: Mail, f: Frame)
     let recs = area::place(f, area::BITS);
     let perm = area::place(f, area::PERM);
     let ds = area::section_at(f, area::DS);
-    let due = later(f);
+    let due = buckets::later(f);
     let mut j = 0;
     while j < l {
         let row = ds_row(work, recs, perm, incoming, mail, f, j);

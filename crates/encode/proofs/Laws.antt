@@ -27,7 +27,8 @@ bytes-blocks a a′ b b′ e e′ f f′ out h he p q r s =
     (ap (λ (n : ℕ). suc (suc n)) he) s refl
     ∙ over-full (a ∷ b ∷ (e ++ f)) out 34 (omega arith)
 
-pub block-between : (a b : ℕ) (e e′ out : List ℕ) → length out ≡ 34 → length e ≡ 16 → e′ ≡ e → length (putMid 2 16 (set (set out 0 a) 1 b) e′) ≡ 34
+pub block-between : (a b : ℕ) (e e′ out : List ℕ) → length out ≡ 34 → length e ≡ 16 → e′ ≡ e
+    → length (putMid 2 16 (set (set out 0 a) 1 b) e′) ≡ 34
 block-between a b e e′ out h he q =
     let n : length (set (set out 0 a) 1 b) ≡ 34 = length-set (set out 0 a) 1 b ∙ length-set out 0 a ∙ h in
     length-put 2 16 e′ (set (set out 0 a) 1 b) (ap length q ∙ he) (omega arith) ∙ n

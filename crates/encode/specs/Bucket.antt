@@ -24,7 +24,8 @@ counts due l = put (8 + due) 8 (le8 due) (put 0 8 (le8 due) l)
 unfoldable pub dvalueIn : ℕ → ℕ → Bool → Block → List ℕ → List ℕ
 dvalueIn due k d x l = put (16 + due + k * 16) 16 (bytesOf x) (set l (8 + k) (num d))
 
-pub length-dvalueIn : (due k : ℕ) (d : Bool) (x : Block) (l : List ℕ) → length l ≡ 16 + due * 17 → k < due → length (dvalueIn due k d x l) ≡ length l
+pub length-dvalueIn : (due k : ℕ) (d : Bool) (x : Block) (l : List ℕ) → length l ≡ 16 + due * 17 → k < due
+    → length (dvalueIn due k d x l) ≡ length l
 unfolding dvalueIn
 length-dvalueIn due k d x l h j =
     length-put (16 + due + k * 16) 16 (bytesOf x) (set l (8 + k) (num d)) (length-bytesOf x) (omega (arith, length-set l (8 + k) (num d)))
@@ -93,7 +94,8 @@ module _ (due : ℕ) (d : ℕ → Bool) (x : ℕ → Block) where
 
           after : take 16 (drop (8 + j * 16) (drop (8 + due) written)) ≡ bytesOf (x j)
           after =
-              ap (take 16) (drop-drop (8 + j * 16) (8 + due) written ∙ ap (λ n. drop n written) (let p : 8 + due + (8 + j * 16) ≡ at = omega arith in p))
+              ap (take 16)
+              (drop-drop (8 + j * 16) (8 + due) written ∙ ap (λ n. drop n written) (let p : 8 + due + (8 + j * 16) ≡ at = omega arith in p))
               ∙ get-put-same at 16 (bytesOf (x j)) once (length-bytesOf (x j)) (omega (arith, once-long))
 
   pub filled-end : (l : List ℕ) → Filled due d x due l → l ≡ dvalueItem due d x

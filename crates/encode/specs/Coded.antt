@@ -33,7 +33,8 @@ num-le true = omega arith
 num-le false = omega arith
 
 -- ---- a fixed number of bytes, the first c of them bools
-pub coded-items : (size c : ℕ) (x : List ℕ) → 0 < size → c ≤ size → length x ≡ size → ((k : ℕ) → k < c → getD x k 0 ≤ 1) → Coded (Items size c) x
+pub coded-items : (size c : ℕ) (x : List ℕ) → 0 < size → c ≤ size → length x ≡ size → ((k : ℕ) → k < c → getD x k 0 ≤ 1)
+    → Coded (Items size c) x
 unfolding innerDue
 coded-items size c x h l e b = record {
   len = λ rest. items-some size c (x ++ rest) (omega (arith, length-append x rest)) (bools-of (x ++ rest) c (λ k j. bit rest k j)) ∙ sym e;
@@ -143,7 +144,8 @@ coded-dm x h = record { len = long; some = omega (arith, length-dm x); due = λ 
     long : (rest : List ℕ) → vecLen 1 (dmItem x ++ rest) ≡ length (dmItem x)
     long rest =
         let e = count-dm x rest h in
-        let n : 8 + wordAt (dmItem x ++ rest) 0 * 1 ≤ length (dmItem x ++ rest) = rw e (omega (arith, length-append (dmItem x) rest, length-dm x)) in
+        let n : 8 + wordAt (dmItem x ++ rest) 0 * 1 ≤ length (dmItem x ++ rest) =
+        rw e (omega (arith, length-append (dmItem x) rest, length-dm x)) in
         vec-some 1 (dmItem x ++ rest) n ∙ omega (arith, e, length-dm x)
 
 -- ---- a bucket
@@ -272,7 +274,8 @@ bytes-dm x h = bytes-append (le8 (length x)) x (bytes-le8 (length x)) h
 pub bytes-dvalue : (c : ℕ) (d : ℕ → Bool) (x : ℕ → Block) → Bytes (dvalueItem c d x)
 unfolding dvalueItem
 bytes-dvalue c d x =
-    bytes-append (ds c d x) (macs c d x) (bytes-encode c (λ k. num (d k) ∷ []) (λ k l. bytes-cons (num (d k)) [] (byte-num (d k)) bytes-nil))
+    bytes-append (ds c d x) (macs c d x)
+    (bytes-encode c (λ k. num (d k) ∷ []) (λ k l. bytes-cons (num (d k)) [] (byte-num (d k)) bytes-nil))
     (bytes-encode c (λ k. bytesOf (x k)) (λ k l. bytes-bytesOf (x k)))
 
 pub bytes-none : Bytes noneItem

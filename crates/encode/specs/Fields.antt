@@ -17,7 +17,8 @@ use Rattle.block.specs.Trip.{length-le8, length-bytesOf, word-ext, block-ext, b
 use Rattle.message.specs.declared.Kind.the-variants.{Items, Dms, Dvalues, Options}
 use Rattle.message.specs.Format.{itemAt}
 use Rattle.encode.specs.Encode.{encode, bitBlock, twoBits, threeHashes, twoBitsTwoBlocks, dmItem, dvalueItem, noneItem, someItem}
-use Rattle.encode.specs.Coded.{length-bitBlock, length-twoBits, length-threeHashes, length-twoBitsTwoBlocks, length-dm, count-dm, ds, macs, length-ds, length-dvalue, length-some}
+use Rattle.encode.specs.Coded.{length-bitBlock, length-twoBits, length-threeHashes, length-twoBitsTwoBlocks, length-dm, count-dm, ds}
+use Rattle.encode.specs.Coded.{macs, length-ds, length-dvalue, length-some}
 use Rattle.encode.specs.RoundTrip.{Trip, encode-item, even-item}
 
 pub cat-tab : (n : ℕ) (f : ℕ → ℕ) → cat n (λ t. f t ∷ []) ≡ tab n f
@@ -87,7 +88,8 @@ module _ (c : ℕ) (a b : ℕ → Bool) (m : List ℕ) (w : Trip (Items 2 2) c (
 module _ (c : ℕ) (d e : ℕ → Bool) (x y : ℕ → Block) (m : List ℕ) (w : Trip (Items 34 2) c (λ t. twoBitsTwoBlocks (d t) (e t) (x t) (y t)) m) (t : ℕ) (l : t < c) where
   item34 : take 34 (drop (8 + t * 34) m) ≡ twoBitsTwoBlocks (d t) (e t) (x t) (y t)
   item34 =
-      even-item (Items 34 2) 34 c (λ t. twoBitsTwoBlocks (d t) (e t) (x t) (y t)) (λ j k. length-twoBitsTwoBlocks (d j) (e j) (x j) (y j)) m w t l
+      even-item (Items 34 2) 34 c (λ t. twoBitsTwoBlocks (d t) (e t) (x t) (y t))
+      (λ j k. length-twoBitsTwoBlocks (d j) (e j) (x j) (y j)) m w t l
 
   pub blocks-d : (p : ℕ) → p ≡ 8 + t * 34 → odd (getD m p 0) ≡ d t
   unfolding twoBitsTwoBlocks
@@ -198,7 +200,8 @@ module _ (c due : ℕ) (d : ℕ → ℕ → Bool) (x : ℕ → ℕ → Block) (m
 
   pub dvalue-d : (p : ℕ) → p ≡ 8 + t * (16 + due * 17) + 8 + k → odd (getD m p 0) ≡ d t k
   dvalue-d p q =
-      ap odd (byte-in m _ (16 + due * 17) start itemDvalue (8 + k) p (omega arith) (omega arith) ∙ dvalue-bit due (d t) (x t) k j) ∙ odd-num (d t k)
+      ap odd (byte-in m _ (16 + due * 17) start itemDvalue (8 + k) p (omega arith) (omega arith) ∙ dvalue-bit due (d t) (x t) k j)
+      ∙ odd-num (d t k)
 
   pub dvalue-mac : Small (x t k) → (p : ℕ) → p ≡ 8 + t * (16 + due * 17) + 16 + due + k * 16 → blockAt m p ≡ x t k
   dvalue-mac h p q =

@@ -10,7 +10,8 @@ use Rattle.block.specs.declared.Block.{Block}
 use Rattle.block.specs.Block.{bytesOf}
 use Rattle.message.specs.declared.Kind.the-variants.{Items, Dms, Dvalues, Options}
 use Rattle.encode.specs.Encode.{encode, bitBlock, twoBits, threeHashes, twoBitsTwoBlocks, dmItem, dvalueItem, noneItem, someItem}
-use Rattle.encode.specs.Coded.{Coded, coded-byte, coded-hash, coded-bitBlock, coded-threeHashes, coded-block, coded-twoBits, coded-twoBitsTwoBlocks, coded-dm, coded-dvalue, coded-none, coded-some}
+use Rattle.encode.specs.Coded.{Coded, coded-byte, coded-hash, coded-bitBlock, coded-threeHashes, coded-block, coded-twoBits}
+use Rattle.encode.specs.Coded.{coded-twoBitsTwoBlocks, coded-dm, coded-dvalue, coded-none, coded-some}
 use Rattle.encode.specs.RoundTrip.{Trip, trip}
 
 module _ (c : ℕ) (small : c < 2 ^ 64) (rest : List ℕ) where
@@ -35,7 +36,8 @@ module _ (c : ℕ) (small : c < 2 ^ 64) (rest : List ℕ) where
       (λ t l. coded-threeHashes (h0 t) (h1 t) (h2 t) (long t l .0) (long t l .1 .0) (long t l .1 .1)) rest
 
   -- `fashare ver`: dms
-  pub trip-dms : (x : ℕ → List ℕ) → ((t : ℕ) → t < c → length (x t) < 2 ^ 64) → Trip Dms c (λ t. dmItem (x t)) (encode c (λ t. dmItem (x t)) ++ rest)
+  pub trip-dms : (x : ℕ → List ℕ) → ((t : ℕ) → t < c → length (x t) < 2 ^ 64)
+      → Trip Dms c (λ t. dmItem (x t)) (encode c (λ t. dmItem (x t)) ++ rest)
   trip-dms x short = trip Dms c (λ t. dmItem (x t)) small (λ t l. coded-dm (x t) (short t l)) rest
 
   -- `fashare di_bi`, `flaand hash`: Blocks

@@ -49,7 +49,8 @@ module _ (c : ℕ) (g : ℕ → List ℕ) (rest : List ℕ) where
           ∙ cat-part c g t l
 
   -- items of one length
-  pub encode-item : (size : ℕ) → ((t : ℕ) → t < c → length (g t) ≡ size) → (t : ℕ) → t < c → take size (drop (8 + t * size) (encode c g ++ rest)) ≡ g t
+  pub encode-item : (size : ℕ) → ((t : ℕ) → t < c → length (g t) ≡ size) → (t : ℕ) → t < c
+      → take size (drop (8 + t * size) (encode c g ++ rest)) ≡ g t
   encode-item size long t l =
       ap (λ a. take size (drop (8 + a) (encode c g ++ rest))) (sym (length-cat t size g (λ j k. long j (omega arith))))
       ∙ ap (take size) (item-front t l) ∙ take-at (g t) (behind t) size (long t l)

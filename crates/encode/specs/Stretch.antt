@@ -41,7 +41,9 @@ module _ (c : ℕ) (g : ℕ → List ℕ) where
   -- a loop that begins here knows the buffer with the count in it
   pub stretch-self : (j a : ℕ) (l d : List ℕ) → Stretch j a l d → Stretch j a d d
   stretch-self j a l d w = record {
-    here = w .here ∙ ap (λ (s : List ℕ). cat (j + 1) headed ++ s) (sym (ap (drop a) (w .here) ∙ drop-at (cat (j + 1) headed) (drop a l) a (w .at)));
+    here =
+        w .here
+        ∙ ap (λ (s : List ℕ). cat (j + 1) headed ++ s) (sym (ap (drop a) (w .here) ∙ drop-at (cat (j + 1) headed) (drop a l) a (w .at)));
     at = w .at;
     fits = omega (arith, w .fits, w .same);
     same = refl;
@@ -60,7 +62,8 @@ module _ (c : ℕ) (g : ℕ → List ℕ) where
 
   -- ---- items of one length: item t from 8 + t * size on
   module _ (size : ℕ) (long : (t : ℕ) → t < c → length (g t) ≡ size) where
-    pub even-turn : (t e : ℕ) (l d x : List ℕ) → length l ≡ 8 + c * size → t < c → Stretch t (8 + t * size) l d → x ≡ g t → e ≡ 8 + t * size + size
+    pub even-turn : (t e : ℕ) (l d x : List ℕ) → length l ≡ 8 + c * size → t < c → Stretch t (8 + t * size) l d → x ≡ g t
+        → e ≡ 8 + t * size + size
         → Stretch (t + 1) (8 + (t + 1) * size) l (putMid (8 + t * size) (e - (8 + t * size)) d x)
     even-turn t e l d x n h w hx he =
         stretch-turn t (8 + t * size) e (8 + (t + 1) * size) l d x w hx (ap (λ k. 8 + t * size + k) (long t h) ∙ sym he)

@@ -11,14 +11,16 @@ use lib.Dec.{leb, eqb}
 use borrow.Author.Tests.{le-leb, eqb-true, eqb-false, eq-eqb, ne-eqb}
 use Rattle.lists.specs.Pick.{pick}
 use Rattle.lists.specs.All.{allOf, of-all, true-false, and-false}
-use Rattle.engine.specs.Step.{Frame, frame, Session, Loan, Lent, Accepted, Outcome, Fault, Protocol, mask, part, heard, reasonOf, faultOf, accepted, roundSpec}
+use Rattle.engine.specs.Step.{Frame, frame, Session, Loan, Lent, Accepted, Outcome, Fault, Protocol, mask, part, heard, reasonOf}
+use Rattle.engine.specs.Step.{faultOf, accepted, roundSpec}
 use Rattle.engine.specs.StepLaws.{round-faults, round-cases, Due, due-of, last-or, or-zero, fault-clean, mask-at}
 use Rattle.engine.specs.World.{Box, turnedBox, sessionOf}
 use Rattle.engine.specs.OneBox.{Turn, turnBox, turns, Reads, AllRead, alive-some}
 use Rattle.engine.specs.Area.{off, putSec, length-putSec, sec-other, toOthers, toOthers-ext, mem, Every, every-mem}
 use Rattle.engine.specs.Sheet.{Store, Known}
 use Rattle.engine.specs.Order.{nextIn}
-use Rattle.engine.specs.Plain.{Table, prior, isEcho, nextOf, numberOf, toEcho, lentOf, formAt, listAt, pending, digests, echoCheck, checkOf, waits, kept, held, made, keepOf, writeOf, protocolOf}
+use Rattle.engine.specs.Plain.{Table, prior, isEcho, nextOf, numberOf, toEcho, lentOf, formAt, listAt, pending, digests, echoCheck}
+use Rattle.engine.specs.Plain.{checkOf, waits, kept, held, made, keepOf, writeOf, protocolOf}
 use Rattle.engine.specs.Honest.{Lawful, before, due, plainAfter}
 use Rattle.engine.specs.PlainLaws.{length-rows, held-waits, first-plain, no-two, echo-not-last, next-on, next-echo, next-plain}
 

@@ -10,7 +10,8 @@ use lib.Dec.{leb, eqb}
 use borrow.Author.Tests.{eq-eqb, ne-eqb, eqb-true, eqb-false}
 use Rattle.lists.specs.Pick.{pick}
 use Rattle.lists.specs.All.{true-false, and-false}
-use Rattle.engine.specs.Step.{Frame, frame, Session, Loan, nothing, Lent, Reply, Accepted, Refused, Outcome, Protocol, mask, heard, accepted, roundSpec}
+use Rattle.engine.specs.Step.{Frame, frame, Session, Loan, nothing, Lent, Reply, Accepted, Refused, Outcome, Protocol, mask, heard}
+use Rattle.engine.specs.Step.{accepted, roundSpec}
 use Rattle.engine.specs.StepLaws.{round-faults, round-cases, Due, due-of}
 use Rattle.engine.specs.World.{Box, turnedBox, sessionOf}
 use Rattle.engine.specs.Order.{roundIn, nextIn}

@@ -23,7 +23,8 @@ use Rattle.engine.specs.Honest.{orderTest, courseTest, Lawful, before, d
 use Rattle.engine.specs.Honest.{ListAt, SendAt, LastAt, Honest, momentOf, readyOf, valOf, sentOf, sheetOf, loansOf}
 use Rattle.engine.specs.Order.{echoIn, roundIn, nextIn}
 use Rattle.engine.specs.Plain.{Table, rowsOf, prior, isEcho, nextOf, numberOf, stepsOf, toEcho, lenOf, formAt}
-use Rattle.engine.specs.Plain.{listAt, pending, hashes, digests, echoCheck, checkOf, waits, waiting, kept, held, made, keepOf, writeOf, protocolOf}
+use Rattle.engine.specs.Plain.{listAt, pending, hashes, digests, echoCheck, checkOf, waits, waiting, kept, held, made, keepOf}
+use Rattle.engine.specs.Plain.{writeOf, protocolOf}
 
 -- ---- rows of 16 bytes
 module _ (f : Frame) (h : ℕ → List ℕ) where

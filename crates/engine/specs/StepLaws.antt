@@ -14,7 +14,8 @@ use Rattle.lists.specs.Pick.{pick, pick-else}
 use Rattle.lists.specs.All.{all-of, not-false}
 use Rattle.algebra.specs.Sum.{neq, neq-true, apart?, Same, apart}
 use Rattle.engine.specs.Step.{Frame, Session, Lent, Refused, Outcome, outcome, Fault, Rule, Protocol, other, mask, gone, part, heard}
-use Rattle.engine.specs.Step.{inside, partsIn, lengthsDue, reasonOf, orElse, scan, byParty, formFault, faultOf, ended, refused, faulted}
+use Rattle.engine.specs.Step.{inside, partsIn, lengthsDue, reasonOf, orElse, scan, byParty, formFault, faultOf, ended, refused}
+use Rattle.engine.specs.Step.{faulted}
 use Rattle.engine.specs.Step.{accepted, roundSpec}
 
 -- ---- the three cases

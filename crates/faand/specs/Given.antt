@@ -18,8 +18,8 @@ use Rattle.rounds.specs.Beaver as R
 use Rattle.area.specs.Given.{Work, Place}
 use Rattle.area.specs.GivenLaws.{length-at, section-inside}
 use Rattle.area.specs.Sizes.{size-alpha, size-beta, size-triples}
-use Rattle.dvalue.specs.Given.{lent-is}
-use Rattle.dvalue.specs.Entries.{yAt, y-within}
+use Rattle.buckets.specs.Given.{lent-is}
+use Rattle.buckets.specs.Entries.{yAt, y-within}
 use Rattle.faand.specs.declared.Places.{Places}
 use Rattle.faand.specs.declared.Records.{Records}
 

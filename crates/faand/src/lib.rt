@@ -83,7 +83,7 @@ fn bucket(work: &[u8], at: Places, f: Frame, j: usize) -> Records
 {
     let len = share::record_len(f.n);
     let perm = area::lent(work, at.perm);
-    let b = at.recs + dvalue::y_at(perm, f, j, 0);
+    let b = at.recs + buckets::y_at(perm, f, j, 0);
     let a = at.triples + j * (2 * len);
     let x = j * len;
     Records {

@@ -40,8 +40,10 @@ module _ {f : Frame} {w : List ℕ} (h : Work f w) (m : ℕ → List ℕ) where
       ≡ hs f (delta f w) (at f BITS w) (at f LEAKY w) (at f ZS w) m
   unfolding delta
   hs-same =
-      ap₂ (λ (d r : List ℕ). hs f (blockAt d 0) r (at f LEAKY after) (at f ZS after) m) (same DELTA (λ e. omega arith)) (same BITS (λ e. omega arith))
-      ∙ ap₂ (λ (y z : List ℕ). hs f (blockAt (at f DELTA w) 0) (at f BITS w) y z m) (same LEAKY (λ e. omega arith)) (same ZS (λ e. omega arith))
+      ap₂ (λ (d r : List ℕ). hs f (blockAt d 0) r (at f LEAKY after) (at f ZS after) m) (same DELTA (λ e. omega arith))
+      (same BITS (λ e. omega arith))
+      ∙ ap₂ (λ (y z : List ℕ). hs f (blockAt (at f DELTA w) 0) (at f BITS w) y z m) (same LEAKY (λ e. omega arith))
+      (same ZS (λ e. omega arith))
 
   pub both-kept : (v u : List ℕ) → v ≡ keep f ES (eRows f m) w
       → u ≡ keep f HS (hs f (delta f v) (at f BITS v) (at f LEAKY v) (at f ZS v) m) v

@@ -33,7 +33,8 @@ use Rattle.engine.specs.Step.{Fault, orElse, byParty}
 use Rattle.engine.specs.StepLaws.{other-cases, or-none, scan-ext}
 use Rattle.engine.specs.Sheet.{Store, Known, staysTest}
 use Rattle.engine.specs.Honest.{before, due, storeOf, SendAt, RecvAt, ListAt, LastAt}
-use Rattle.rounds.specs.Area.{DELTA, SEED, PAIRS, MASKS, BITS, ALPHA, BETA, COMMS, PAIR-COMMS, KEY-SUMS, SHARE-COMMS, DMS, LEAKY, ZS, ES, HS, H-COMMS, PERM, DS, TRIPLES, ROUNDS-OWN, sizeOf, at, keep, firstOf}
+use Rattle.rounds.specs.Area.{DELTA, SEED, PAIRS, MASKS, BITS, ALPHA, BETA, COMMS, PAIR-COMMS, KEY-SUMS, SHARE-COMMS, DMS, LEAKY, ZS, ES}
+use Rattle.rounds.specs.Area.{HS, H-COMMS, PERM, DS, TRIPLES, ROUNDS-OWN, sizeOf, at, keep, firstOf}
 use Rattle.rounds.specs.Table.{delta}
 use Rattle.alone.specs.Base.{has-at}
 use Rattle.alone.specs.Base as A

@@ -39,9 +39,11 @@ use Rattle.alone.specs.BucketsLaws.{first-in}
 use Rattle.alone.specs.BeaverLaws.{agree-finish}
 use Rattle.honest.specs.Script as S
 use Rattle.honest.specs.Inputs.{Run, box, Boxes, Inputs, deltas, alphasOf, betasOf, small-bits, small-alpha, small-beta}
-use Rattle.honest.specs.Base.{Sends, Ends, list-form, list-len, Fit, delta-is, bits-at, alpha-at, beta-at, zs-at, es-at, perm-at, ds-at, triples-at, keep-one, Reads}
+use Rattle.honest.specs.Base.{Sends, Ends, list-form, list-len, Fit, delta-is, bits-at, alpha-at, beta-at, zs-at, es-at, perm-at}
+use Rattle.honest.specs.Base.{ds-at, triples-at, keep-one, Reads}
 use Rattle.honest.specs.Values.{share-y, LeakyTriples}
-use Rattle.honest.specs.Buckets.{item-byte, item-block, open-all, passes, aOf, bOf, cOf, place, entry-is, good-y, l-small, length-triples, bytes-triples, a-read, c-read, small-a, small-c, abc-triple}
+use Rattle.honest.specs.Buckets.{item-byte, item-block, open-all, passes, aOf, bOf, cOf, place, entry-is, good-y, l-small}
+use Rattle.honest.specs.Buckets.{length-triples, bytes-triples, a-read, c-read, small-a, small-c, abc-triple}
 
 -- ---- a message of two bits and two Blocks each
 module _ (c : ℕ) (p q : ℕ → Bool) (x y : ℕ → Block) (small : c < 2 ^ 64) (t : ℕ) (lt : t < c) where
@@ -87,7 +89,8 @@ module _ (i : ℕ) (c β a : Shared Block) (p q : Bool) where
   unfolding B.finish
   share-finish =
       share-of-op i (shared blocks .op c (sel (shared blocks) p β)) (sel (shared blocks) q a)
-      ∙ ap₂ (shares .op) (share-of-op i c (sel (shared blocks) p β) ∙ ap (shares .op (shareOf i c)) (share-of-sel i p β)) (share-of-sel i q a)
+      ∙ ap₂ (shares .op) (share-of-op i c (sel (shared blocks) p β) ∙ ap (shares .op (shareOf i c)) (share-of-sel i p β))
+      (share-of-sel i q a)
 
 module _ (n : ℕ) (c β a : Share) (p q : Bool) where
   small-finish : SmallShare n c → SmallShare n β → SmallShare n a → SmallShare n (B.finish c β a p q)

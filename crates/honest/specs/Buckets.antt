@@ -39,7 +39,8 @@ use Rattle.engine.specs.Honest.{before, due, plainAfter}
 use Rattle.rounds.specs.Area.{PERM, DS, sizes, sizeOf}
 use Rattle.rounds.specs.Table.{judge, kept, held, written}
 use Rattle.rounds.specs.Haand.{x, y}
-use Rattle.rounds.specs.Buckets.{entry, later, d, dvalueMsg, bucketAt, dTold, dMacTold, dFaults, dOpened, leakyAnd, abc, tripleRow, tripleRows}
+use Rattle.rounds.specs.Buckets.{entry, later, d, dvalueMsg, bucketAt, dTold, dMacTold, dFaults, dOpened, leakyAnd, abc, tripleRow}
+use Rattle.rounds.specs.Buckets.{tripleRows}
 use Rattle.rounds.specs.Buckets as B
 use Rattle.rounds.specs.Beaver as Beaver
 use Rattle.alone.specs.Cells.{row-byte, row-block}

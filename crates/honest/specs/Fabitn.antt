@@ -32,7 +32,8 @@ use Rattle.rounds.specs.Fabitn.{picks, bitSum, macSum, keySum, abitMsg, keySums
 use Rattle.rounds.specs.EchoLaws.{length-hashVec}
 use Rattle.honest.specs.Script as S
 use Rattle.honest.specs.Inputs.{Run, box, Boxes, deltas, bitsOf}
-use Rattle.honest.specs.Base.{Receives, Sends, Hashes, first-none, list-len, Fit, delta-is, bits-at, key-sums-at, keep-none, keep-one, Reads, reads}
+use Rattle.honest.specs.Base.{Receives, Sends, Hashes, first-none, list-len, Fit, delta-is, bits-at, key-sums-at, keep-none, keep-one}
+use Rattle.honest.specs.Base.{Reads, reads}
 use Rattle.alone.specs.Cells.{length-cells, cell}
 use Rattle.honest.specs.Firsts.{pairs-trip, bit-read, block-read, hash-bits}
 

@@ -43,14 +43,16 @@ use Rattle.engine.specs.Order.{echoIn}
 use Rattle.engine.specs.Honest.{before, due, plainAfter}
 use Rattle.rounds.specs.Area.{SHARE-COMMS, DMS, sizes, sizeOf, rows}
 use Rattle.rounds.specs.Table.{judge, kept, held, written}
-use Rattle.rounds.specs.Fashare.{own, d0, d1, dm, dmMac, commMsg, commRows, verMsg, dmAt, dmFault, dmFaults, dmRows, dmRow, others1, dibiMsg, macsFor, dibiFault, dibiFaults}
+use Rattle.rounds.specs.Fashare.{own, d0, d1, dm, dmMac, commMsg, commRows, verMsg, dmAt, dmFault, dmFaults, dmRows, dmRow, others1}
+use Rattle.rounds.specs.Fashare.{dibiMsg, macsFor, dibiFault, dibiFaults}
 use Rattle.alone.specs.Base.{rows-ext}
 use Rattle.alone.specs.FashareLaws.{dm-some}
 use Rattle.blake3.specs.ByteLaws.{length-hash}
 use Rattle.rounds.specs.EchoLaws.{length-hashVec}
 use Rattle.honest.specs.Script as S
 use Rattle.honest.specs.Inputs.{Run, box, Boxes, deltas, bitsOf}
-use Rattle.honest.specs.Base.{Receives, Sends, Hashes, first-none, list-form, list-len, Fit, delta-is, bits-at, share-comms-at, dms-at, keep-none, keep-one, Reads, reads}
+use Rattle.honest.specs.Base.{Receives, Sends, Hashes, first-none, list-form, list-len, Fit, delta-is, bits-at, share-comms-at}
+use Rattle.honest.specs.Base.{dms-at, keep-none, keep-one, Reads, reads}
 use Rattle.alone.specs.Cells.{head-part, items-row, length-cells, cell}
 
 -- ---- the commitments

@@ -54,7 +54,8 @@ module _ (c : ℕ) (b : ℕ → Bool) (x : ℕ → Block) (small : c < 2 ^ 64) w
   pub firsts-bits : firsts 17 (encode c (λ t. bitBlock (b t) (x t))) ≡ encode c (λ t. num (b t) ∷ [])
   unfolding firsts encode
   firsts-bits =
-      let e : (length msg - 8) / 17 ≡ c = omega (arith, length-encode 17 c (λ t. bitBlock (b t) (x t)) (λ t l. length-bitBlock (b t) (x t))) in
+      let e : (length msg - 8) / 17 ≡ c =
+      omega (arith, length-encode 17 c (λ t. bitBlock (b t) (x t)) (λ t l. length-bitBlock (b t) (x t))) in
       ap₂ _++_ (take-at (le8 c) (cat c (λ t. bitBlock (b t) (x t))) 8 (length-le8 c))
       (ap (λ k. tab k (λ t. getD msg (8 + t * 17) 0)) e ∙ tab-ext c (λ t. getD msg (8 + t * 17) 0) (λ t. num (b t)) bit-byte
       ∙ sym (cat-tab c (λ t. num (b t))))

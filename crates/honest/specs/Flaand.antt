@@ -37,7 +37,8 @@ use Rattle.engine.specs.Honest.{before, due, plainAfter}
 use Rattle.rounds.specs.Area.{ES, HS, H-COMMS, SECTIONS, sizes, sizeOf, at, rows}
 use Rattle.rounds.specs.Table.{judge, kept, held, written}
 use Rattle.rounds.specs.Haand.{x, y, r, G, phi, u, phiAt, keyHash, uAt, zAt, macHash}
-use Rattle.rounds.specs.Flaand.{e, flaandMsg, eTold, uTold, eRows, zKey, h, hs, commMsg, ownComms, commRows, hashMsg, hTold, opening, zeroSum, hFaults}
+use Rattle.rounds.specs.Flaand.{e, flaandMsg, eTold, uTold, eRows, zKey, h, hs, commMsg, ownComms, commRows, hashMsg, hTold, opening}
+use Rattle.rounds.specs.Flaand.{zeroSum, hFaults}
 use Rattle.rounds.specs.FlaandLaws.{length-ownComms}
 use Rattle.alone.specs.Base.{rows-ext}
 use Rattle.alone.specs.HaandLaws.{small-G, small-phi, small-u, phi-read, key-hash-read, u-read, mac-hash-read}
@@ -46,7 +47,8 @@ use Rattle.blake3.specs.ByteLaws.{length-hash}
 use Rattle.rounds.specs.EchoLaws.{length-hashVec}
 use Rattle.honest.specs.Script as S
 use Rattle.honest.specs.Inputs.{Run, box, Boxes, deltas, small-delta}
-use Rattle.honest.specs.Base.{stored, Receives, Sends, Hashes, list-form, list-len, Fit, delta-is, bits-at, leaky-at, zs-at, hs-at, h-comms-at, keep-none, keep-free, keep-one, keep-two, Reads, reads}
+use Rattle.honest.specs.Base.{stored, Receives, Sends, Hashes, list-form, list-len, Fit, delta-is, bits-at, leaky-at, zs-at, hs-at}
+use Rattle.honest.specs.Base.{h-comms-at, keep-none, keep-free, keep-one, keep-two, Reads, reads}
 use Rattle.alone.specs.Cells.{items-row, length-cells, cell}
 use Rattle.honest.specs.Firsts.{pairs-trip, bit-read, block-read, hash-bits}
 use Rattle.honest.specs.Haand.{leaky-small, and-z}
@@ -181,7 +183,8 @@ module _ (R : Run) (X : Boxes R) where
       small-xor _ _
       (small-xor _ _
       (small-others i n _ (λ j lj.
-      small-xor _ _ (small-xor _ _ (small-xor _ _ (small-xor _ _ (sz .mac j lj) (sz .key j lj)) (small-G (x .key i j))) (small-G (x .mac i j)))
+      small-xor _ _
+      (small-xor _ _ (small-xor _ _ (small-xor _ _ (sz .mac j lj) (sz .key j lj)) (small-G (x .key i j))) (small-G (x .mac i j)))
       (small-sel (x .bit i) _ (small-u (box R j) (deltas R j) (inputs j .bits) (sd j lj) (X .own j lj .bits-bytes) t i))))
       (small-sel (x .bit i) _ (small-phi (box R i) (deltas R i) (inputs i .bits) (sd i li) (X .own i li .bits-bytes) t)))
       (small-sel (z .bit i) (deltas R i) (sd i li))

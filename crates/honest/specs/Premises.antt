@@ -74,7 +74,8 @@ mask-bit a h k t lk ne lt =
     let row : ℕ → Bool = λ k. allOf (leaky (a .party .l)) (λ t. leb (getD (a .masks) (k * leaky (a .party .l) + t) 0) 1) in
     let all = pick-then (allOf (a .party .n) (λ k. pick (neq (a .party .i) k) (row k) true)) _ _ _ (not-zero 0) h .0 in
     let mine : row k ≡ true =
-    ap (λ b. pick b (row k) true) (sym (neq-true (a .party .i) k ne)) ∙ of-all (a .party .n) (λ k. pick (neq (a .party .i) k) (row k) true) all k lk in
+    ap (λ b. pick b (row k) true) (sym (neq-true (a .party .i) k ne))
+    ∙ of-all (a .party .n) (λ k. pick (neq (a .party .i) k) (row k) true) all k lk in
     leb-true _ 1 (of-all (leaky (a .party .l)) _ mine t lt)
 
 -- the lengths of the lists, and of the buffers

@@ -37,7 +37,8 @@ use Rattle.blake3.specs.ByteLaws.{length-hash}
 use Rattle.rounds.specs.EchoLaws.{length-hashVec}
 use Rattle.honest.specs.Script as S
 use Rattle.honest.specs.Inputs.{Run, box, Boxes}
-use Rattle.honest.specs.Base.{Receives, Sends, Hashes, list-form, list-len, Fit, seed-at, pairs-at, comms-at, pair-comms-at, keep-none, keep-one, Reads}
+use Rattle.honest.specs.Base.{Receives, Sends, Hashes, list-form, list-len, Fit, seed-at, pairs-at, comms-at, pair-comms-at}
+use Rattle.honest.specs.Base.{keep-none, keep-one, Reads}
 
 -- ---- a message with a commitment, and one with a seed
 pub length-commitment : (seed : List ℕ) (j : ℕ) → length (commitment seed j) ≡ 32

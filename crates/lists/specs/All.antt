@@ -61,7 +61,8 @@ unfolding allOf
 of-all zero f h j l = absurd (omega arith)
 of-all (suc n) f h j l = go (allOf n f) refl (f n) refl h (of-all n f)
   where
-    go : (a : Bool) → allOf n f ≡ a → (b : Bool) → f n ≡ b → (a && b) ≡ true → (allOf n f ≡ true → (j : ℕ) → j < n → f j ≡ true) → f j ≡ true
+    go : (a : Bool) → allOf n f ≡ a → (b : Bool) → f n ≡ b → (a && b) ≡ true → (allOf n f ≡ true → (j : ℕ) → j < n → f j ≡ true)
+        → f j ≡ true
     go true ea b eb h ih = last (ltb j n) refl
       where
         last : (t : Bool) → ltb j n ≡ t → f j ≡ true

@@ -13,7 +13,9 @@ use Rattle.block.specs.Block.{wordAt}
 use Rattle.block.specs.Trip.{word-drop}
 use Rattle.message.specs.declared.Kind.the-variants.{Items, Dvalues, Options}
 use Rattle.message.specs.Format.{bools, vecLen, itemLen, innerDue}
-use Rattle.message.specs.FormatLaws.{word-at, and-true, first-false, bools-false, bools-past, Held, vec-some, vec-none, vec-held, vec-le, items-some, items-short, items-not, bucket-some, bucket-short, bucket-not, bucket-bare, bucket-held}
+use Rattle.message.specs.FormatLaws.{word-at, and-true, first-false, bools-false, bools-past, Held, vec-some, vec-none, vec-held}
+use Rattle.message.specs.FormatLaws.{vec-le, items-some, items-short, items-not, bucket-some, bucket-short, bucket-not, bucket-bare}
+use Rattle.message.specs.FormatLaws.{bucket-held}
 
 -- ---- bools
 pub bools-none : (s : List ℕ) → bools 0 s ≡ true
@@ -28,7 +30,8 @@ module _ (s : List ℕ) (at k : ℕ) where
       ∙ and-true _ _ e (ap (λ b. leb b 1) (getD-drop at s k 0) ∙ le-leb (getD s (at + k) 0) 1 h)
 
   pub bools-stop : (c : ℕ) → k < c → 1 < getD s (at + k) 0 → false ≡ bools c (drop at s)
-  bools-stop c l h = sym (bools-false (drop at s) c k l (let e : getD (drop at s) k 0 ≡ getD s (at + k) 0 = getD-drop at s k 0 in omega arith))
+  bools-stop c l h =
+      sym (bools-false (drop at s) c k l (let e : getD (drop at s) k 0 ≡ getD s (at + k) 0 = getD-drop at s k 0 in omega arith))
 
 -- ---- a count, and what is left for its items
 module _ (s : List ℕ) (at size : ℕ) (h : 0 < size) where

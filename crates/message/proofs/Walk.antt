@@ -52,7 +52,8 @@ module _ (K : Kind) (m : List ℕ) where
   unfolding innersDue
   inners-none = sym (all-zero (λ t. innerDue K (drop (itemAt K m t) m)))
 
-  pub inners-turn : (t pos : ℕ) → Walked K m t pos → (a b : Bool) → a ≡ innersDue K t m → b ≡ innerDue K (drop pos m) → (a && b) ≡ innersDue K (t + 1) m
+  pub inners-turn : (t pos : ℕ) → Walked K m t pos → (a b : Bool) → a ≡ innersDue K t m → b ≡ innerDue K (drop pos m)
+      → (a && b) ≡ innersDue K (t + 1) m
   unfolding innersDue
   inners-turn t pos w a b ea eb =
       ap₂ _&&_ ea (eb ∙ ap (λ x. innerDue K (drop x m)) (w .here)) ∙ sym (all-turn t (λ t. innerDue K (drop (itemAt K m t) m)))
@@ -74,6 +75,7 @@ module _ (K : Kind) (count : ℕ) (m : List ℕ) where
       d : decodes K m ≡ true
       d = decodes-of K m (record { head = h; item = λ j l. w .items j (omega arith) })
 
-      go : (b : Bool) → eqb found count ≡ b → _≡_ {A = ℕ} (pick (eqb found count && inner) 0 6) (pick (eqb found count && innersDue K count m) 0 6)
+      go : (b : Bool) → eqb found count ≡ b
+          → _≡_ {A = ℕ} (pick (eqb found count && inner) 0 6) (pick (eqb found count && innersDue K count m) 0 6)
       go true q = ap (λ x. pick (eqb found count && x) 0 6) (i ∙ ap (λ n. innersDue K n m) (e ∙ eqb-true found count q))
       go false q = rw q refl

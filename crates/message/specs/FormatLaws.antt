@@ -17,7 +17,8 @@ use Rattle.block.specs.Block.{wordAt}
 use Rattle.block.specs.Trip.{word-drop}
 use Rattle.message.specs.declared.Kind.{Kind}
 use Rattle.message.specs.declared.Kind.the-variants.{Items, Dms, Dvalues, Options}
-use Rattle.message.specs.Format.{bools, vecLen, bothLen, itemLen, itemAt, countOf, decodes, listLen, listOf, innerDue, innersDue, formOf}
+use Rattle.message.specs.Format.{bools, vecLen, bothLen, itemLen, itemAt, countOf, decodes, listLen, listOf, innerDue, innersDue}
+use Rattle.message.specs.Format.{formOf}
 
 -- ---- two tests at once
 pub and-true : (a b : Bool) → a ≡ true → b ≡ true → (a && b) ≡ true
@@ -326,7 +327,8 @@ module _ (K : Kind) (count : ℕ) (m : List ℕ) where
       }
 
 -- ---- items of a fixed size
-pub level-at : (K : Kind) (m : List ℕ) (size t : ℕ) → ((j : ℕ) → j < t → itemLen K (drop (itemAt K m j) m) ≡ size) → itemAt K m t ≡ 8 + t * size
+pub level-at : (K : Kind) (m : List ℕ) (size t : ℕ) → ((j : ℕ) → j < t → itemLen K (drop (itemAt K m j) m) ≡ size)
+    → itemAt K m t ≡ 8 + t * size
 unfolding itemAt
 level-at K m size zero h = rw (zero-mul size)
 level-at K m size (suc t) h =
@@ -454,7 +456,8 @@ buckets due count m h = record {
     both = of-all count (λ t. innerDue K (s t)) (w .inner-is)
 
     first : (t : ℕ) → t < count → wordAt (s t) 0 ≡ due
-    first t l = eqb-true (wordAt (s t) 0) due (and-first (eqb (wordAt (s t) 0) due) (eqb (wordAt (s t) (8 + wordAt (s t) 0)) due) (both t l))
+    first t l =
+        eqb-true (wordAt (s t) 0) due (and-first (eqb (wordAt (s t) 0) due) (eqb (wordAt (s t) (8 + wordAt (s t) 0)) due) (both t l))
 
     second : (t : ℕ) → t < count → wordAt (drop (8 + wordAt (s t) 0) (s t)) 0 ≡ due
     second t l =
@@ -471,4 +474,5 @@ buckets due count m h = record {
     place : (t k : ℕ) → t < count → getD (drop 8 (s t)) k 0 ≡ getD m (8 + t * (16 + due * 17) + 8 + k) 0
     place t k l =
         getD-drop 8 (s t) k 0 ∙ getD-drop (itemAt K m t) m (8 + k) 0
-        ∙ ap (λ i. getD m i 0) (let p : itemAt K m t + (8 + k) ≡ 8 + t * (16 + due * 17) + 8 + k = omega (arith, starts t (omega arith)) in p)
+        ∙ ap (λ i. getD m i 0)
+        (let p : itemAt K m t + (8 + k) ≡ 8 + t * (16 + due * 17) + 8 + k = omega (arith, starts t (omega arith)) in p)

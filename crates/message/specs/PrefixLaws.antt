@@ -17,8 +17,11 @@ use Rattle.block.specs.Block.{wordAt}
 use Rattle.block.specs.Trip.{word-take, word-drop}
 use Rattle.message.specs.declared.Kind.{Kind}
 use Rattle.message.specs.declared.Kind.the-variants.{Items, Dms, Dvalues, Options}
-use Rattle.message.specs.Format.{bools, vecLen, bothLen, itemLen, itemAt, countOf, decodes, listLen, listOf, innerDue, innersDue, formOf}
-use Rattle.message.specs.FormatLaws.{bools-of, of-bools, vec-some, vec-held, items-some, items-held, bucket-some, bucket-held, bucket-bytes, word-at, entry-held, item-le, Decoded, decoded, decodes-of, at-zero, at-le, list-some, list-le, formed, form-of}
+use Rattle.message.specs.Format.{bools, vecLen, bothLen, itemLen, itemAt, countOf, decodes, listLen, listOf, innerDue, innersDue}
+use Rattle.message.specs.Format.{formOf}
+use Rattle.message.specs.FormatLaws.{bools-of, of-bools, vec-some, vec-held, items-some, items-held, bucket-some, bucket-held}
+use Rattle.message.specs.FormatLaws.{bucket-bytes, word-at, entry-held, item-le, Decoded, decoded, decodes-of, at-zero, at-le}
+use Rattle.message.specs.FormatLaws.{list-some, list-le, formed, form-of}
 
 -- ---- one item
 module _ (j : ℕ) (s : List ℕ) where
@@ -45,7 +48,8 @@ module _ (j : ℕ) (s : List ℕ) where
       let f : 8 + wordAt s 0 * size ≤ length (take j s) = long (8 + wordAt s 0 * size) (omega (arith, w .is)) (w .fits) in
       vec-some size (take j s) (subst (λ v. 8 + v * size ≤ length (take j s)) (sym e) f) ∙ ap (λ v. 8 + v * size) e ∙ sym (w .is)
 
-bucket-cut : (due j : ℕ) (s : List ℕ) → 0 < itemLen (Dvalues due) s → itemLen (Dvalues due) s ≤ j → itemLen (Dvalues due) (take j s) ≡ itemLen (Dvalues due) s
+bucket-cut : (due j : ℕ) (s : List ℕ) → 0 < itemLen (Dvalues due) s → itemLen (Dvalues due) s ≤ j
+    → itemLen (Dvalues due) (take j s) ≡ itemLen (Dvalues due) s
 bucket-cut due j s h l =
     let w = bucket-held due s h in
     let b = bucket-bytes due s w in

@@ -132,9 +132,9 @@ fn bytes_fault(f: Frame, bits: &[u8], alpha: &[u8], beta: &[u8], masks: &[u8]) -
     let n = f.n;
     let i = f.i;
     let l = f.l;
-    let b = share::check_records(bits, n, i, plan::bits_count(l));
-    let x = share::check_records(alpha, n, i, l);
-    let y = share::check_records(beta, n, i, l);
+    let b = records::check_records(bits, n, i, plan::bits_count(l));
+    let x = records::check_records(alpha, n, i, l);
+    let y = records::check_records(beta, n, i, l);
     let m = unless(masks_good(masks, f), 1);
     first(b, first(x, first(y, m)))
 }

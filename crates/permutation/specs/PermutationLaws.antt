@@ -43,7 +43,8 @@ unfolding fresh
 of-fresh p t x h u l = eqb-false (getD p u 0) x (not-true _ (of-all t _ h u l))
 
 module _ (p : List ℕ) where
-  pub perm-of : ((t : ℕ) → t < length p → getD p t 0 < length p) → ((u t : ℕ) → u < t → t < length p → getD p u 0 ≡ getD p t 0 → ⊥) → isPerm p ≡ true
+  pub perm-of : ((t : ℕ) → t < length p → getD p t 0 < length p) → ((u t : ℕ) → u < t → t < length p → getD p u 0 ≡ getD p t 0 → ⊥)
+      → isPerm p ≡ true
   unfolding isPerm entryOk
   perm-of low far = all-of (length p) _ (λ t l. ap₂ _&&_ (lt-ltb _ _ (low t l)) (fresh-of p t _ (λ u w. far u t w l)))
 
@@ -191,7 +192,8 @@ module _ (p : List ℕ) (base : ℕ) where
       once e t l false = refl
 
       go : (b : Bool) → isPerm p ≡ b → b ≡ false
-      go true e = absurd (true-false (sym (all-of (length p) (onceIn p base) (λ t l. once e t l (ltb (place base (getD p t 0)) 16384))) ∙ h))
+      go true e =
+          absurd (true-false (sym (all-of (length p) (onceIn p base) (λ t l. once e t l (ltb (place base (getD p t 0)) 16384))) ∙ h))
       go false e = refl
 
   pub window-next : Done p base → window p base ≡ true → Done p (base + 16384)
@@ -206,7 +208,8 @@ module _ (p : List ℕ) (base : ℕ) where
       go false e = d u t w l (leb-false _ _ e) q
 
 -- the last stretch answers
-pub windows-end : (p : List ℕ) (base : ℕ) (r : Bool) → low p ≡ true → Done p base → length p - base ≤ 16384 → r ≡ window p base → r ≡ isPerm p
+pub windows-end : (p : List ℕ) (base : ℕ) (r : Bool) → low p ≡ true → Done p base → length p - base ≤ 16384 → r ≡ window p base
+    → r ≡ isPerm p
 windows-end p base true lo d h e =
     sym (perm-of p (of-low p lo) (λ u t w l. window-next p base d (sym e) u t w l (omega (arith, of-low p lo t l))))
 windows-end p base false lo d h e = sym (window-bad p base (sym e))
@@ -230,7 +233,9 @@ module _ (p : List ℕ) (base : ℕ) (m : List ℕ) (t y : ℕ) (k : Marked p ba
   -- an entry seen before
   pub seen-stops : y < 16384 → getD m y 0 ≢ 0 → window p base ≡ false
   unfolding window onceIn
-  seen-stops h n = all-false (length p) (onceIn p base) t l (rw (lt-ltb (place base (getD p t 0)) 16384 (omega arith)) (go (fresh p t (getD p t 0)) refl))
+  seen-stops h n =
+      all-false (length p) (onceIn p base) t l
+      (rw (lt-ltb (place base (getD p t 0)) 16384 (omega arith)) (go (fresh p t (getD p t 0)) refl))
     where
       go : (b : Bool) → fresh p t (getD p t 0) ≡ b → b ≡ false
       go true e =
@@ -251,11 +256,14 @@ module _ (p : List ℕ) (base : ℕ) (m : List ℕ) (t y : ℕ) (k : Marked p ba
       far : ltb (place base (getD p t 0)) 16384 ≡ false
       far = le-ltb (place base (getD p t 0)) 16384 (omega arith)
 
-      one : (z : ℕ) → z < 16384 → (b : Bool) → eqb (getD p t 0) (base + z) ≡ b → _≡_ {A = ℕ} (pick (fresh p t (base + z)) 0 1) (pick (fresh p (t + 1) (base + z)) 0 1)
+      one : (z : ℕ) → z < 16384 → (b : Bool) → eqb (getD p t 0) (base + z) ≡ b
+          → _≡_ {A = ℕ} (pick (fresh p t (base + z)) 0 1) (pick (fresh p (t + 1) (base + z)) 0 1)
       one z w true e =
           let q : getD p t 0 ≡ base + z = eqb-true _ _ e in
           absurd (omega (arith, place-of base (getD p t 0) (omega arith) (omega arith)))
-      one z w false e = ap (λ b. pick b 0 1) (sym (fresh-turn p t (base + z) ∙ ap (λ b. fresh p t (base + z) && not b) e ∙ and-true (fresh p t (base + z))))
+      one z w false e =
+          ap (λ b. pick b 0 1)
+          (sym (fresh-turn p t (base + z) ∙ ap (λ b. fresh p t (base + z) && not b) e ∙ and-true (fresh p t (base + z))))
 
   -- a turn that marks
   pub marked-turn : y < 16384 → getD m y 0 ≡ 0 → Marked p base (t + 1) (set m y 1)
@@ -276,14 +284,18 @@ module _ (p : List ℕ) (base : ℕ) (m : List ℕ) (t y : ℕ) (k : Marked p ba
       free false e =
           absurd (let z : _≡_ {A = ℕ} 0 1 = sym n ∙ k .marks y h ∙ ap (λ x. pick (fresh p t x) 0 1) (sym is) ∙ ap (λ b. pick b 0 1) e in omega arith)
 
-      one : (z : ℕ) → z < 16384 → (b : Bool) → eqb (getD p t 0) (base + z) ≡ b → getD (set m y 1) z 0 ≡ pick (fresh p (t + 1) (base + z)) 0 1
+      one : (z : ℕ) → z < 16384 → (b : Bool) → eqb (getD p t 0) (base + z) ≡ b
+          → getD (set m y 1) z 0 ≡ pick (fresh p (t + 1) (base + z)) 0 1
       one z w true e =
-          subst (λ x. getD (set m y 1) x 0 ≡ pick (fresh p (t + 1) (base + z)) 0 1) (let q : y ≡ z = omega (arith, is, eqb-true (getD p t 0) (base + z) e) in q)
+          subst (λ x. getD (set m y 1) x 0 ≡ pick (fresh p (t + 1) (base + z)) 0 1)
+          (let q : y ≡ z = omega (arith, is, eqb-true (getD p t 0) (base + z) e) in q)
           (getD-set-same m y 1 0 (omega (arith, k .same))
-          ∙ ap (λ b. pick b 0 1) (sym (fresh-turn p t (base + z) ∙ ap (λ b. fresh p t (base + z) && not b) e ∙ and-false (fresh p t (base + z)) false refl)))
+          ∙ ap (λ b. pick b 0 1)
+          (sym (fresh-turn p t (base + z) ∙ ap (λ b. fresh p t (base + z) && not b) e ∙ and-false (fresh p t (base + z)) false refl)))
       one z w false e =
           getD-set-other m y z 1 0 (λ r. eqb-false (getD p t 0) (base + z) e (omega (arith, is))) ∙ k .marks z w
-          ∙ ap (λ b. pick b 0 1) (sym (fresh-turn p t (base + z) ∙ ap (λ b. fresh p t (base + z) && not b) e ∙ and-true (fresh p t (base + z))))
+          ∙ ap (λ b. pick b 0 1)
+          (sym (fresh-turn p t (base + z) ∙ ap (λ b. fresh p t (base + z) && not b) e ∙ and-true (fresh p t (base + z))))
 
 -- all passed
 pub marked-end : (p : List ℕ) (base : ℕ) (m : List ℕ) (t : ℕ) → Marked p base t m → t ≡ length p → window p base ≡ true

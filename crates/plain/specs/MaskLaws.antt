@@ -27,7 +27,8 @@ use Rattle.plan.specs.Plan.{leaky, dmLen}
 use Rattle.engine.specs.declared.Frame.{Frame}
 use Rattle.engine.specs.Step.{Fault, mask, orElse, byParty}
 use Rattle.engine.specs.StepLaws.{other-cases, mask-at, scan-ext}
-use Rattle.rounds.specs.Area.{SEED, PAIRS, MASKS, BITS, ALPHA, BETA, COMMS, JOINT, PAIR-COMMS, PAIRWISE, KEY-SUMS, SHARE-COMMS, DMS, LEAKY, ZS, ES, HS, H-COMMS, PERM, DS, TRIPLES, at, keep, rows, firstOf}
+use Rattle.rounds.specs.Area.{SEED, PAIRS, MASKS, BITS, ALPHA, BETA, COMMS, JOINT, PAIR-COMMS, PAIRWISE, KEY-SUMS, SHARE-COMMS, DMS, LEAKY}
+use Rattle.rounds.specs.Area.{ZS, ES, HS, H-COMMS, PERM, DS, TRIPLES, at, keep, rows, firstOf}
 use Rattle.rounds.specs.Toss as Toss
 use Rattle.rounds.specs.Fabitn as Fabitn
 use Rattle.rounds.specs.Fashare as Fashare

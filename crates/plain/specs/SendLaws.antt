@@ -141,4 +141,5 @@ tested = refl
 
 pub plain-round : (k : ℕ) → 1 ≤ k → k ≤ 22 → echo? k ≡ false → plain k ≡ true
 unfolding test
-plain-round k a b e = let t : pick (leb 1 k && not (echo? k)) (plain k) true ≡ true = of-all 23 test tested k (omega arith) in rw (le-leb 1 k a, e) at t
+plain-round k a b e =
+    let t : pick (leb 1 k && not (echo? k)) (plain k) true ≡ true = of-all 23 test tested k (omega arith) in rw (le-leb 1 k a, e) at t

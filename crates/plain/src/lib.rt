@@ -70,7 +70,7 @@ pub fn hold(work: &mut [u8], r: &[u8], perm: &[u32], f: Frame, k: usize)
         6 => fabitn::hold(work, r, f),
         14 => haand::hold(work, f),
         17 => flaand_comm::hold(work, f),
-        21 => dvalue::hold(work, perm, f),
+        21 => buckets::hold(work, perm, f),
         22 => triples::hold(work, f),
         _ => {}
     }

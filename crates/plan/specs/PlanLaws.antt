@@ -16,7 +16,9 @@ use Rattle.message.specs.declared.Kind.the-variants.{Items, Dms, Dvalues, Optio
 use Rattle.share.specs.Record.{recordLen}
 use Rattle.engine.specs.Area.{mem}
 use Rattle.engine.specs.Order.{echoIn, roundIn, nextIn}
-use Rattle.plan.specs.Plan.{theRounds, echo?, isRound, nextRound, order, writes, other, bucketSize, leaky, bitsCount, rBlocks, rLen, kindOf, countDue, dmLen, listLen, Listed, msgLen, parties?, inRange, InRange, bitsLen, sharesLen, masksLen, pairsLen, outLen, rDue, permDue, sentUpTo}
+use Rattle.plan.specs.Plan.{theRounds, echo?, isRound, nextRound, order, writes, other, bucketSize, leaky, bitsCount, rBlocks, rLen}
+use Rattle.plan.specs.Plan.{kindOf, countDue, dmLen, listLen, Listed, msgLen, parties?, inRange, InRange, bitsLen, sharesLen}
+use Rattle.plan.specs.Plan.{masksLen, pairsLen, outLen, rDue, permDue, sentUpTo}
 
 -- ---- the order of the rounds
 

@@ -47,7 +47,8 @@ packed-digit (suc n) f e h = go (ltb e n) refl (packed-digit n f e)
         sym (mod-digit (num (f n) * 2 ^ n + packed n f) n e l) ∙ ap (λ x. odd (x / 2 ^ e)) (low (num (f n)) n (packed-lt n f)) ∙ ih l
     go false q ih =
         let p : n ≡ e = omega (arith, ltb-false e n q) in
-        ap (λ k. odd ((num (f n) * 2 ^ n + packed n f) / 2 ^ k)) (sym p) ∙ ap odd (high (num (f n)) n (packed-lt n f)) ∙ odd-num (f n) ∙ ap f p
+        ap (λ k. odd ((num (f n) * 2 ^ n + packed n f) / 2 ^ k)) (sym p) ∙ ap odd (high (num (f n)) n (packed-lt n f)) ∙ odd-num (f n)
+        ∙ ap f p
 
 -- a turn of `pack`: the next bit, shifted to its place
 pub packed-turn : (n : ℕ) (f : ℕ → Bool) (d w : ℕ) → n < 64 → d ≡ num (f n) → w ≡ packed n f → d * 2 ^ n % 2 ^ 64 + w ≡ packed (n + 1) f
@@ -89,17 +90,20 @@ module _ (s : List ℕ) (stride : ℕ) (r : List ℕ) (row count : ℕ) where
   bit-out t h = rw (le-ltb t count h)
 
   -- the digits of the word that string j keeps for group h
-  masked-digit : (h j e : ℕ) → Bytes r → j * row + h * 8 + 8 ≤ length r → e < 64 → odd (bitAnd (rWord r row h j) (packedAt h) / 2 ^ e) ≡ bitTerm j (h * 64 + e)
+  masked-digit : (h j e : ℕ) → Bytes r → j * row + h * 8 + 8 ≤ length r → e < 64
+      → odd (bitAnd (rWord r row h j) (packedAt h) / 2 ^ e) ≡ bitTerm j (h * 64 + e)
   masked-digit h j e hr hl l =
       and-digit (rWord r row h j) (packedAt h) e
-      ∙ ap₂ (λ (a b : Bool). sel bits a b) (chosen-digit r row j h e hr hl l) (packed-digit 64 (λ e. recordBit s stride count (h * 64 + e)) e l)
+      ∙ ap₂ (λ (a b : Bool). sel bits a b) (chosen-digit r row j h e hr hl l)
+      (packed-digit 64 (λ e. recordBit s stride count (h * 64 + e)) e l)
 
   pub masked-all : (g j : ℕ) → Bytes r → 120 * row ≤ length r → g * 8 ≤ row → j < 120 → count ≤ g * 64
       → odd (ones (masked g j)) ≡ bitSum s stride r row count j
   unfolding masked bitSum
   masked-all g j hr hl hg l h =
       parity 64 (masked g j) (masked-lt g j)
-      ∙ sum-ext bits 64 (λ e. odd (masked g j / 2 ^ e)) (λ e. sum bits g (λ k. F e k)) (λ e v. sum-digit g (λ k. bitAnd (rWord r row k j) (packedAt k)) e)
+      ∙ sum-ext bits 64 (λ e. odd (masked g j / 2 ^ e)) (λ e. sum bits g (λ k. F e k))
+      (λ e v. sum-digit g (λ k. bitAnd (rWord r row k j) (packedAt k)) e)
       ∙ sum-swap bits 64 g F
       ∙ sum-ext bits g (λ k. sum bits 64 (λ e. F e k)) (λ k. sum bits 64 (λ e. bitTerm j (k * 64 + e)))
       (λ k v. sum-ext bits 64 (λ e. F e k) (λ e. bitTerm j (k * 64 + e)) (λ e u. masked-digit k j e hr (in-record j 120 row (k * 8) 8 (length r) l (omega arith) hl) u))
@@ -111,7 +115,8 @@ module _ (s : List ℕ) (stride : ℕ) (r : List ℕ) (row count : ℕ) where
       F e k = odd (bitAnd (rWord r row k j) (packedAt k) / 2 ^ e)
 
   -- a turn of the loop over the groups
-  pub masked-turn : (g b : ℕ) (acc acc′ : List ℕ) → acc ≡ tab 120 (masked g) → b ≡ packedAt g → acc′ ≡ tab 120 (maskedAt acc r row g b) → acc′ ≡ tab 120 (masked (g + 1))
+  pub masked-turn : (g b : ℕ) (acc acc′ : List ℕ) → acc ≡ tab 120 (masked g) → b ≡ packedAt g → acc′ ≡ tab 120 (maskedAt acc r row g b)
+      → acc′ ≡ tab 120 (masked (g + 1))
   unfolding masked
   masked-turn g b acc acc′ ha hb e =
       e ∙ tab-ext 120 (maskedAt acc r row g b) (masked (g + 1))

@@ -46,7 +46,8 @@ le8-byte w (suc (suc (suc (suc (suc (suc (suc zero))))))) h = refl
 le8-byte w (suc (suc (suc (suc (suc (suc (suc (suc i)))))))) h = absurd (omega arith)
 
 -- digit e of a word is digit e mod 8 of its byte e div 8
-pub word-digit : (s : List ℕ) (at e : ℕ) → Bytes s → at + 8 ≤ length s → e < 64 → odd (wordAt s at / 2 ^ e) ≡ odd (getD s (at + e / 8) 0 / 2 ^ (e % 8))
+pub word-digit : (s : List ℕ) (at e : ℕ) → Bytes s → at + 8 ≤ length s → e < 64
+    → odd (wordAt s at / 2 ^ e) ≡ odd (getD s (at + e / 8) 0 / 2 ^ (e % 8))
 word-digit s at e hs h l =
     let i : ℕ = e / 8 in
     let q : i * 8 + e % 8 ≡ e = omega arith in
@@ -95,7 +96,8 @@ parity (suc k) x h =
     ap odd (ones-step x) ∙ odd-add (x % 2) (ones (x / 2))
     ∙ ap₂ addb (odd-mod x 0 ∙ ap odd (sym (div-one x)))
     (parity k (x / 2) (shr-lt k 1 (rw (add-one k) h))
-    ∙ sum-ext bits k (λ e. odd (x / 2 / 2 ^ e)) (λ e. odd (x / 2 ^ suc e)) (λ e l. ap odd (shr-shr x 1 e ∙ ap (λ n. x / 2 ^ n) (one-add e))))
+    ∙ sum-ext bits k (λ e. odd (x / 2 / 2 ^ e)) (λ e. odd (x / 2 ^ suc e))
+    (λ e l. ap odd (shr-shr x 1 e ∙ ap (λ n. x / 2 ^ n) (one-add e))))
     ∙ sym (sum-cons bits k (λ e. odd (x / 2 ^ e)))
 
 -- the lowest digit, as a number

@@ -12,7 +12,7 @@ use Rattle.lists.specs.Over.{tab, cat, tab-zero, tab-step, tab-end, over-set, o
 use Rattle.block.specs.declared.Block.{Block}
 use Rattle.block.specs.Block.{xorOf}
 use Rattle.block.specs.Group.{blocks}
-use Rattle.rbits.specs.Tables.{lookup2, addedAt}
+use Rattle.rbits.specs.Tables.{lookup, addedAt}
 
 -- d is l with f 0 .. f (j - 1) in its front
 pub record Filled (f : ℕ → ℕ) (j : ℕ) (l d : List ℕ) : Type 0 where
@@ -36,7 +36,8 @@ filled-end f j n l d w e h = tab-end j n f l d (w .here) e h
 abbrev pub pairOf : (ℕ → Block) → ℕ → List ℕ
 pairOf f j = f j .0 ∷ f j .1 ∷ []
 
-pub pair-turn : (f : ℕ → Block) (j : ℕ) (l d : List ℕ) (x y : ℕ) → Written (pairOf f) j (j * 2) l d → x ≡ f j .0 → y ≡ f j .1 → j * 2 + 2 ≤ length l
+pub pair-turn : (f : ℕ → Block) (j : ℕ) (l d : List ℕ) (x y : ℕ) → Written (pairOf f) j (j * 2) l d → x ≡ f j .0 → y ≡ f j .1
+    → j * 2 + 2 ≤ length l
     → Written (pairOf f) (j + 1) ((j + 1) * 2) l (set (set d (j * 2) x) (j * 2 + 1) y)
 unfolding cat
 pair-turn f j l d x y w ex ey h = record {
@@ -65,17 +66,18 @@ pair-turn f j l d x y w ex ey h = record {
 -- what is not written yet is the old one
 pub written-get : (g : ℕ → List ℕ) (j a e : ℕ) (l d : List ℕ) → Written g j a l d → getD d (a + e) 0 ≡ getD l (a + e) 0
 written-get g j a e l d w =
-    ap (λ (x : List ℕ). getD x (a + e) 0) (w .here) ∙ ap (λ n. getD (cat j g ++ drop a l) (n + e) 0) (sym (w .at)) ∙ getD-append-add (cat j g) (drop a l) e 0
+    ap (λ (x : List ℕ). getD x (a + e) 0) (w .here) ∙ ap (λ n. getD (cat j g ++ drop a l) (n + e) 0) (sym (w .at))
+    ∙ getD-append-add (cat j g) (drop a l) e 0
     ∙ getD-drop a l e 0
 
 -- a turn of `add_chosen`: b is what string j's word chooses
-pub added-turn : (acc low high ws d : List ℕ) (j : ℕ) (b : Block) → Written (pairOf (addedAt acc low high ws)) j (j * 2) acc d
-    → b ≡ lookup2 low high (getD ws j 0) → j * 2 + 2 ≤ length acc
-    → Written (pairOf (addedAt acc low high ws)) (j + 1) ((j + 1) * 2) acc
+pub added-turn : (acc t ws d : List ℕ) (j : ℕ) (b : Block) → Written (pairOf (addedAt acc t ws)) j (j * 2) acc d
+    → b ≡ lookup t (getD ws j 0) → j * 2 + 2 ≤ length acc
+    → Written (pairOf (addedAt acc t ws)) (j + 1) ((j + 1) * 2) acc
     (set (set d (j * 2) (bitXor (getD d (j * 2) 0) (b .0))) (j * 2 + 1) (bitXor (getD d (j * 2 + 1) 0) (b .1)))
 unfolding blocks xorOf
-added-turn acc low high ws d j b w e h =
+added-turn acc t ws d j b w e h =
     let old : (k : ℕ) → getD d (j * 2 + k) 0 ≡ getD acc (j * 2 + k) 0 = λ k. written-get _ j (j * 2) k acc d w in
-    pair-turn (addedAt acc low high ws) j acc d _ _ w
+    pair-turn (addedAt acc t ws) j acc d _ _ w
     (ap₂ bitXor (rw add-zero at (old 0)) (ap (λ (x : Block). x .0) e))
     (ap₂ bitXor (old 1) (ap (λ (x : Block). x .1) e)) h

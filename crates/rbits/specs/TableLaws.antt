@@ -1,4 +1,5 @@
--- The tables of sums: entry c of `sums n f` has word e where digit e of c is 1, for every n; and what is looked up in the tables of 64 words.
+-- The tables of sums: entry c of `sums n f` has word e where digit e of c is 1, for every n;
+-- and what is looked up in the tables of 64 Blocks.
 use mathlib.Core.Path.{_≡_, refl, sym, ap, ap₂, _∙_}
 use mathlib.Core.Bool.{Bool, true, false}
 use mathlib.Core.List.{List, _++_, map}
@@ -12,11 +13,16 @@ use lib.Arith.{digits-div, digits-mod}
 use lib.Dec.{ltb}
 use borrow.Author.Tests.{ltb-true, ltb-false}
 use Rattle.lists.specs.Over.{cat}
-use Rattle.lists.specs.Rows.{chunk-cat, getD-chunk}
+use Rattle.lists.specs.Rows.{chunk-cat}
 use Rattle.algebra.specs.Xor.{xor-assoc}
-use Rattle.algebra.specs.Group.{numbers, sel, odd}
+use Rattle.algebra.specs.Group.{numbers, sel, odd, unit-r}
 use Rattle.algebra.specs.Sum.{sum, sum-ext}
-use Rattle.rbits.specs.Tables.{sums, sums4, tables, entry, lookup}
+use Rattle.block.specs.declared.Block.{Block}
+use Rattle.block.specs.Block.{xorOf}
+use Rattle.block.specs.Group.{blocks}
+use Rattle.rbits.specs.Chosen.{wordsOf, pairAt}
+use Rattle.rbits.specs.Tables.{sums, sumAt, three, four, sums8, table4, tables, entry, lookup}
+use Rattle.rbits.specs.WordLaws.{sel-words, sum-words, words-ext, words-at, pair-chunk}
 use Rattle.rbits.specs.SumLaws.{sum-turn, sum-groups}
 use Rattle.rbits.specs.DigitLaws.{mod-digit, part-digit}
 
@@ -65,36 +71,74 @@ sums-at (suc n) f c z h = go (ltb c (2 ^ n)) refl (sums-at n f)
         (λ e v. ap (λ b. sel numbers b (f e)) (sym (sym (mod-digit c n e v) ∙ ap (λ x. odd (x / 2 ^ e)) (ap (λ x. x % 2 ^ n) (sym w) ∙ digits-mod 1 k)))))
         (ap top (sym (ap (λ x. x / 2 ^ n) (sym w) ∙ digits-div 1 k)))
 
--- what w chooses of 64 words, four digits at a time
-pub lookup-tables : (f : ℕ → ℕ) (w : ℕ) → lookup (tables f) w ≡ picked 64 f w
-unfolding lookup tables
-lookup-tables f w = sum-ext numbers 16 (entry (tables f) w) (λ k. sum numbers 4 (λ e. F (k * 4 + e))) four ∙ sum-groups numbers 16 4 F
+-- the Blocks that c chooses
+abbrev pub pickedBlocks : ℕ → (ℕ → Block) → ℕ → Block
+pickedBlocks n f c = sum blocks n (λ e. sel blocks (odd (c / 2 ^ e)) (f e))
+
+sum-at : (n : ℕ) (f : ℕ → Block) (c : ℕ) → c < 2 ^ n → sumAt n f c ≡ pickedBlocks n f c
+sum-at n f c h =
+    (λ i. record { 0 = sums-at n (λ e. f e .0) c 0 h i; 1 = sums-at n (λ e. f e .1) c 0 h i })
+    ∙ sym (sum-words n (λ e. sel numbers (odd (c / 2 ^ e)) (f e .0)) (λ e. sel numbers (odd (c / 2 ^ e)) (f e .1)))
+    ∙ sum-ext blocks n _ (λ e. sel blocks (odd (c / 2 ^ e)) (f e)) (λ e l. sym (sel-words (odd (c / 2 ^ e)) (f e .0) (f e .1)))
+
+-- ---- a table of four Blocks
+pub length-table4 : (f : ℕ → Block) → length (table4 f) ≡ 32
+unfolding table4 wordsOf cat
+length-table4 f = refl
+
+pub length-sums8 : (a b c y : Block) → length (sums8 a b c y) ≡ 16
+unfolding sums8 wordsOf cat
+length-sums8 a b c y = refl
+
+-- its halves: without d, and with it
+pub table4-halves : (a b c d : Block) → sums8 a b c (blocks .nil) ++ sums8 a b c d ≡ table4 (four a b c d)
+unfolding sums8 table4 wordsOf cat sums xorOf blocks
+table4-halves a b c d =
+    ap (λ (x : List ℕ). x ++ sums8 a b c d)
+    (words-ext 8 (λ i. xorOf (sumAt 3 (three a b c) i) (blocks .nil)) (sumAt 3 (three a b c))
+    (λ i l. unit-r blocks (sumAt 3 (three a b c) i)))
+
+-- of the records from `first + 4k` on
+pub table4-at : (f : ℕ → Block) (first k : ℕ) (a b c d : Block)
+    → a ≡ f (first + k * 4) → b ≡ f (first + k * 4 + 1) → c ≡ f (first + k * 4 + 2) → d ≡ f (first + k * 4 + 3)
+    → table4 (four a b c d) ≡ table4 (λ e. f (first + (k * 4 + e)))
+unfolding table4 wordsOf cat sums
+table4-at f first k a b c d ea eb ec ed =
+    let at : (e : ℕ) → f (first + k * 4 + e) ≡ f (first + (k * 4 + e)) = λ e. ap f (add-assoc first (k * 4) e) in
+    λ i. table4 (four ((ea ∙ ap (λ n. f (first + n)) (sym (add-zero (k * 4)))) i) ((eb ∙ at 1) i) ((ec ∙ at 2) i) ((ed ∙ at 3) i))
+
+-- the first entry is the sum of nothing
+pub tables-first : (f : ℕ → Block) (t : List ℕ) → t ≡ tables f → (getD t 0 0 ≡ 0) × (getD t 1 0 ≡ 0)
+unfolding tables table4 wordsOf cat sums
+tables-first f t e = (ap (λ (x : List ℕ). getD x 0 0) e, ap (λ (x : List ℕ). getD x 1 0) e)
+
+-- what w chooses of 64 Blocks, four digits at a time
+pub lookup-tables : (f : ℕ → Block) (w : ℕ) → lookup (tables f) w ≡ pickedBlocks 64 f w
+unfolding lookup tables table4
+lookup-tables f w = sum-ext blocks 16 (entry (tables f) w) (λ k. sum blocks 4 (λ e. F (k * 4 + e))) each ∙ sum-groups blocks 16 4 F
   where
-    F : ℕ → ℕ
-    F e = sel numbers (odd (w / 2 ^ e)) (f e)
+    F : ℕ → Block
+    F e = sel blocks (odd (w / 2 ^ e)) (f e)
 
     g : ℕ → List ℕ
-    g k = sums 4 (λ e. f (k * 4 + e))
+    g k = table4 (λ e. f (k * 4 + e))
 
-    four : (k : ℕ) → k < 16 → getD (cat 16 g) (k * 16 + w / 2 ^ (k * 4) % 16) 0 ≡ sum numbers 4 (λ e. F (k * 4 + e))
-    four k h =
+    each : (k : ℕ) → k < 16 → pairAt (cat 16 g) (k * 16 + w / 2 ^ (k * 4) % 16) ≡ sum blocks 4 (λ e. F (k * 4 + e))
+    each k h =
         let c : ℕ = w / 2 ^ (k * 4) % 16 in
         let l : c < 16 = mod-lt (w / 2 ^ (k * 4)) (omega arith) in
-        sym (getD-chunk 16 k (cat 16 g) c 0 l)
-        ∙ ap (λ (x : List ℕ). getD x c 0) (chunk-cat 16 16 g (λ j v. length-sums 4 (λ e. f (j * 4 + e))) k h)
-        ∙ sums-at 4 (λ e. f (k * 4 + e)) c 0 l
-        ∙ sum-ext numbers 4 _ (λ e. F (k * 4 + e)) (λ e v. ap (λ b. sel numbers b (f (k * 4 + e))) (part-digit w (k * 4) 4 e v))
+        pair-chunk k c (cat 16 g) l
+        ∙ ap (λ (x : List ℕ). pairAt x c) (chunk-cat 32 16 g (λ j v. length-table4 (λ e. f (j * 4 + e))) k h)
+        ∙ words-at 16 (sumAt 4 (λ e. f (k * 4 + e))) c l
+        ∙ sum-at 4 (λ e. f (k * 4 + e)) c l
+        ∙ sum-ext blocks 4 _ (λ e. F (k * 4 + e)) (λ e v. ap (λ b. sel blocks b (f (k * 4 + e))) (part-digit w (k * 4) 4 e v))
 
 -- a turn of `choose`
-pub lookup-turn : (t : List ℕ) (w k a : ℕ) → a ≡ sum numbers k (entry t w)
-    → bitXor a (getD t (k * 16 + bitAnd (w / 2 ^ (k * 4)) 15) 0) ≡ sum numbers (k + 1) (entry t w)
-lookup-turn t w k a h =
-    ap₂ (λ x y. bitXor x (getD t (k * 16 + y) 0)) h (and-mask (w / 2 ^ (k * 4)) 4) ∙ sym (sum-turn numbers k (entry t w))
-
--- table k, of four words
-pub sums4-at : (f : ℕ → ℕ) (first k a b c d : ℕ) → a ≡ f (first + k * 4) → b ≡ f (first + k * 4 + 1) → c ≡ f (first + k * 4 + 2) → d ≡ f (first + k * 4 + 3)
-    → sums4 a b c d ≡ sums 4 (λ e. f (first + (k * 4 + e)))
-unfolding sums4 sums
-sums4-at f first k a b c d ea eb ec ed =
-    let at : (e : ℕ) → f (first + k * 4 + e) ≡ f (first + (k * 4 + e)) = λ e. ap f (add-assoc first (k * 4) e) in
-    λ i. sums4 ((ea ∙ ap (λ n. f (first + n)) (sym (add-zero (k * 4)))) i) ((eb ∙ at 1) i) ((ec ∙ at 2) i) ((ed ∙ at 3) i)
+pub lookup-turn : (t : List ℕ) (w k a b : ℕ) → record { 0 = a; 1 = b } ≡ sum blocks k (entry t w)
+    → record {
+      0 = bitXor a (getD t ((k * 16 + bitAnd (w / 2 ^ (k * 4)) 15) * 2) 0);
+      1 = bitXor b (getD t ((k * 16 + bitAnd (w / 2 ^ (k * 4)) 15) * 2 + 1) 0);
+    } ≡ sum blocks (k + 1) (entry t w)
+unfolding blocks xorOf
+lookup-turn t w k a b h =
+    ap₂ (λ (x : Block) y. xorOf x (pairAt t (k * 16 + y))) h (and-mask (w / 2 ^ (k * 4)) 4) ∙ sym (sum-turn blocks k (entry t w))

@@ -1,4 +1,4 @@
--- What the code computes on the way: words of records, and tables of the sums of every choice of four words.
+-- What the code computes on the way: Blocks of records, and tables of the sums of every choice of four Blocks.
 use Prim.Native.Nat.{ℕ, zero, suc, _+_, _*_, _/_, _%_, _^_}
 use mathlib.Core.Bool.{Bool, false}
 use mathlib.Core.List.{List, [], _∷_, _++_, map}
@@ -7,36 +7,53 @@ use lib.Bits.{bitXor, bitAnd}
 use lib.Dec.{ltb}
 use Rattle.lists.specs.Over.{tab, cat}
 use Rattle.lists.specs.Pick.{pick}
-use Rattle.algebra.specs.Group.{numbers, odd, num}
+use Rattle.algebra.specs.Group.{odd, num}
 use Rattle.algebra.specs.Sum.{sum}
 use Rattle.block.specs.declared.Block.{Block}
-use Rattle.block.specs.Block.{wordAt}
+use Rattle.block.specs.Block.{wordAt, blockAt, xorOf}
 use Rattle.block.specs.Group.{blocks}
-use Rattle.rbits.specs.Chosen.{pairAt}
+use Rattle.rbits.specs.Chosen.{wordsOf, pairAt}
 
--- the word at `at` of record t; 0 past the last record
-unfoldable pub recordWord : List ℕ → ℕ → ℕ → ℕ → ℕ → ℕ
-recordWord s stride at count t = pick (ltb t count) (wordAt s (t * stride + at)) 0
+-- the Block at `at` of record t; zero past the last record
+unfoldable pub recordBlock : List ℕ → ℕ → ℕ → ℕ → ℕ → Block
+recordBlock s stride at count t = pick (ltb t count) (blockAt s (t * stride + at)) (blocks .nil)
 
 -- the sums of every choice of n words: entry c has word e where digit e of c is 1
 unfoldable pub sums : ℕ → (ℕ → ℕ) → List ℕ
 sums zero f = 0 ∷ []
 sums (suc n) f = sums n f ++ map (λ x. bitXor x (f n)) (sums n f)
 
--- of four words
-unfoldable pub sums4 : ℕ → ℕ → ℕ → ℕ → List ℕ
-sums4 a b c d = sums 4 (λ e. getD (a ∷ b ∷ c ∷ d ∷ []) e 0)
+-- entry c of the sums of n Blocks
+abbrev pub sumAt : ℕ → (ℕ → Block) → ℕ → Block
+sumAt n f c = record { 0 = getD (sums n (λ e. f e .0)) c 0; 1 = getD (sums n (λ e. f e .1)) c 0 }
 
--- the tables of 64 words, four and four
-unfoldable pub tables : (ℕ → ℕ) → List ℕ
-tables f = cat 16 (λ k. sums 4 (λ e. f (k * 4 + e)))
+-- three Blocks and four
+abbrev pub three : Block → Block → Block → ℕ → Block
+three a b c e = getD (a ∷ b ∷ c ∷ []) e (blocks .nil)
 
--- the words that w chooses of 64, by a table for each four digits of w
-abbrev pub entry : List ℕ → ℕ → ℕ → ℕ
-entry t w k = getD t (k * 16 + w / 2 ^ (k * 4) % 16) 0
+abbrev pub four : Block → Block → Block → Block → ℕ → Block
+four a b c d e = getD (a ∷ b ∷ c ∷ d ∷ []) e (blocks .nil)
 
-unfoldable pub lookup : List ℕ → ℕ → ℕ
-lookup t w = sum numbers 16 (entry t w)
+abbrev pub pair : ℕ → ℕ → Block
+pair x y = record { 0 = x; 1 = y }
+
+-- the sums of three Blocks, each with y added
+unfoldable pub sums8 : Block → Block → Block → Block → List ℕ
+sums8 a b c y = wordsOf 8 (λ i. xorOf (sumAt 3 (three a b c) i) y)
+
+-- the sums of four Blocks, and the tables of 64, four and four
+unfoldable pub table4 : (ℕ → Block) → List ℕ
+table4 f = wordsOf 16 (sumAt 4 f)
+
+unfoldable pub tables : (ℕ → Block) → List ℕ
+tables f = cat 16 (λ k. table4 (λ e. f (k * 4 + e)))
+
+-- what w chooses of 64 Blocks, by a table for each four digits of w
+abbrev pub entry : List ℕ → ℕ → ℕ → Block
+entry t w k = pairAt t (k * 16 + w / 2 ^ (k * 4) % 16)
+
+unfoldable pub lookup : List ℕ → ℕ → Block
+lookup t w = sum blocks 16 (entry t w)
 
 -- word g of string j, and of all
 abbrev pub rWord : List ℕ → ℕ → ℕ → ℕ → ℕ
@@ -45,13 +62,9 @@ rWord r row g j = wordAt r (j * row + g * 8)
 unfoldable pub rWords : List ℕ → ℕ → ℕ → List ℕ
 rWords r row g = tab 120 (rWord r row g)
 
--- the two columns' words that w chooses, as a Block
-abbrev pub lookup2 : List ℕ → List ℕ → ℕ → Block
-lookup2 low high w = record { 0 = lookup low w; 1 = lookup high w }
-
 -- Block j, with what string j's word chooses added
-abbrev pub addedAt : List ℕ → List ℕ → List ℕ → List ℕ → ℕ → Block
-addedAt acc low high ws j = blocks .op (pairAt acc j) (lookup2 low high (getD ws j 0))
+abbrev pub addedAt : List ℕ → List ℕ → List ℕ → ℕ → Block
+addedAt acc t ws j = blocks .op (pairAt acc j) (lookup t (getD ws j 0))
 
 -- ---- bits
 

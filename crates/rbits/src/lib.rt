@@ -1,6 +1,7 @@
 // The random sums of `fabitn`, from `chunked_update_with_rbits` of src/mpc/faand.rs: for each of 120 strings r the XOR of the chosen bits, and of
 // the chosen MACs or keys. All strings are done in one pass over the records, 64 records at a time: one word of each string.
-// Four records have 16 sums, kept in a table; four digits of a string's word, by shift and mask, say which of the 16 it takes.
+// Four records have 16 sums, kept in a table, low and high word side by side; four digits of a string's word, by shift and mask,
+// say which of the 16 it takes.
 // r is public, so it may be an index. Bits, MACs and keys are secret, and decide no branch and no index.
 ghost use mathlib.Core.Path.{_≡_};
 ghost use Prim.Native.Nat.{_+_, _*_, _^_, _≤_, _<_};
@@ -9,62 +10,80 @@ ghost use Rattle.lists.specs.Over.{tab};
 ghost use lib.Count.{ones};
 ghost use Rattle.algebra.specs.Group.{odd, num};
 ghost use Rattle.rbits.specs.Chosen.{blockSum, bitSum, wordsOf, Lent};
-ghost use Rattle.rbits.specs.Tables.{recordWord, sums4, tables, lookup2, addedAt, rWords, recordBit, packed, maskedAt};
+ghost use Rattle.rbits.specs.Tables.{recordBlock, pair, sums8, four, table4, tables, lookup, addedAt, rWords};
+ghost use Rattle.rbits.specs.Tables.{recordBit, packed, maskedAt};
 use block::Block;
 
-// The word at `at` of record t, and 0 past the last record: so the last group has 64 records too.
-fn word(s: &[u8], stride: usize, at: usize, count: usize, t: usize) -> u64
-    requires { ⌜ (at + 8 ≤ stride) × (count * stride ≤ length (now s)) ⌝ }
-    ensures { λ r. ⌜ r ≡ recordWord (now (s .entry)) stride at count t ⌝ }
+// The Block at `at` of record t, and zero past the last record: so the last group has 64 records too.
+fn record_block(s: &[u8], stride: usize, at: usize, count: usize, t: usize) -> Block
+    requires { ⌜ (at + 16 ≤ stride) × (count * stride ≤ length (now s)) ⌝ }
+    ensures { λ r. ⌜ r ≡ recordBlock (now (s .entry)) stride at count t ⌝ }
 {
     if t < count {
-        block::load64(s, t * stride + at)
+        block::load(s, t * stride + at)
     } else {
-        0
+        Block::zero()
     }
 }
 
-// The sums of every choice of four words: a is in those with an odd number.
-fn put_sums(out: &mut [u64], a: u64, b: u64, c: u64, d: u64)
+// The sums of every choice of three Blocks, each with y added: a is in those with an odd number. In words, which the check is quicker with.
+fn put_sums(out: &mut [u64], a0: u64, a1: u64, b0: u64, b1: u64, c0: u64, c1: u64, y0: u64, y1: u64)
     requires { ⌜ length (now out) ≡ 16 ⌝ }
-    ensures { λ _. ⌜ now (out .exit) ≡ sums4 a b c d ⌝ }
+    ensures { λ _. ⌜ now (out .exit) ≡ sums8 (pair a0 a1) (pair b0 b1) (pair c0 c1) (pair y0 y1) ⌝ }
 {
-    out[0] = 0;
-    out[1] = a;
-    out[2] = b;
-    out[3] = a ^ b;
-    out[4] = c;
-    out[5] = a ^ c;
-    out[6] = b ^ c;
-    out[7] = a ^ b ^ c;
-    out[8] = d;
-    out[9] = a ^ d;
-    out[10] = b ^ d;
-    out[11] = a ^ b ^ d;
-    out[12] = c ^ d;
-    out[13] = a ^ c ^ d;
-    out[14] = b ^ c ^ d;
-    out[15] = a ^ b ^ c ^ d;
+    out[0] = y0;
+    out[1] = y1;
+    out[2] = a0 ^ y0;
+    out[3] = a1 ^ y1;
+    out[4] = b0 ^ y0;
+    out[5] = b1 ^ y1;
+    out[6] = a0 ^ b0 ^ y0;
+    out[7] = a1 ^ b1 ^ y1;
+    out[8] = c0 ^ y0;
+    out[9] = c1 ^ y1;
+    out[10] = a0 ^ c0 ^ y0;
+    out[11] = a1 ^ c1 ^ y1;
+    out[12] = b0 ^ c0 ^ y0;
+    out[13] = b1 ^ c1 ^ y1;
+    out[14] = a0 ^ b0 ^ c0 ^ y0;
+    out[15] = a1 ^ b1 ^ c1 ^ y1;
+}
+
+// The sums of every choice of four Blocks: those without d, then those with it.
+fn put_table(out: &mut [u64], a: Block, b: Block, c: Block, d: Block)
+    requires { ⌜ length (now out) ≡ 32 ⌝ }
+    ensures { λ _. ⌜ now (out .exit) ≡ table4 (four a b c d) ⌝ }
+{
+    let a0 = a.0;
+    let a1 = a.1;
+    let b0 = b.0;
+    let b1 = b.1;
+    let c0 = c.0;
+    let c1 = c.1;
+    let d0 = d.0;
+    let d1 = d.1;
+    put_sums(&mut out[0..16], a0, a1, b0, b1, c0, c1, 0, 0);
+    put_sums(&mut out[16..32], a0, a1, b0, b1, c0, c1, d0, d1);
 }
 
 // The tables of the 64 records from `first` on.
 fn fill(out: &mut [u64], s: &[u8], stride: usize, at: usize, count: usize, first: usize)
-    requires { ⌜ length (now out) ≡ 256 ⌝ }
-    requires { ⌜ (at + 8 ≤ stride) × (count * stride ≤ length (now s)) ⌝ }
+    requires { ⌜ length (now out) ≡ 512 ⌝ }
+    requires { ⌜ (at + 16 ≤ stride) × (count * stride ≤ length (now s)) ⌝ }
     requires { ⌜ first + 64 < 2 ^ 64 ⌝ }
-    ensures { λ _. ⌜ now (out .exit) ≡ tables (λ e. recordWord (now (s .entry)) stride at count (first + e)) ⌝ }
+    ensures { λ _. ⌜ now (out .exit) ≡ tables (λ e. recordBlock (now (s .entry)) stride at count (first + e)) ⌝ }
 {
     let mut k = 0;
     while k < 16 {
-        let a = k * 16;
-        let e = a + 16;
+        let a = k * 32;
+        let e = a + 32;
         let t = first + k * 4;
-        put_sums(
+        put_table(
             &mut out[a..e],
-            word(s, stride, at, count, t),
-            word(s, stride, at, count, t + 1),
-            word(s, stride, at, count, t + 2),
-            word(s, stride, at, count, t + 3),
+            record_block(s, stride, at, count, t),
+            record_block(s, stride, at, count, t + 1),
+            record_block(s, stride, at, count, t + 2),
+            record_block(s, stride, at, count, t + 3),
         );
         k += 1;
     }
@@ -84,29 +103,30 @@ fn r_words(out: &mut [u64], r: &[u8], row: usize, g: usize)
 }
 
 // The sum of the 64 records that w chooses: four digits of w at a time, by shift and mask.
-fn choose(low: &[u64; 256], high: &[u64; 256], w: u64) -> Block
-    ensures { λ r. ⌜ r ≡ lookup2 (now (low .entry)) (now (high .entry)) w ⌝ }
+fn choose(tab: &[u64; 512], w: u64) -> Block
+    ensures { λ r. ⌜ r ≡ lookup (now (tab .entry)) w ⌝ }
 {
     let mut a = 0;
     let mut b = 0;
     let mut k = 0;
     while k < 16 {
-        let i = k * 16 + (w >> (k * 4) & 15) as usize;
-        a = a ^ low[i];
-        b = b ^ high[i];
+        let low = (k * 16 + (w >> (k * 4) & 15) as usize) * 2;
+        let high = low + 1;
+        a = a ^ tab[low];
+        b = b ^ tab[high];
         k += 1;
     }
     Block(a, b)
 }
 
 // Adds to each string's sum what its word chooses.
-fn add_chosen(acc: &mut [u64], low: &[u64; 256], high: &[u64; 256], ws: &[u64; 120])
+fn add_chosen(acc: &mut [u64], tab: &[u64; 512], ws: &[u64; 120])
     requires { ⌜ length (now acc) ≡ 240 ⌝ }
-    ensures { λ _. ⌜ now (acc .exit) ≡ wordsOf 120 (addedAt (now (acc .entry)) (now (low .entry)) (now (high .entry)) (now (ws .entry))) ⌝ }
+    ensures { λ _. ⌜ now (acc .exit) ≡ wordsOf 120 (addedAt (now (acc .entry)) (now (tab .entry)) (now (ws .entry))) ⌝ }
 {
     let mut j = 0;
     while j < 120 {
-        let b = choose(low, high, ws[j]);
+        let b = choose(tab, ws[j]);
         let i = j * 2;
         let k = i + 1;
         let x = acc[i] ^ b.0;
@@ -115,6 +135,19 @@ fn add_chosen(acc: &mut [u64], low: &[u64; 256], high: &[u64; 256], ws: &[u64; 1
         acc[k] = y;
         j += 1;
     }
+}
+
+// Adds the first entry, which is the sum of nothing. For LLVM alone: two words at the start of both arrays are one of 16 bytes, so that it
+// lays them on a multiple of 16, and `choose` takes each entry by one instruction.
+fn add_nothing(acc: &mut [u64], tab: &[u64; 512])
+    requires { ⌜ length (now acc) ≡ 240 ⌝ }
+    requires { ⌜ (getD (now tab) 0 0 ≡ 0) × (getD (now tab) 1 0 ≡ 0) ⌝ }
+    ensures { λ _. ⌜ now (acc .exit) ≡ now (acc .entry) ⌝ }
+{
+    let x = acc[0] ^ tab[0];
+    let y = acc[1] ^ tab[1];
+    acc[0] = x;
+    acc[1] = y;
 }
 
 // For each string the sum of the Blocks at offset `at` of the records that it chooses: of string j the words 2j and 2j + 1.
@@ -131,17 +164,16 @@ pub fn block_sums(
     ensures { λ o. ⌜ o ≡ wordsOf 120 (blockSum (now (s .entry)) stride at (now (r .entry)) row count) ⌝ }
 {
     let mut acc = [0u64; 240];
-    let mut low = [0u64; 256];
-    let mut high = [0u64; 256];
+    let mut tab = [0u64; 512];
     let mut ws = [0u64; 120];
     let mut g = 0;
     while g * 64 < count {
         r_words(&mut ws, r, row, g);
-        fill(&mut low, s, stride, at, count, g * 64);
-        fill(&mut high, s, stride, at + 8, count, g * 64);
-        add_chosen(&mut acc, &low, &high, &ws);
+        fill(&mut tab, s, stride, at, count, g * 64);
+        add_chosen(&mut acc, &tab, &ws);
         g += 1;
     }
+    add_nothing(&mut acc, &tab);
     acc
 }
 

@@ -58,7 +58,8 @@ module _ (g : ℕ → List ℕ) (o c q : ℕ) (w₀ : List ℕ) (fits : o + c * 
     pub kept-before : (b m : ℕ) → b + m ≤ o → get b m w ≡ get b m w₀
     kept-before b m h = ap (get b m) (p .whole) ∙ get-put-before b m o (c * q) (p .rows) w₀ h (omega arith)
 
-    pub kept-turn : (x w′ : List ℕ) → k < c → length (g k) ≡ q → x ≡ g k → w′ ≡ put (o + k * q) q x w → RowsKept g o (c * q) (k + 1) ((k + 1) * q) w₀ w′
+    pub kept-turn : (x w′ : List ℕ) → k < c → length (g k) ≡ q → x ≡ g k → w′ ≡ put (o + k * q) q x w
+        → RowsKept g o (c * q) (k + 1) ((k + 1) * q) w₀ w′
     kept-turn x w′ h long e e′ =
         let l : length (p .rows) ≡ c * q = p .written .same ∙ part-length in
         let s : length (put o (c * q) (p .rows) w₀) ≡ length w₀ = length-put o (c * q) (p .rows) w₀ l fits in
@@ -66,8 +67,11 @@ module _ (g : ℕ → List ℕ) (o c q : ℕ) (w₀ : List ℕ) (fits : o + c * 
         record {
           rows = put (k * q) q x (p .rows);
           written = rw z at (chunks-turn g c q k (k * q + q) (get o (c * q) w₀) (p .rows) x part-length h (p .written) long e refl);
-          whole = e′ ∙ ap (put (o + k * q) q x) (p .whole) ∙ put-in-put o (c * q) (k * q) q x (p .rows) w₀ l (omega (arith, in-chunks k c q h)) fits s;
+          whole =
+              e′ ∙ ap (put (o + k * q) q x) (p .whole)
+              ∙ put-in-put o (c * q) (k * q) q x (p .rows) w₀ l (omega (arith, in-chunks k c q h)) fits s;
         }
 
     pub kept-end : k ≡ c → w ≡ put o (c * q) (cat c g) w₀
-    kept-end e = p .whole ∙ ap (λ (x : List ℕ). put o (c * q) x w₀) (chunks-end g c q k (get o (c * q) w₀) (p .rows) part-length (p .written) e)
+    kept-end e =
+        p .whole ∙ ap (λ (x : List ℕ). put o (c * q) x w₀) (chunks-end g c q k (get o (c * q) w₀) (p .rows) part-length (p .written) e)

@@ -35,11 +35,13 @@ module _ (a : Args) (r : Ranged a) where
 
   module _ (long : length (a .triples) ≡ 3 * a .count * recordLen (a .n)) where
     pub reason-d : length (a .d) ≢ a .count - 1 → reason a ≡ 6
-    reason-d h = ranged ∙ rw (eq-eqb (length (a .triples)) (3 * a .count * recordLen (a .n)) long, ne-eqb (length (a .d)) (a .count - 1) h) refl
+    reason-d h =
+        ranged ∙ rw (eq-eqb (length (a .triples)) (3 * a .count * recordLen (a .n)) long, ne-eqb (length (a .d)) (a .count - 1) h) refl
 
     module _ (d : length (a .d) ≡ a .count - 1) where
       listed : reason a ≡ pick (eqb (length (a .out)) (3 * recordLen (a .n))) (bytesFault a) 17
-      listed = ranged ∙ rw (eq-eqb (length (a .triples)) (3 * a .count * recordLen (a .n)) long, eq-eqb (length (a .d)) (a .count - 1) d) refl
+      listed =
+          ranged ∙ rw (eq-eqb (length (a .triples)) (3 * a .count * recordLen (a .n)) long, eq-eqb (length (a .d)) (a .count - 1) d) refl
 
       pub reason-out : length (a .out) ≢ 3 * recordLen (a .n) → reason a ≡ 17
       reason-out h = listed ∙ rw (ne-eqb (length (a .out)) (3 * recordLen (a .n)) h) refl

@@ -217,15 +217,18 @@ same-block s t a k bs bt ls lt = by (eqBlock x y) refl (same? u v) refl
 pub entry-absent : (rows m : List ℕ) (k : ℕ) → getD m (itemAt Options m k) 0 ≡ 0 → 3 ≡ entryFault rows m k
 unfolding entryFault
 entry-absent rows m k e =
-    ap (λ u. pick u 3 (pick (same? (take 16 (drop (itemAt Options m k + 1) m)) (chunk 16 k rows)) 0 7)) (sym (eq-eqb (getD m (itemAt Options m k) 0) 0 e))
+    ap (λ u. pick u 3 (pick (same? (take 16 (drop (itemAt Options m k + 1) m)) (chunk 16 k rows)) 0 7))
+    (sym (eq-eqb (getD m (itemAt Options m k) 0) 0 e))
 
 pub entry-there : (rows m : List ℕ) (k x : ℕ) (b : Bool) → getD m (itemAt Options m k) 0 ≢ 0
     → b ≡ same? (take 16 (drop (itemAt Options m k + 1) m)) (chunk 16 k rows) → x ≡ pick b 0 7 → x ≡ entryFault rows m k
 unfolding entryFault
 entry-there rows m k x b ne e hx =
-    hx ∙ ap (λ u. pick u 0 7) e ∙ ap (λ u. pick u 3 (pick (same? (take 16 (drop (itemAt Options m k + 1) m)) (chunk 16 k rows)) 0 7)) (sym (ne-eqb _ 0 ne))
+    hx ∙ ap (λ u. pick u 0 7) e
+    ∙ ap (λ u. pick u 3 (pick (same? (take 16 (drop (itemAt Options m k + 1) m)) (chunk 16 k rows)) 0 7)) (sym (ne-eqb _ 0 ne))
 
-pub told-fault : (i j k x : ℕ) (rows m : List ℕ) (b : Bool) → (neq i k && neq j k) ≡ b → x ≡ pick b (entryFault rows m k) 0 → x ≡ toldFault i j rows m k
+pub told-fault : (i j k x : ℕ) (rows m : List ℕ) (b : Bool) → (neq i k && neq j k) ≡ b → x ≡ pick b (entryFault rows m k) 0
+    → x ≡ toldFault i j rows m k
 told-fault i j k x rows m b h e = e ∙ ap (λ u. pick u (entryFault rows m k) 0) (sym h)
 
 pub echo-clean : (i j : ℕ) (rows m : List ℕ) → scan 0 (toldFault i j rows m) .code ≡ 0

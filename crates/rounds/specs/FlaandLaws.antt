@@ -21,7 +21,8 @@ use Rattle.rounds.specs.Flaand.{commMsg, comms, ownComms, hashMsg}
 module _ (f : Frame) (own : List ℕ) where
   pub length-comms : length (comms f own) ≡ leaky (f .l) * 32
   unfolding comms
-  length-comms = length-cat (leaky (f .l)) 32 (λ t. hash (bytesOf (blockAt own (t * 16)))) (λ t l. length-hash (bytesOf (blockAt own (t * 16))))
+  length-comms =
+      length-cat (leaky (f .l)) 32 (λ t. hash (bytesOf (blockAt own (t * 16)))) (λ t l. length-hash (bytesOf (blockAt own (t * 16))))
 
   -- what is sent: the count, and they
   pub comms-sent : le8 (leaky (f .l)) ++ comms f own ≡ commMsg f own
@@ -41,7 +42,8 @@ module _ (f : Frame) (own : List ℕ) where
     pub length-ownComms : length (ownComms f own rows) ≡ f .n * (leaky (f .l) * 32)
     unfolding ownComms
     length-ownComms =
-        length-put (f .i * (leaky (f .l) * 32)) (leaky (f .l) * 32) (comms f own) rows length-comms (omega (arith, in-chunks (f .i) (f .n) (leaky (f .l) * 32) own-is))
+        length-put (f .i * (leaky (f .l) * 32)) (leaky (f .l) * 32) (comms f own) rows length-comms
+        (omega (arith, in-chunks (f .i) (f .n) (leaky (f .l) * 32) own-is))
         ∙ long
 
     pub own-row : chunk (leaky (f .l) * 32) (f .i) (ownComms f own rows) ≡ comms f own

@@ -69,7 +69,8 @@ leakyEntry f delta recs t j =
 
 unfoldable pub leakyRow : Frame → Block → List ℕ → ℕ → List ℕ
 leakyRow f delta recs t =
-    bytesOf (phi f delta recs t) ++ (bytesOf (others blocks (f .i) (f .n) (λ j. G (x f recs t .key j))) ++ rows f 18 (leakyEntry f delta recs t))
+    bytesOf (phi f delta recs t) ++
+    (bytesOf (others blocks (f .i) (f .n) (λ j. G (x f recs t .key j))) ++ rows f 18 (leakyEntry f delta recs t))
 
 unfoldable pub leakyRows : Frame → Block → List ℕ → List ℕ
 leakyRows f delta recs = cat (leaky (f .l)) (leakyRow f delta recs)

@@ -40,7 +40,8 @@ module _ (f : Frame) (delta : Block) (recs : List ℕ) where
   length-leakyRow t =
       let r : List ℕ = rows f 18 (leakyEntry f delta recs t) in
       let n : length r ≡ f .n * 18 = length-rows f 18 (leakyEntry f delta recs t) (λ k l. length-leakyEntry t k) in
-      length-append (front t) (sums t ++ r) ∙ ap₂ _+_ (length-bytesOf _) (length-append (sums t) r ∙ ap₂ _+_ (length-bytesOf _) n) ∙ (omega arith)
+      length-append (front t) (sums t ++ r) ∙ ap₂ _+_ (length-bytesOf _) (length-append (sums t) r ∙ ap₂ _+_ (length-bytesOf _) n)
+      ∙ (omega arith)
 
   -- byte q of row t
   pub row-byte : (t q : ℕ) → t < leaky (f .l) → q < leakyLen (f .n)
@@ -69,11 +70,14 @@ module _ (f : Frame) (delta : Block) (recs : List ℕ) where
   module _ (t j p : ℕ) (lt : t < leaky (f .l)) (lj : j < f .n) (ne : f .i ≢ j) where
     pub first-byte : p ≡ t * leakyLen (f .n) + (32 + j * 18) + 16 → getD (leakyRows f delta recs) p 0 ≡ num (H (x f recs t .key j))
     unfolding leakyEntry
-    first-byte e = entry-byte t j 16 p lt lj ne (omega arith) e ∙ getD-behind (bytesOf (u f delta recs j t)) _ 16 0 16 (length-bytesOf _) (omega arith)
+    first-byte e =
+        entry-byte t j 16 p lt lj ne (omega arith) e ∙ getD-behind (bytesOf (u f delta recs j t)) _ 16 0 16 (length-bytesOf _) (omega arith)
 
-    pub second-byte : p ≡ t * leakyLen (f .n) + (32 + j * 18) + 17 → getD (leakyRows f delta recs) p 0 ≡ num (H (blocks .op (x f recs t .key j) delta))
+    pub second-byte : p ≡ t * leakyLen (f .n) + (32 + j * 18) + 17
+        → getD (leakyRows f delta recs) p 0 ≡ num (H (blocks .op (x f recs t .key j) delta))
     unfolding leakyEntry
-    second-byte e = entry-byte t j 17 p lt lj ne (omega arith) e ∙ getD-behind (bytesOf (u f delta recs j t)) _ 16 1 17 (length-bytesOf _) (omega arith)
+    second-byte e =
+        entry-byte t j 17 p lt lj ne (omega arith) e ∙ getD-behind (bytesOf (u f delta recs j t)) _ 16 1 17 (length-bytesOf _) (omega arith)
 
 -- ---- the rows of ZS
 pub length-zRow : (f : Frame) (masks recs : List ℕ) (m : ℕ → List ℕ) (t : ℕ) → length (zRow f masks recs m t) ≡ 17

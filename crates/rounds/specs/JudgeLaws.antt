@@ -82,7 +82,8 @@ module _ (numbers : List ℕ) (n : ℕ) where
 
 found-by : (numbers : List ℕ) (f : Frame) (c : ℕ → ℕ) → ((k : ℕ) → One numbers (c k)) → Found numbers (f .n) (byParty f c)
 unfolding byParty
-found-by numbers f c h = found-scan numbers (f .n) _ (λ k. one-pick numbers (other f k) (c k) 0 (h k) (one-zero numbers)) (f .n) (le-refl (f .n))
+found-by numbers f c h =
+    found-scan numbers (f .n) _ (λ k. one-pick numbers (other f k) (c k) 0 (h k) (one-zero numbers)) (f .n) (le-refl (f .n))
 
 names : (numbers : List ℕ) (n p c : ℕ) → p < n → One numbers c → Found numbers n (record { code = c; party = p })
 unfolding One Found

@@ -13,7 +13,8 @@ use lib.Dec.{ltb}
 use borrow.Author.Tests.{lt-ltb}
 use borrow.Rule.Slice.PartMut.{putMid}
 use Rattle.lists.specs.Pick.{pick}
-use Rattle.lists.specs.Over.{cat, cat-add, length-cat, over-put, length-over, over-full, in-chunks, next-chunk, Written, written-zero, written-turn, written-end}
+use Rattle.lists.specs.Over.{cat, cat-add, length-cat, over-put, length-over, over-full, in-chunks, next-chunk, Written, written-zero}
+use Rattle.lists.specs.Over.{written-turn, written-end}
 use Rattle.lists.specs.Rows.{cat-ext}
 use Rattle.lists.specs.Sect.{length-get}
 use Rattle.algebra.specs.Group.{XorGroup, sel}
@@ -103,7 +104,8 @@ module _ (n i m : ℕ) (g : ℕ → List ℕ) where
     pub sent-in : q < n - 1 → q * len + len ≤ length d
     sent-in h = omega (arith, in-chunks q (n - 1) m h, w .same, ap (λ k. q * k) is)
 
-    pub sent-turn : ((k : ℕ) → k < n → length (g k) ≡ m) → (k : ℕ) (x : List ℕ) → q < n - 1 → k ≡ Plan.other i q → x ≡ g k → Sent (q + 1) l (putMid (q * len) (q * len + len - q * len) d x)
+    pub sent-turn : ((k : ℕ) → k < n → length (g k) ≡ m) → (k : ℕ) (x : List ℕ) → q < n - 1 → k ≡ Plan.other i q → x ≡ g k
+        → Sent (q + 1) l (putMid (q * len) (q * len + len - q * len) d x)
     sent-turn long k x h hk hx =
         subst (λ z. Sent (q + 1) l (putMid (q * z) (q * z + z - q * z) d x)) (sym is)
         (written-turn (λ q. g (nth i q)) q (q * m) (q * m + m) ((q + 1) * m) l d x w (hx ∙ ap g (hk ∙ nth-other i q))
@@ -163,7 +165,9 @@ module _ (size : ℕ → ℕ) (S s : ℕ) (in-S : s < S) (w₀ : List ℕ) (h : 
         next = cat (j + m) g ++ drop e′ (sec size s w₀)
 
         long : length (cat (j + m) g) ≡ e′
-        long = ap length (sym (cat-add g j m)) ∙ length-append (cat j g) more ∙ (let q : length (cat j g) + length more ≡ e′ = omega (arith, v .at) in q)
+        long =
+            ap length (sym (cat-add g j m)) ∙ length-append (cat j g) more
+            ∙ (let q : length (cat j g) + length more ≡ e′ = omega (arith, v .at) in q)
 
         kept : length (putSec size s next w₀) ≡ length w₀
         kept = length-putSec size S w₀ h s next in-S (whole (j + m) e′ long hs) ∙ sym h
@@ -177,12 +181,14 @@ module _ (size : ℕ → ℕ) (S s : ℕ) (in-S : s < S) (w₀ : List ℕ) (h : 
         now =
             ap₂ (λ b n. putMid b n w x) hp (let q : e - p ≡ k = omega arith in q)
             ∙ put-sec size S w (v .same ∙ h) s a k x in-S (omega arith)
-            ∙ ap₂ (λ (y z : List ℕ). putSec size s (putMid a k y x) z) (ap (sec size s) (v .here) ∙ sec-same size S w₀ h s body in-S filled) (v .here)
+            ∙ ap₂ (λ (y z : List ℕ). putSec size s (putMid a k y x) z) (ap (sec size s) (v .here) ∙ sec-same size S w₀ h s body in-S filled)
+            (v .here)
             ∙ ap (λ (y : List ℕ). putSec size s y (putSec size s body w₀)) rows
             ∙ putSec-twice size S w₀ h s next body in-S filled
 
     -- one more row
-    pub keeping-turn : (j a k p e e′ : ℕ) (w x : List ℕ) → Keeping size S s g j a w₀ w → x ≡ g j → length (g j) ≡ k → p ≡ off size s + a → e ≡ p + k
+    pub keeping-turn : (j a k p e e′ : ℕ) (w x : List ℕ) → Keeping size S s g j a w₀ w → x ≡ g j → length (g j) ≡ k → p ≡ off size s + a
+        → e ≡ p + k
         → a + k ≡ e′ → e′ ≤ size s → Keeping size S s g (j + 1) e′ w₀ (putMid p (e - p) w x)
     unfolding cat
     keeping-turn j a k p e e′ w x v hx hk =

@@ -75,7 +75,8 @@ put-next o a m c x w h l =
     let n : length p ≡ o + a = length-append (take o w) c ∙ ap₂ _+_ (length-take-le o w l) h in
     ap (put (o + a) m x) (sym (append-assoc (take o w) c _) ∙ ap (λ (z : List ℕ). p ++ z) (drop-drop a o w))
     ∙ over-put p x w (o + a) m n
-    ∙ ap₂ _++_ (append-assoc (take o w) c x) (sym (drop-drop (a + m) o w ∙ ap (λ j. drop j w) (let e : o + (a + m) ≡ o + a + m = omega arith in e)))
+    ∙ ap₂ _++_ (append-assoc (take o w) c x)
+    (sym (drop-drop (a + m) o w ∙ ap (λ j. drop j w) (let e : o + (a + m) ≡ o + a + m = omega arith in e)))
     ∙ append-assoc (take o w) (c ++ x) _
 
 module _ (g : ℕ → List ℕ) (m o : ℕ) (w : List ℕ) where
@@ -94,7 +95,8 @@ module _ (g : ℕ → List ℕ) (m o : ℕ) (w : List ℕ) where
     laid-before b j l = ap (get b j) (d .here) ∙ get-put-before b j o (k * m) (cat k g) w l (omega (arith, d .fits))
 
     -- one more row, lent as `&mut v[a..e]`
-    pub laid-turn : (a e : ℕ) (x : List ℕ) → a ≡ o + k * m → e ≡ a + m → e ≤ length w → x ≡ g k → length x ≡ length (take (e - a) (drop a v))
+    pub laid-turn : (a e : ℕ) (x : List ℕ) → a ≡ o + k * m → e ≡ a + m → e ≤ length w → x ≡ g k
+        → length x ≡ length (take (e - a) (drop a v))
         → Laid g m o (k + 1) w (putMid a (e - a) v x)
     unfolding cat
     laid-turn a e x ha he hw hx hl = record { here = there; size = sized; fits = room; same = ap length there ∙ length-put o ((k + 1) * m) (cat (k + 1) g) w sized room }
@@ -103,7 +105,9 @@ module _ (g : ℕ → List ℕ) (m o : ℕ) (w : List ℕ) where
         grown = rw (add-one k) refl
 
         sized : length (cat (k + 1) g) ≡ (k + 1) * m
-        sized = ap length grown ∙ length-append (cat k g) (g k) ∙ omega (arith, d .size, next-chunk k m, ap length hx, hl, length-take-drop a e v, d .same)
+        sized =
+            ap length grown ∙ length-append (cat k g) (g k)
+            ∙ omega (arith, d .size, next-chunk k m, ap length hx, hl, length-take-drop a e v, d .same)
 
         room : o + (k + 1) * m ≤ length w
         room = omega (arith, next-chunk k m)
@@ -111,7 +115,8 @@ module _ (g : ℕ → List ℕ) (m o : ℕ) (w : List ℕ) where
         there : putMid a (e - a) v x ≡ put o ((k + 1) * m) (cat (k + 1) g) w
         there =
             ap (λ j. putMid j (e - a) v x) ha ∙ ap (λ j. putMid (o + k * m) j v x) (let q : e - a ≡ m = omega arith in q)
-            ∙ ap (λ (u : List ℕ). putMid (o + k * m) m u x) (d .here) ∙ put-next o (k * m) m (cat k g) x w (d .size) (omega (arith, d .fits))
+            ∙ ap (λ (u : List ℕ). putMid (o + k * m) m u x) (d .here)
+            ∙ put-next o (k * m) m (cat k g) x w (d .size) (omega (arith, d .fits))
             ∙ ap₂ (λ j (c : List ℕ). put o j c w) (sym (next-chunk k m)) (ap (λ (y : List ℕ). cat k g ++ y) hx ∙ sym grown)
 
 -- all rows of section s are there

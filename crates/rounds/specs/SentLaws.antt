@@ -31,10 +31,12 @@ module _ (g : ℕ → List ℕ) (c m : ℕ) where
   pub chunks-zero : (l : List ℕ) → Written g 0 (0 * m) l l
   chunks-zero l = rw (zero-mul m) (written-zero g l)
 
-  pub chunks-turn : (q e : ℕ) (l d x : List ℕ) → length l ≡ c * m → q < c → Written g q (q * m) l d → length (g q) ≡ m → x ≡ g q → e ≡ q * m + m
+  pub chunks-turn : (q e : ℕ) (l d x : List ℕ) → length l ≡ c * m → q < c → Written g q (q * m) l d → length (g q) ≡ m → x ≡ g q
+      → e ≡ q * m + m
       → Written g (q + 1) ((q + 1) * m) l (putMid (q * m) (e - q * m) d x)
   chunks-turn q e l d x n h w long hx he =
-      written-turn g q (q * m) e ((q + 1) * m) l d x w hx (ap (λ k. q * m + k) long ∙ sym he) (omega (arith, in-chunks q c m h)) (omega (arith, next-chunk q m))
+      written-turn g q (q * m) e ((q + 1) * m) l d x w hx (ap (λ k. q * m + k) long ∙ sym he) (omega (arith, in-chunks q c m h))
+      (omega (arith, next-chunk q m))
 
   pub chunks-end : (q : ℕ) (l d : List ℕ) → length l ≡ c * m → Written g q (q * m) l d → q ≡ c → d ≡ cat c g
   chunks-end q l d n w e = written-end g q c (q * m) l d w e (rw e (omega arith))

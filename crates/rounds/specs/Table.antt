@@ -15,7 +15,8 @@ use Rattle.plan.specs.Plan.{theRounds, kindOf, countDue, msgLen, leaky, rLen}
 use Rattle.engine.specs.declared.Frame.{Frame}
 use Rattle.engine.specs.Step.{Fault, none?, Loan}
 use Rattle.engine.specs.Plain.{Recv, Send, Table}
-use Rattle.rounds.specs.Area.{DELTA, SEED, PAIRS, MASKS, BITS, ALPHA, BETA, COMMS, JOINT, PAIR-COMMS, PAIRWISE, KEY-SUMS, SHARE-COMMS, DMS, LEAKY, ZS, ES, HS, H-COMMS, PERM, DS, TRIPLES, ROUNDS-OWN, sizeOf, at, keep}
+use Rattle.rounds.specs.Area.{DELTA, SEED, PAIRS, MASKS, BITS, ALPHA, BETA, COMMS, JOINT, PAIR-COMMS, PAIRWISE, KEY-SUMS, SHARE-COMMS}
+use Rattle.rounds.specs.Area.{DMS, LEAKY, ZS, ES, HS, H-COMMS, PERM, DS, TRIPLES, ROUNDS-OWN, sizeOf, at, keep}
 use Rattle.rounds.specs.Echo.{hashVec, echo}
 use Rattle.rounds.specs.Toss as Toss
 use Rattle.rounds.specs.Fabitn as Fabitn

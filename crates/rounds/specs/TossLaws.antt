@@ -79,10 +79,12 @@ same-comm a b = go (same? a b) refl (same? b a) refl
     go false e false f = refl
 
 -- d is the commitment to what party k told, and b says whether it is the one kept
-pub open-of : (comms : List ℕ) (m : ℕ → List ℕ) (k : ℕ) (d : List ℕ) (b : Bool) → d ≡ commitment (told (m k)) k → b ≡ same? (get (k * 32) 32 comms) d
+pub open-of : (comms : List ℕ) (m : ℕ → List ℕ) (k : ℕ) (d : List ℕ) (b : Bool) → d ≡ commitment (told (m k)) k
+    → b ≡ same? (get (k * 32) 32 comms) d
     → pick b 0 2 ≡ openFault comms m k
 unfolding chunk
-open-of comms m k d b e h = ap (λ (t : Bool). pick {A = ℕ} t 0 2) (h ∙ same-comm (get (k * 32) 32 comms) d ∙ ap (λ (x : List ℕ). same? x (get (k * 32) 32 comms)) e)
+open-of comms m k d b e h =
+    ap (λ (t : Bool). pick {A = ℕ} t 0 2) (h ∙ same-comm (get (k * 32) 32 comms) d ∙ ap (λ (x : List ℕ). same? x (get (k * 32) 32 comms)) e)
 
 -- ---- the joint seed, party by party
 module _ (i : ℕ) (seed : List ℕ) (m : ℕ → List ℕ) where

@@ -7,7 +7,8 @@ use lib.ListN.{length, replicate}
 use lib.Dec.{eqb}
 use Rattle.plan.specs.Plan.{nextRound}
 use Rattle.engine.specs.declared.Session.{Session}
-use Rattle.engine.specs.Step.{Lent, Accepted, Refused, outcome, mask, heard, reasonOf, faultOf, ended, refused, faulted, accepted, roundSpec}
+use Rattle.engine.specs.Step.{Lent, Accepted, Refused, outcome, mask, heard, reasonOf, faultOf, ended, refused, faulted, accepted}
+use Rattle.engine.specs.Step.{roundSpec}
 use Rattle.engine.specs.StepLaws.{round-refuses, round-faults, round-accepts}
 use Rattle.engine.specs.Plain.{nextOf, ruleOf, protocolOf, keepOf, writeOf}
 use Rattle.rounds.specs.FaultLaws.{Finds}

@@ -30,7 +30,8 @@ length-waits x = go (eqb (x .code) 0)
     go false = refl
 
 -- what `note` asks for: a fault names a party of the session
-pub names-party : (f : Frame) → f .i < f .n → (k : ℕ) (w : List ℕ) (m : ℕ → List ℕ) (code party : ℕ) → Finds code party (Table.judge k f w m) → code ≢ 0
+pub names-party : (f : Frame) → f .i < f .n → (k : ℕ) (w : List ℕ) (m : ℕ → List ℕ) (code party : ℕ)
+    → Finds code party (Table.judge k f w m) → code ≢ 0
     → party < f .n
 unfolding Found
 names-party f own k w m code party h ne =
@@ -43,7 +44,8 @@ module _ (f : Frame) (k : ℕ) (m : ℕ → List ℕ) where
   length-digests = length-rows f (λ j. hashVec k (m j)) (λ j _ _. length-hashVec k (m j))
 
   -- the hashes that were kept are read again
-  pub hashes-kept : (x : Fault) (w : List ℕ) → length w ≡ workLen f → hashes table f (keep f PENDING (waits x) (keep f HASHES (digests table k f m) w)) ≡ digests table k f m
+  pub hashes-kept : (x : Fault) (w : List ℕ) → length w ≡ workLen f
+      → hashes table f (keep f PENDING (waits x) (keep f HASHES (digests table k f m) w)) ≡ digests table k f m
   unfolding hashes keep workLen sizeOf sizes
   hashes-kept x w h =
       let d = length-digests in
@@ -55,4 +57,5 @@ module _ (f : Frame) (k : ℕ) (m : ℕ → List ℕ) where
   pub held-is : (w v : List ℕ) → v ≡ pick (eqb (Table.judge k f w m .code) 0) (Table.kept k f w m) w
       → keep f PENDING (waits (Table.judge k f w m)) (keep f HASHES (digests table k f m) v) ≡ held table k f w m
   unfolding held kept keep
-  held-is w v e = ap (λ (y : List ℕ). putSec (sizeOf f) PENDING (waits (Table.judge k f w m)) (putSec (sizeOf f) HASHES (digests table k f m) y)) e
+  held-is w v e =
+      ap (λ (y : List ℕ). putSec (sizeOf f) PENDING (waits (Table.judge k f w m)) (putSec (sizeOf f) HASHES (digests table k f m) y)) e

@@ -38,7 +38,8 @@ to-echo-is n k b e = ap (λ x. not (eqb n 2) && x) (e ∙ ap echo? (add-one k))
 single : (k : ℕ) → k ≤ 22 → echo? k ≡ true → echo? (suc k) ≡ false
 unfolding allOf echoIn mem
 single k h e =
-    let t : pick (echo? k) (not (echo? (suc k))) true ≡ true = of-all 23 (λ k. pick (echo? k) (not (echo? (suc k))) true) refl k (omega arith) in
+    let t : pick (echo? k) (not (echo? (suc k))) true ≡ true =
+    of-all 23 (λ k. pick (echo? k) (not (echo? (suc k))) true) refl k (omega arith) in
     not-true (echo? (suc k)) (rw e at t)
   where
     not-true : (b : Bool) → not b ≡ true → b ≡ false
@@ -91,7 +92,8 @@ module _ (f : Frame) (k : ℕ) where
       go true b z = absurd (true-false (sym z))
       go false b z = (refl, z)
 
-  pub out-made : k < 22 → toEcho table (eqb (f .n) 2) k ≡ false → outLenOf table k f ≡ (f .n - 1) * msgLen (f .n) (f .l) (nextRound (f .n) k)
+  pub out-made : k < 22 → toEcho table (eqb (f .n) 2) k ≡ false
+      → outLenOf table k f ≡ (f .n - 1) * msgLen (f .n) (f .l) (nextRound (f .n) k)
   unfolding outLenOf lenOf
   out-made h e = rw (ne-eqb k 22 (omega arith), next-plain (f .n) k h e) refl
 

@@ -54,7 +54,8 @@ module _ {g : ℕ → List ℕ} {n k : ℕ} {l d : List ℕ} (f : Filled g n k l
     unfolding cat
     filled-turn x h hx =
         let p : putMid a (e - a) d x ≡ (getD l 0 0 ∷ cat (k + 1) g) ++ drop (macOff (k + 1)) l =
-        over-next (getD l 0 0 ∷ cat k g) (g k) x l d a (e - a) (macOff (k + 1)) (f .here ∙ ap (λ o. (getD l 0 0 ∷ cat k g) ++ drop o l) (sym start))
+        over-next (getD l 0 0 ∷ cat k g) (g k) x l d a (e - a) (macOff (k + 1))
+        (f .here ∙ ap (λ o. (getD l 0 0 ∷ cat k g) ++ drop o l) (sym start))
         (written g (f .long) (getD l 0 0) k ∙ sym start) hx (omega arith)
         ∙ rw (add-one k) refl in
         record {

@@ -3,4 +3,3 @@ pub mod RecordLaws
 pub mod Share
 pub mod ShareLaws
 pub mod Parties
-pub mod Seen

@@ -52,7 +52,8 @@ module _ (n : ℕ) (v : Shared Block) (files : ℕ → List ℕ) (at : ℕ)
   unfolding sharedAt shareAt shareOf
   good-at δ g i j li lj ne =
       agree i li .mac j lj ne ∙ g i j li lj ne
-      ∙ ap₂ (λ (k : Block) (b : Bool). blocks .op k (sel blocks b (δ j))) (sym (agree j lj .key i li (λ e. ne (sym e)))) (sym (agree i li .bit))
+      ∙ ap₂ (λ (k : Block) (b : Bool). blocks .op k (sel blocks b (δ j))) (sym (agree j lj .key i li (λ e. ne (sym e))))
+      (sym (agree i li .bit))
 
   pub total-at : total n (sharedAt files at) ≡ total n v
   unfolding sharedAt shareAt shareOf

@@ -42,7 +42,9 @@ module _ (n at : ℕ) (s : List ℕ) where
   bit-part = ap odd byte-part
 
   block-part : (o : ℕ) → o + 16 ≤ recordLen n → blockAt cut (0 + o) ≡ blockAt s (at + o)
-  block-part o h = block-take (drop at s) (recordLen n) (0 + o) (omega arith) ∙ block-drop s at (0 + o) ∙ ap (λ a. blockAt s (at + a)) (let e : 0 + o ≡ o = omega arith in e)
+  block-part o h =
+      block-take (drop at s) (recordLen n) (0 + o) (omega arith) ∙ block-drop s at (0 + o)
+      ∙ ap (λ a. blockAt s (at + a)) (let e : 0 + o ≡ o = omega arith in e)
 
   pub mac-part : (k : ℕ) → k < n → macAt cut 0 k ≡ macAt s at k
   unfolding macAt
@@ -76,13 +78,15 @@ module _ (i : ℕ) (s : List ℕ) (at : ℕ) where
   pub valid-fault : Valid i s at → recordFault i s at ≡ 0
   unfolding ownZero
   valid-fault v =
-      fault-none i s at (v .bit) (ap₂ _&&_ (eq-block (macAt s at i) (blocks .nil) (v .mac)) (eq-block (keyAt s at i) (blocks .nil) (v .key)))
+      fault-none i s at (v .bit)
+      (ap₂ _&&_ (eq-block (macAt s at i) (blocks .nil) (v .mac)) (eq-block (keyAt s at i) (blocks .nil) (v .key)))
 
   pub fault-valid : recordFault i s at ≡ 0 → Valid i s at
   unfolding recordFault ownZero
   fault-valid = go (leb (getD s at 0) 1) refl (eqBlock (macAt s at i) (blocks .nil)) refl (eqBlock (keyAt s at i) (blocks .nil)) refl
     where
-      go : (a : Bool) → leb (getD s at 0) 1 ≡ a → (b : Bool) → eqBlock (macAt s at i) (blocks .nil) ≡ b → (c : Bool) → eqBlock (keyAt s at i) (blocks .nil) ≡ c
+      go : (a : Bool) → leb (getD s at 0) 1 ≡ a → (b : Bool) → eqBlock (macAt s at i) (blocks .nil) ≡ b → (c : Bool)
+          → eqBlock (keyAt s at i) (blocks .nil) ≡ c
           → _≡_ {A = ℕ} (pick a (pick (b && c) 0 4) 1) 0 → Valid i s at
       go true ea true eb true ec h = record {
         bit = leb-true (getD s at 0) 1 ea;
@@ -120,7 +124,8 @@ module _ (n i : ℕ) (s : List ℕ) where
   faults-stay t zero f h e ne = ap (recordsFault n i s) (let z : 0 ≡ t = omega arith in z) ∙ e
   faults-stay t (suc count) f h e ne = go (ltb count t) refl (faults-stay t count f)
     where
-      go : (b : Bool) → ltb count t ≡ b → (t ≤ count → recordsFault n i s t ≡ f → f ≢ 0 → recordsFault n i s count ≡ f) → recordsFault n i s (suc count) ≡ f
+      go : (b : Bool) → ltb count t ≡ b → (t ≤ count → recordsFault n i s t ≡ f → f ≢ 0 → recordsFault n i s count ≡ f)
+          → recordsFault n i s (suc count) ≡ f
       go true q ih = ap (recordsFault n i s) (let z : suc count ≡ t = omega (arith, ltb-true count t q) in z) ∙ e
       go false q ih =
           let p : recordsFault n i s count ≡ f = ih (ltb-false count t q) e ne in

@@ -18,7 +18,8 @@ use Rattle.algebra.specs.Sum.{sum, neq, neq-self, neq-true, Same, same, apart, 
 use Rattle.block.specs.declared.Block.{Block}
 use Rattle.block.specs.Block.{blockAt, wordAt, bytesOf, le8, zeroOf}
 use Rattle.block.specs.Group.{blocks}
-use Rattle.block.specs.Trip.{Small, small-xor, small-nil, length-bytesOf, bytes-bytesOf, block-bytesOf, block-at, block-drop, block-take, block-get, bytesOf-at}
+use Rattle.block.specs.Trip.{Small, small-xor, small-nil, length-bytesOf, bytes-bytesOf, block-bytesOf, block-at, block-drop, block-take}
+use Rattle.block.specs.Trip.{block-get, bytesOf-at}
 use Rattle.share.specs.Record.{recordLen, macOff, keyOff, bitAt, macAt, keyAt}
 use Rattle.share.specs.RecordLaws.{Valid, bit-part, mac-part, key-part, small-mac, small-key}
 use Rattle.share.specs.Share.{Share, shareAt, shares, entryBytes, entryOf, recordOf}
@@ -149,7 +150,9 @@ module _ (n i : ℕ) (x : Share) where
 
   pub bytes-recordOf : Bytes (recordOf n i x)
   unfolding recordOf entryOf
-  bytes-recordOf = bytes-cons (num (x .bit)) (cat n (entryOf i x)) (num-byte (x .bit)) (bytes-cat n (entryOf i x) (λ k h. bytes-entry i k (x .mac k) (x .key k)))
+  bytes-recordOf =
+      bytes-cons (num (x .bit)) (cat n (entryOf i x)) (num-byte (x .bit))
+      (bytes-cat n (entryOf i x) (λ k h. bytes-entry i k (x .mac k) (x .key k)))
 
 -- ---- two shares that party i's records among n parties do not tell apart
 pub record Agree (n i : ℕ) (x y : Share) : Type 0 where
@@ -160,7 +163,8 @@ pub record Agree (n i : ℕ) (x y : Share) : Type 0 where
 module _ (n i : ℕ) where
   pub agree-record : (x y : Share) → Agree n i x y → recordOf n i x ≡ recordOf n i y
   unfolding recordOf entryOf entryBytes
-  agree-record x y h = ap₂ (λ b (l : List ℕ). num b ∷ l) (h .bit) (cat-ext n (entryOf i x) (entryOf i y) (λ k l. go k l (neq i k) (apart? i k)))
+  agree-record x y h =
+      ap₂ (λ b (l : List ℕ). num b ∷ l) (h .bit) (cat-ext n (entryOf i x) (entryOf i y) (λ k l. go k l (neq i k) (apart? i k)))
     where
       go : (k : ℕ) → k < n → (b : Bool) → Same i k b
           → pick b (bytesOf (x .mac k) ++ bytesOf (x .key k)) (replicate 32 0) ≡ pick b (bytesOf (y .mac k) ++ bytesOf (y .key k)) (replicate 32 0)
@@ -248,13 +252,15 @@ module _ (n i : ℕ) (x : Share) (s : List ℕ) (at : ℕ) (here : take (recordL
   pub mac-here : (k : ℕ) → k < n → i ≢ k → Small (x .mac k) → macAt s at k ≡ x .mac k
   unfolding entryOf
   mac-here k h ne sm =
-      mac-entry k h ∙ ap (λ (l : List ℕ). blockAt l 0) (entry-other i k (x .mac k) (x .key k) ne) ∙ block-bytesOf (x .mac k) (bytesOf (x .key k)) sm
+      mac-entry k h ∙ ap (λ (l : List ℕ). blockAt l 0) (entry-other i k (x .mac k) (x .key k) ne)
+      ∙ block-bytesOf (x .mac k) (bytesOf (x .key k)) sm
 
   pub key-here : (k : ℕ) → k < n → i ≢ k → Small (x .key k) → keyAt s at k ≡ x .key k
   unfolding entryOf
   key-here k h ne sm =
       key-entry k h
-      ∙ ap (λ (l : List ℕ). blockAt l 16) (entry-other i k (x .mac k) (x .key k) ne ∙ ap (λ (l : List ℕ). bytesOf (x .mac k) ++ l) (sym (append-nil (bytesOf (x .key k)))))
+      ∙ ap (λ (l : List ℕ). blockAt l 16)
+      (entry-other i k (x .mac k) (x .key k) ne ∙ ap (λ (l : List ℕ). bytesOf (x .mac k) ++ l) (sym (append-nil (bytesOf (x .key k)))))
       ∙ block-at (bytesOf (x .mac k)) (x .key k) [] 16 (length-bytesOf (x .mac k)) sm
 
   pub own-mac-here : i < n → macAt s at i ≡ blocks .nil
@@ -294,7 +300,8 @@ pub read-front : (n i : ℕ) (x : Share) (rest : List ℕ) → SmallShare n x �
 read-front n i x rest = read-here n i x (recordOf n i x ++ rest) 0 (record-behind n i x [] rest 0 refl)
 
 -- a record that is all there is: what is added to it is added to x
-pub record-add : (n i : ℕ) (x y : Share) → SmallShare n x → recordOf n i (shares .op (shareAt (recordOf n i x) 0) y) ≡ recordOf n i (shares .op x y)
+pub record-add : (n i : ℕ) (x y : Share) → SmallShare n x
+    → recordOf n i (shares .op (shareAt (recordOf n i x) 0) y) ≡ recordOf n i (shares .op x y)
 record-add n i x y sm =
     agree-record n i (shares .op (shareAt (recordOf n i x) 0) y) (shares .op x y)
     (agree-op n i (shareAt (recordOf n i x) 0) y x y
@@ -307,14 +314,16 @@ module _ (n i : ℕ) (s : List ℕ) (at : ℕ) (h : Bytes s) (v : Valid i s at) 
   pair-at k l =
       ap₂ _++_ (bytesOf-at s h (at + macOff k) (omega arith))
       (bytesOf-at s h (at + keyOff k) (omega arith)
-      ∙ ap (take 16) (ap (λ a. drop a s) (let e : at + keyOff k ≡ (at + macOff k) + 16 = omega arith in e) ∙ sym (drop-drop 16 (at + macOff k) s)))
+      ∙ ap (take 16)
+      (ap (λ a. drop a s) (let e : at + keyOff k ≡ (at + macOff k) + 16 = omega arith in e) ∙ sym (drop-drop 16 (at + macOff k) s)))
       ∙ sym (take-add 16 16 (drop (at + macOff k) s))
 
   entry-at : (k : ℕ) → k < n → entryOf i (shareAt s at) k ≡ take 32 (drop (at + macOff k) s)
   unfolding entryOf entryBytes shareAt
   entry-at k l = go (neq i k) (apart? i k)
     where
-      go : (b : Bool) → Same i k b → pick b (bytesOf (macAt s at k) ++ bytesOf (keyAt s at k)) (replicate 32 0) ≡ take 32 (drop (at + macOff k) s)
+      go : (b : Bool) → Same i k b
+          → pick b (bytesOf (macAt s at k) ++ bytesOf (keyAt s at k)) (replicate 32 0) ≡ take 32 (drop (at + macOff k) s)
       go true e = pair-at k l
       go false (same e) =
           sym zero-pair

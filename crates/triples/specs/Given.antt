@@ -13,7 +13,7 @@ use Rattle.rounds.specs.Buckets.{later}
 use Rattle.area.specs.Given.{Work, Place}
 use Rattle.area.specs.GivenLaws.{length-at}
 use Rattle.area.specs.Sizes.{size-bits, size-zs, size-es, size-perm}
-use Rattle.dvalue.specs.Given.{size-opened}
+use Rattle.buckets.specs.Given.{size-opened}
 use Rattle.triples.specs.declared.Places.{Places}
 
 -- the records, the own bits z, and the others' bits e

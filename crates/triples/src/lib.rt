@@ -127,11 +127,11 @@ fn put_triple(
     ensures { λ _. ⌜ now (pair .exit) ≡ B.tripleRow f (B.abc f (delta .0) (now (recs .entry)) (now (zs .entry)) (now (es .entry))
         (now (perm .entry)) (now (opened .entry)) j) ⌝ }
 {
-    let due = dvalue::later(f);
-    put_first(pair, recs, zs, es, delta, f, dvalue::entry(perm, f, j, 0));
+    let due = buckets::later(f);
+    put_first(pair, recs, zs, es, delta, f, buckets::entry(perm, f, j, 0));
     let mut e = 0;
     while e < due {
-        let t = dvalue::entry(perm, f, j, e + 1);
+        let t = buckets::entry(perm, f, j, e + 1);
         let d = block::bit(opened, j * due + e);
         add_entry(pair, recs, zs, es, delta, f, t, d);
         e += 1;

@@ -43,7 +43,8 @@ read-one-requires : tie.Need-read-one-requires Inv-loop μ-loop
 read-one-requires c κs =
     let a = c .before .before in (
       (omega arith, omega arith, omega arith),
-      parts-fit (s a .args .f .n) (s a .args .f .l) (s a .args .f .i) (mail (s a)) (s a .pre .1 .1) (c .before .loop .j) (c .loop-test .taken),
+      parts-fit (s a .args .f .n) (s a .args .f .l) (s a .args .f .i) (mail (s a)) (s a .pre .1 .1) (c .before .loop .j)
+          (c .loop-test .taken),
     )
 
 returns : tie.Need-returns Inv-loop μ-loop
@@ -52,7 +53,8 @@ returns c =
     let g = s a .args in
     let j = c .before .before .before .loop in
     let x = c .before .read-one in (
-      form-found (now (g .incoming)) (now (g .starts)) (now (g .lens)) (now (g .missing)) (g .f .n) (g .f .i) (g .f .l) (g .k) (a .before .kind-of .result) (a .count-due .result)
+      form-found (now (g .incoming)) (now (g .starts)) (now (g .lens)) (now (g .missing)) (g .f .n) (g .f .i) (g .f .l) (g .k)
+          (a .before .kind-of .result) (a .count-due .result)
           (a .before .kind-of .ensures) (a .count-due .ensures) (x .result .code) (j .j)
           (finds-first (g .f .n) (g .f .i) (fault a) (g .f .l) (j .j) (x .result .code) (c .before .before .loop-test .taken) (j .inv .1 .0) (x .ensures .0) (c .if1 .taken)),
       sym (ap (λ b. pick b (mailOf (g .f) (kindOf (g .f .l) (g .k)) (mail (s a))) noMail) (ne-eqb (x .result .code) 0 (c .if1 .taken))),
@@ -89,7 +91,8 @@ loop-again c =
         scan-turn (j .j) (faultAt (g .f .i) (fault a)) (j .inv .1 .0) (sym (x .ensures .0) ∙ e .if1 .left),
         (
           eight-turn (λ k. getD (now (g .starts)) k 0) (j .j) (j .at) _ (room e) (j .inv .1 .1 .0) refl,
-          eight-turn (usedAt (g .f .i) (a .before .kind-of .result) (mail (s a))) (j .j) (j .used) (x .result .used) (room e) (j .inv .1 .1 .1) (x .ensures .1),
+          eight-turn (usedAt (g .f .i) (a .before .kind-of .result) (mail (s a))) (j .j) (j .used) (x .result .used) (room e)
+              (j .inv .1 .1 .1) (x .ensures .1),
         ),
       ),
     )
@@ -101,7 +104,8 @@ returns-2 c =
     let g = s a .args in
     let j = c .before .loop in
     let end : j .j ≡ g .f .n = omega arith in (
-      form-found (now (g .incoming)) (now (g .starts)) (now (g .lens)) (now (g .missing)) (g .f .n) (g .f .i) (g .f .l) (g .k) (a .before .kind-of .result)
+      form-found (now (g .incoming)) (now (g .starts)) (now (g .lens)) (now (g .missing)) (g .f .n) (g .f .i) (g .f .l) (g .k)
+          (a .before .kind-of .result)
           (a .count-due .result) (a .before .kind-of .ensures) (a .count-due .ensures) 0 0
           (finds-none (g .f .n) (g .f .i) (fault a) (g .f .l) (j .j) 0 (j .inv .1 .0) end),
       ap₂ (λ (x y : List ℕ). let m : Mail = record { starts = x; lens = y } in m)

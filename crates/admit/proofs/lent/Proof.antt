@@ -15,7 +15,8 @@ module _ (c : tie.After-loaned) where
   abbrev s : tie.Start
   s = c .before .before .before .before .before .before
 
-  six : (x : ℕ) → x ≡ pick (c .loaned .result) 0 17 → x ≡ lentOf table (s .args .k) (s .args .n) (s .args .l) (loan (now (s .args .r)) (now (s .args .perm)))
+  six : (x : ℕ) → x ≡ pick (c .loaned .result) 0 17
+      → x ≡ lentOf table (s .args .k) (s .args .n) (s .args .l) (loan (now (s .args .r)) (now (s .args .perm)))
   six x e =
       let j = c .before .before .before .next-round in
       let a = s .args in
@@ -35,7 +36,9 @@ module _ (c : tie.After-loaned2) where
   s2 = c .before .before .before .before .before .before .before
 
   two-lengths : c .loaned2 .result ≡ (eqb (length (now (s2 .args .r))) 0 && eqb (length (now (s2 .args .perm))) (leaky (s2 .args .l)))
-  two-lengths = c .loaned2 .ensures ∙ ap (λ m. eqb (length (now (s2 .args .r))) 0 && eqb (length (now (s2 .args .perm))) m) (c .before .leaky .ensures)
+  two-lengths =
+      c .loaned2 .ensures
+      ∙ ap (λ m. eqb (length (now (s2 .args .r))) 0 && eqb (length (now (s2 .args .perm))) m) (c .before .leaky .ensures)
 
 module _ (c : tie.After-is-permutation) where
   abbrev d : tie.After-loaned2
@@ -69,7 +72,8 @@ module _ (c : tie.After-loaned3) where
   abbrev s3 : tie.Start
   s3 = c .before .before .before .before .before .before
 
-  rest : (x : ℕ) → x ≡ pick (c .loaned3 .result) 0 17 → x ≡ lentOf table (s3 .args .k) (s3 .args .n) (s3 .args .l) (loan (now (s3 .args .r)) (now (s3 .args .perm)))
+  rest : (x : ℕ) → x ≡ pick (c .loaned3 .result) 0 17
+      → x ≡ lentOf table (s3 .args .k) (s3 .args .n) (s3 .args .l) (loan (now (s3 .args .r)) (now (s3 .args .perm)))
   rest x e =
       let j = c .before .before .before .next-round in
       let a = s3 .args in

@@ -22,7 +22,8 @@ returns-2 c =
 returns-3 : tie.Need-returns-3
 returns-3 c =
     let s = c .before .before .before .before .before .before .before .before .before .before in
-    fits-there (s .args .i) (mail s) (s .args .k) (c .before .before .before .before .before .if1 .left) (c .before .before .before .if2 .left) (c .inside .result) (c .inside .ensures)
+    fits-there (s .args .i) (mail s) (s .args .k) (c .before .before .before .before .before .if1 .left)
+    (c .before .before .before .if2 .left) (c .inside .result) (c .inside .ensures)
 
 pub part-in-spec : {M : Type 1} → statement M
 part-in-spec =

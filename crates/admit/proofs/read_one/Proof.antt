@@ -48,10 +48,12 @@ returns-3 c =
       fault-other (s .args .i) (s .args .k) (r .result .code) (kindFault (s .args .kind) (s .args .count) (mail s)) ne
           (fault-there (s .args .i) (mail s) (s .args .k) (s .args .kind) (s .args .count) there (r .result .code)
           (r .ensures .0 ∙ ap (Format.formOf (s .args .kind) (s .args .count)) m)),
-      used-there (s .args .i) (mail s) (s .args .k) (s .args .kind) ne there (r .result .used) (r .ensures .1 ∙ ap (Format.listLen (s .args .kind)) m),
+      used-there (s .args .i) (mail s) (s .args .k) (s .args .kind) ne there (r .result .used)
+          (r .ensures .1 ∙ ap (Format.listLen (s .args .kind)) m),
     )
 
 pub read-one-spec : {M : Type 1} → statement M
 read-one-spec =
-    tie.close (tie.spec returns (λ c. search needs) returns-2 (λ c. search needs) (λ c. search needs) (λ c. search needs) (λ c. search needs)
+    tie.close
+    (tie.spec returns (λ c. search needs) returns-2 (λ c. search needs) (λ c. search needs) (λ c. search needs) (λ c. search needs)
     part-requires (λ c κs. search needs) returns-3)

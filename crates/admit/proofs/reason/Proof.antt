@@ -6,12 +6,15 @@ use Rattle.engine.specs.Step.{Lent, partsIn}
 use Rattle.engine.specs.Plain.{protocolOf}
 use Rattle.rounds.specs.Table.{table}
 use Rattle.admit.specs.Admit.{given, lengthsFit}
-use Rattle.admit.specs.AdmitLaws.{alive-ranges, fit-lengths, parts-any, reason-over, reason-turn, reason-lengths, reason-parts, reason-lent}
+use Rattle.admit.specs.AdmitLaws.{alive-ranges, fit-lengths, parts-any, reason-over, reason-turn, reason-lengths, reason-parts}
+use Rattle.admit.specs.AdmitLaws.{reason-lent}
 use Rattle.admit.proofs.reason.Statement.{statement}
 use Rattle.admit.proofs.reason.Tie as tie
 
 abbrev all : tie.Start → Lent
-all s = given (now (s .args .incoming)) (now (s .args .starts)) (now (s .args .lens)) (now (s .args .missing)) (now (s .args .r)) (now (s .args .perm)) (now (s .args .out))
+all s =
+    given (now (s .args .incoming)) (now (s .args .starts)) (now (s .args .lens)) (now (s .args .missing)) (now (s .args .r))
+    (now (s .args .perm)) (now (s .args .out))
 
 module _ (c : tie.After-alive) where
   abbrev s : tie.Start
@@ -44,7 +47,8 @@ returns-3 c =
     let d = c .before .before in
     let e = d .before in
     let g = s (e .before) in
-    reason-lengths (g .args .s) (g .args .k) (all g) (now (g .args .work)) (lives e) (d .if2 .left) (sym (c .before .lengths .ensures) ∙ not-true _ (c .if3 .taken))
+    reason-lengths (g .args .s) (g .args .k) (all g) (now (g .args .work)) (lives e) (d .if2 .left)
+    (sym (c .before .lengths .ensures) ∙ not-true _ (c .if3 .taken))
 
 -- behind the test of the lengths
 module _ (c : tie.Else3) where
@@ -68,7 +72,8 @@ module _ (c : tie.After-parts-in) where
   parts : c .parts-in .result ≡ partsIn (p .args .s .party) (all p)
   parts =
       c .parts-in .ensures (p .args .s .party .l)
-      ∙ parts-any (now (p .args .incoming)) (now (p .args .starts)) (now (p .args .lens)) (now (p .args .missing)) (now (p .args .r)) (now (p .args .perm)) (now (p .args .out))
+      ∙ parts-any (now (p .args .incoming)) (now (p .args .starts)) (now (p .args .lens)) (now (p .args .missing)) (now (p .args .r))
+      (now (p .args .perm)) (now (p .args .out))
       (p .args .s .party)
 
 returns-4 : tie.Need-returns-4

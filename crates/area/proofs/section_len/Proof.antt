@@ -19,7 +19,8 @@ mul-result-3 : tie.Need-mul-result-3
 mul-result-3 c =
     let a = c .before .before .before .before .args in
     let r = c .before .before .before .before .pre .0 in
-    rw (c .bits-count .ensures, c .before .before .record-len .ensures) (omega (arith, by-bit (a .f) r (recordLen (a .f .n)) (record-at-most (a .f) r)))
+    rw (c .bits-count .ensures, c .before .before .record-len .ensures)
+    (omega (arith, by-bit (a .f) r (recordLen (a .f .n)) (record-at-most (a .f) r)))
 
 mul-result-4 : tie.Need-mul-result-4
 mul-result-4 c =
@@ -215,7 +216,8 @@ returns-25 c =
     let h0 : 0 ≤ s = omega arith in
     let h1 = above s 0 h0 (r1 .1) in let h2 = above s 1 h1 (r2 .1) in let h3 = above s 2 h2 (r3 .1) in let h4 = above s 3 h3 (r4 .1) in
     let h5 = above s 4 h4 (r5 .1) in let h6 = above s 5 h5 (r6 .1) in let h7 = above s 6 h6 (r7 .1) in let h8 = above s 7 h7 (r8 .1) in
-    let h9 = above s 8 h8 (r9 .1) in let h10 = above s 9 h9 (r10 .1) in let h11 = above s 10 h10 (r11 .1) in let h12 = above s 11 h11 (r12 .1) in
+    let h9 =
+    above s 8 h8 (r9 .1) in let h10 = above s 9 h9 (r10 .1) in let h11 = above s 10 h10 (r11 .1) in let h12 = above s 11 h11 (r12 .1) in
     let h13 = above s 12 h12 (r13 .1) in let h14 = above s 13 h13 (r14 .1) in let h15 = above s 14 h14 (r15 .1) in let h16 = above s 15 h15 (r16 .1) in
     let h17 = above s 16 h16 (r17 .1) in let h18 = above s 17 h17 (r18 .1) in let h19 = above s 18 h18 (r19 .1) in let h20 = above s 19 h19 (r20 .1) in
     let h21 = above s 20 h20 (r21 .1) in let h22 = above s 21 h21 (r22 .1) in let h23 = above s 22 h22 (r23 .1) in let h24 = above s 23 h23 (r24 .1) in

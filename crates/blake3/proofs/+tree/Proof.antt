@@ -118,7 +118,8 @@ module _ (t : ℕ) where
       let b = k .before .before .before .before .before in
       let a = b .args in
       c .parent .ensures
-      ∙ tree-parts (firsts (a .stride) (a .s .now)) (a .from) (a .len) (a .t) (a .f) (k .left-chunks .result) _ _ _ (b .pre .1 .0 .1) (omega arith) (part k)
+      ∙ tree-parts (firsts (a .stride) (a .s .now)) (a .from) (a .len) (a .t) (a .f) (k .left-chunks .result) _ _ _ (b .pre .1 .0 .1)
+      (omega arith) (part k)
       refl (r .before .tree .ensures) (r .tree2 .ensures)
 
 pub +tree-spec : {M : Type 1} → statement M

@@ -22,7 +22,8 @@ unfolding wordsAt
 loop-again c =
     let l = c .before .before .before .loop in (
       omega arith,
-      tab-turn (l .t) _ _ (l .ms) _ (l .inv .1) (c .split .ensures ∙ ap wordsOf (c .before .load .ensures)) (c .before .before .loop-test .taken),
+      tab-turn (l .t) _ _ (l .ms) _ (l .inv .1) (c .split .ensures ∙ ap wordsOf (c .before .load .ensures))
+          (c .before .before .loop-test .taken),
     )
 
 returns : tie.Need-returns Inv-loop μ-loop

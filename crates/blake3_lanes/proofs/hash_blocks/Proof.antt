@@ -116,7 +116,8 @@ returns c =
     let m = c .before .before .before .loop in
     let s = c .before .before .before .before .before .before in
     let e : l .t ≡ s .args .count = omega arith in
-    written-end (hashAt (s .args .blocks .now)) (l .t) (s .args .count) (l .t * 32) (m .out) (l .out) (l .inv .1) e (omega (arith, s .pre .1, m .inv .1 .same))
+    written-end (hashAt (s .args .blocks .now)) (l .t) (s .args .count) (l .t * 32) (m .out) (l .out) (l .inv .1) e
+    (omega (arith, s .pre .1, m .inv .1 .same))
 
 pub hash-blocks-spec : {M : Type 1} → statement M
 hash-blocks-spec =

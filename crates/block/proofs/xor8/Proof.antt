@@ -11,7 +11,8 @@ returns c =
     let s = k .before in
     c .before .before .store64 .ensures
     ∙ ap le8 (ap₂ bitXor (c .before .before .before .before .before .load64 .ensures) (c .before .before .before .before .load642 .ensures))
-    ∙ le8-xor-words (now (s .args .a)) (now (s .args .b)) (λ i. k .slice-known .given i .fits) (λ i. c .before .before .before .before .before .before .before .shared-slice-known .given i .fits) (s .pre .0) (s .pre .1)
+    ∙ le8-xor-words (now (s .args .a)) (now (s .args .b)) (λ i. k .slice-known .given i .fits)
+    (λ i. c .before .before .before .before .before .before .before .shared-slice-known .given i .fits) (s .pre .0) (s .pre .1)
 
 pub xor8-spec : {M : Type 1} → statement M
 xor8-spec =

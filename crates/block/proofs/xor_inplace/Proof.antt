@@ -22,16 +22,19 @@ loop-again c =
     let s = k .before .before .before .before in (
       k .loop .inv .0,
       omega arith,
-      added-lent (now (s .args .a)) (now (s .args .b)) (k .loop .a) _ (k .loop .i) (k .loop .i + 8) (omega arith) (omega arith) (k .loop .inv .2) (c .before .before .xor8 .ensures),
+      added-lent (now (s .args .a)) (now (s .args .b)) (k .loop .a) _ (k .loop .i) (k .loop .i + 8) (omega arith) (omega arith)
+          (k .loop .inv .2) (c .before .before .xor8 .ensures),
     )
 
 -- after the bytes that are left
 rest : (c : tie.After-slice-known3 Inv-loop μ-loop) → let k = c .before .before .before .before .before .before .before in
     let s = k .before .before .before .before in
-    Added (now (s .args .a)) (now (s .args .b)) (putMid (k .loop .i) (k .before .if1 .n - k .loop .i) (k .loop .a) (c .before .before .xor-bytes .last .0)) (k .before .if1 .n)
+    Added (now (s .args .a)) (now (s .args .b))
+    (putMid (k .loop .i) (k .before .if1 .n - k .loop .i) (k .loop .a) (c .before .before .xor-bytes .last .0)) (k .before .if1 .n)
 rest c =
     let k = c .before .before .before .before .before .before .before in
-    added-lent _ _ (k .loop .a) _ (k .loop .i) (k .before .if1 .n) (omega arith) (omega arith) (k .loop .inv .2) (c .before .before .xor-bytes .ensures)
+    added-lent _ _ (k .loop .a) _ (k .loop .i) (k .before .if1 .n) (omega arith) (omega arith) (k .loop .inv .2)
+    (c .before .before .xor-bytes .ensures)
 
 same-length : tie.Need-same-length Inv-loop μ-loop
 same-length c = rest c .same

@@ -44,7 +44,8 @@ returns-8 : tie.Need-returns-8
 returns-8 c =
     let r7 = c .match .rest in
     let r6 = r7 .0 in let r5 = r6 .0 in let r4 = r5 .0 in let r3 = r4 .0 in let r2 = r3 .0 in let r1 = r2 .0 in
-    faults-none (c .before .args .k) (c .before .args .code) (λ e. r1 .1 (inl e)) (λ e. r1 .1 (inr e)) (r2 .1) (r3 .1) (r4 .1) (r5 .1) (r6 .1) (r7 .1)
+    faults-none (c .before .args .k) (c .before .args .code) (λ e. r1 .1 (inl e)) (λ e. r1 .1 (inr e)) (r2 .1) (r3 .1) (r4 .1) (r5 .1)
+    (r6 .1) (r7 .1)
 
 pub finds-spec : {M : Type 1} → statement M
 finds-spec = tie.close (tie.spec returns returns-2 returns-3 returns-4 returns-5 returns-6 returns-7 returns-8)

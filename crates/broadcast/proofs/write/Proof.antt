@@ -27,7 +27,9 @@ returns c =
     let e = c .before .before in
     let a = e .before .before .before .before .before .args in
     let f = a .f in
-    e .write-echoes .ensures ∙ ap (λ (x : List ℕ). toOthers (a .f .n) (a .f .i) (echoMsg (a .f .n) (a .f .i) x)) (e .before .section .ensures ∙ sym (hashes-at f (now (a .work))))
+    e .write-echoes .ensures
+    ∙ ap (λ (x : List ℕ). toOthers (a .f .n) (a .f .i) (echoMsg (a .f .n) (a .f .i) x))
+    (e .before .section .ensures ∙ sym (hashes-at f (now (a .work))))
 
 pub write-spec : {M : Type 1} → statement M
 write-spec = tie.close (tie.spec section-requires write-echoes-requires same-length returns)

@@ -19,7 +19,8 @@ returns : tie.Need-returns Inv-loop μ-loop
 returns c = stop-at _ _ 0 1 (c .before .before .before .loop .e) (c .before .before .loop-test .taken) (lt-leb _ 1 (c .if1 .taken))
 
 loop-again : tie.Need-loop-again Inv-loop μ-loop
-loop-again c = (search needs, all-on _ (c .before .before .before .loop .e) (c .before .before .before .loop .inv .1) (le-leb _ 1 (c .if1 .left)))
+loop-again c =
+    (search needs, all-on _ (c .before .before .before .loop .e) (c .before .before .before .loop .inv .1) (le-leb _ 1 (c .if1 .left)))
 
 returns-2 : tie.Need-returns-2 Inv-loop μ-loop
 returns-2 c = stop-none _ _ 0 1 (c .before .loop .e) (c .before .loop .inv .0) (c .loop-test .left) (c .before .loop .inv .1)

@@ -46,12 +46,14 @@ module _ (c : tie.In-loop Inv-loop μ-loop) where
 
   x-in : 3 * (c .before .loop .e + 1) * r .record-len .result + recordLen (s .args .n) ≤ length (now (s .args .triples))
   x-in =
-      x-inside (s .args .n) (r .record-len .result) (c .before .loop .e + 1) (length (now (s .args .d)) + 1) (length (now (s .args .triples)))
+      x-inside (s .args .n) (r .record-len .result) (c .before .loop .e + 1) (length (now (s .args .d)) + 1)
+      (length (now (s .args .triples)))
       (r .record-len .ensures) (s .pre .1) (omega (arith, c .loop-test .taken))
 
   z-in : (3 * (c .before .loop .e + 1) + 2) * r .record-len .result + recordLen (s .args .n) ≤ length (now (s .args .triples))
   z-in =
-      z-inside (s .args .n) (r .record-len .result) (c .before .loop .e + 1) (length (now (s .args .d)) + 1) (length (now (s .args .triples)))
+      z-inside (s .args .n) (r .record-len .result) (c .before .loop .e + 1) (length (now (s .args .d)) + 1)
+      (length (now (s .args .triples)))
       (r .record-len .ensures) (s .pre .1) (omega (arith, c .loop-test .taken))
 
 mul-x2 : tie.Need-mul-x2 Inv-loop μ-loop
@@ -71,7 +73,8 @@ loop-again c =
     let b = m .before .before .before in
     let a = s b .args in (
       omega (arith, b),
-      all-turn (a .n) (a .i) (r b .record-len .result) (now (a .triples)) (λ k. odd (getD (now (a .d)) k 0)) (b .before .loop .out) (m .combine-two .last .0)
+      all-turn (a .n) (a .i) (r b .record-len .result) (now (a .triples)) (λ k. odd (getD (now (a .d)) k 0)) (b .before .loop .out)
+          (m .combine-two .last .0)
           (b .before .loop .e) (m .before .bit .result) (r b .record-len .ensures) (λ j. r b .before .before .shared-slice-known .given j .fits)
           (m .before .bit .ensures) (b .before .loop .inv .1) (m .combine-two .ensures),
     )
@@ -79,11 +82,14 @@ loop-again c =
 returns : tie.Need-returns Inv-loop μ-loop
 returns c =
     let a = c .before .before .before .before .before .before .before .before .before .before .args in
-    stands-end (a .n) (a .i) (done (a .n) (now (a .triples)) (now (a .d)) (c .before .loop .e)) (c .before .loop .out) (c .before .loop .inv .1)
-    ∙ ap (λ k. records (a .n) (a .i) (done (a .n) (now (a .triples)) (now (a .d)) k)) (let p : c .before .loop .e ≡ length (now (a .d)) = omega arith in p)
+    stands-end (a .n) (a .i) (done (a .n) (now (a .triples)) (now (a .d)) (c .before .loop .e)) (c .before .loop .out)
+    (c .before .loop .inv .1)
+    ∙ ap (λ k. records (a .n) (a .i) (done (a .n) (now (a .triples)) (now (a .d)) k))
+    (let p : c .before .loop .e ≡ length (now (a .d)) = omega arith in p)
 
 same-length : tie.Need-same-length Inv-loop μ-loop
-same-length c = omega (arith, c .before .loop .inv .1 .long, c .before .before .before .before .before .before .before .before .before .before .pre)
+same-length c =
+    omega (arith, c .before .loop .inv .1 .long, c .before .before .before .before .before .before .before .before .before .before .pre)
 
 pub combine-all-spec : {M : Type 1} → statement M
 combine-all-spec =

@@ -17,7 +17,8 @@ returns c =
     let a = s .args in
     let len = r .record-len .result in
     let read : ℕ → List ℕ = λ at. recordOf (a .n) (a .i) (shareAt (now (a .triples)) at) in
-    three-left (a .n) (a .i) len (triple (a .n) (now (a .triples)) 0) (now (a .out)) (x .copy-record .last .0) (y .copy-record2 .last .0) (z .copy-record3 .last .0)
+    three-left (a .n) (a .i) len (triple (a .n) (now (a .triples)) 0) (now (a .out)) (x .copy-record .last .0) (y .copy-record2 .last .0)
+    (z .copy-record3 .last .0)
     (r .record-len .ensures) (s .pre .1)
     (x .copy-record .ensures ∙ ap read (let e : 0 ≡ 3 * 0 * recordLen (a .n) = omega arith in e))
     (y .copy-record2 .ensures ∙ ap read (let e : len ≡ (3 * 0 + 1) * recordLen (a .n) = omega arith in e))

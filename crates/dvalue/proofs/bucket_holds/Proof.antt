@@ -3,7 +3,7 @@ use Rattle.lists.specs.Kit.{_≡_, sym, ap, _∙_, ℕ, _+_, _-_, _*_, _<_, _�
 use Rattle.lists.specs.All.{allOf, all-zero, all-more}
 use Rattle.share.specs.Record.{recordLen}
 use Rattle.rounds.specs.Buckets.{later}
-use Rattle.dvalue.specs.Entries.{first-in, later-in, later-most, y-within}
+use Rattle.buckets.specs.Entries.{first-in, later-in, later-most, y-within}
 use Rattle.dvalue.specs.Dvalues.{dHolds, bucketHolds, d-holds, bucket-in}
 use Rattle.dvalue.proofs.bucket_holds.Statement.{statement}
 use Rattle.dvalue.proofs.bucket_holds.Tie as tie

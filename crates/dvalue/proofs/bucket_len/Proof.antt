@@ -1,5 +1,5 @@
 use Rattle.lists.specs.Kit.{arith, needs}
-use Rattle.dvalue.specs.Entries.{later-most}
+use Rattle.buckets.specs.Entries.{later-most}
 use Rattle.dvalue.proofs.bucket_len.Statement.{statement}
 use Rattle.dvalue.proofs.bucket_len.Tie as tie
 

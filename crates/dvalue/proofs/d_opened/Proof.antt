@@ -1,7 +1,7 @@
 use Rattle.lists.specs.Kit.{_∙_, _+_, arith, now, needs}
 use Rattle.algebra.specs.Group.{xor-addb}
 use Rattle.rounds.specs.Mail.{letter}
-use Rattle.dvalue.specs.Entries.{first-in, later-in, later-most, y-within}
+use Rattle.buckets.specs.Entries.{first-in, later-in, later-most, y-within}
 use Rattle.dvalue.specs.Opened.{opened}
 use Rattle.dvalue.proofs.d_opened.Statement.{statement}
 use Rattle.dvalue.proofs.d_opened.Tie as tie

@@ -4,8 +4,8 @@ use Rattle.lists.specs.Over.{drop-replicate}
 use Rattle.rounds.specs.Area.{BITS, PERM, at}
 use Rattle.rounds.specs.Mail.{letter}
 use Rattle.area.specs.GivenLaws.{place-at, place-fits}
-use Rattle.dvalue.specs.Given.{lent-is}
-use Rattle.dvalue.specs.Entries.{later-most}
+use Rattle.buckets.specs.Given.{lent-is}
+use Rattle.buckets.specs.Entries.{later-most}
 use Rattle.dvalue.specs.Opened.{dRow}
 use Rattle.dvalue.proofs.ds_row.Statement.{statement}
 use Rattle.dvalue.proofs.ds_row.Tie as tie

@@ -1,5 +1,5 @@
 use borrow.Author.Needs.{needs}
-use Rattle.dvalue.specs.Given.{lent-is}
+use Rattle.buckets.specs.Given.{lent-is}
 use Rattle.dvalue.proofs.judge.Statement.{statement}
 use Rattle.dvalue.proofs.judge.Tie as tie
 

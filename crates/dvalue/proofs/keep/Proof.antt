@@ -4,9 +4,9 @@ use Rattle.engine.specs.declared.Frame.{Frame}
 use Rattle.rounds.specs.Area.{BITS, PERM, DS, at, keep, sizeOf}
 use Rattle.rounds.specs.Mail.{letter}
 use Rattle.rounds.specs.Buckets.{later}
-use Rattle.dvalue.specs.Given.{size-opened}
+use Rattle.buckets.specs.Given.{size-opened}
+use Rattle.buckets.specs.Rows.{Filled, filled-none, filled-work, filled-other, filled-end, row-in, row-long, filled-turn}
 use Rattle.dvalue.specs.Opened.{dRow, length-dRow, ds-rows}
-use Rattle.dvalue.specs.Rows.{Filled, filled-none, filled-work, filled-other, filled-end, row-in, row-long, filled-turn}
 use Rattle.dvalue.proofs.keep.Statement.{statement}
 use Rattle.dvalue.proofs.keep.Tie as tie
 

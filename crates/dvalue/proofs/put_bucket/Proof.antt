@@ -6,7 +6,7 @@ use Rattle.encode.specs.Encode.{dvalueItem}
 use Rattle.encode.specs.Bucket.{dvalueIn, Filled, filled-start, filled-turn, filled-end}
 use Rattle.engine.specs.declared.Frame.{Frame}
 use Rattle.rounds.specs.Buckets as B
-use Rattle.dvalue.specs.Entries.{first-in, later-in, later-most, y-within, d-read}
+use Rattle.buckets.specs.Entries.{first-in, later-in, later-most, y-within, d-read}
 use Rattle.dvalue.proofs.put_bucket.Statement.{statement}
 use Rattle.dvalue.proofs.put_bucket.Tie as tie
 

@@ -1,7 +1,7 @@
 use Rattle.lists.specs.Kit.{ap₂, _∙_, List, ℕ, needs}
 use Rattle.engine.specs.Area.{toOthers}
 use Rattle.rounds.specs.Buckets.{dvalueMsg}
-use Rattle.dvalue.specs.Given.{lent-is}
+use Rattle.buckets.specs.Given.{lent-is}
 use Rattle.dvalue.proofs.write.Statement.{statement}
 use Rattle.dvalue.proofs.write.Tie as tie
 

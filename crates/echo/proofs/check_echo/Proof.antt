@@ -20,7 +20,8 @@ returns : tie.Need-returns Inv-loop μ-loop
 returns c =
     let l = c .before .before .before in
     let a = l .before .before .before .args in
-    echo-first (a .f .n) (a .f .i) (a .j) (l .loop .k) (c .before .told-fault .result) (now (a .hashes)) (now (a .m)) (c .before .before .loop-test .taken) (l .loop .inv .1)
+    echo-first (a .f .n) (a .f .i) (a .j) (l .loop .k) (c .before .told-fault .result) (now (a .hashes)) (now (a .m))
+    (c .before .before .loop-test .taken) (l .loop .inv .1)
     (c .before .told-fault .ensures) (c .if1 .taken)
 
 loop-again : tie.Need-loop-again Inv-loop μ-loop

@@ -22,7 +22,8 @@ returns : tie.Need-returns Inv-loop μ-loop
 returns c =
     let p = c .before .before .before in
     let a = p .before .before .before .args in
-    finds-first (a .f .n) (a .f .i) (echoFaults (a .f .n) (a .f .i) (now (a .hashes)) (letter (now (a .incoming)) (a .mail))) (a .f .l) (p .loop .j) (c .before .echo-fault .result)
+    finds-first (a .f .n) (a .f .i) (echoFaults (a .f .n) (a .f .i) (now (a .hashes)) (letter (now (a .incoming)) (a .mail))) (a .f .l)
+    (p .loop .j) (c .before .echo-fault .result)
     (c .before .before .loop-test .taken) (p .loop .inv .1) (c .before .echo-fault .ensures) (c .if1 .taken)
 
 loop-again : tie.Need-loop-again Inv-loop μ-loop
@@ -30,7 +31,8 @@ loop-again c =
     let p = c .before .before .before in
     let a = p .before .before .before .args in (
       omega arith,
-      scan-turn (p .loop .j) (faultAt (a .f .i) (echoFaults (a .f .n) (a .f .i) (now (a .hashes)) (letter (now (a .incoming)) (a .mail)))) (p .loop .inv .1)
+      scan-turn (p .loop .j) (faultAt (a .f .i) (echoFaults (a .f .n) (a .f .i) (now (a .hashes)) (letter (now (a .incoming)) (a .mail))))
+          (p .loop .inv .1)
           (sym (c .before .echo-fault .ensures) ∙ c .if1 .left),
     )
 
@@ -38,7 +40,8 @@ returns-2 : tie.Need-returns-2 Inv-loop μ-loop
 returns-2 c =
     let p = c .before in
     let a = p .before .before .before .args in
-    finds-none (a .f .n) (a .f .i) (echoFaults (a .f .n) (a .f .i) (now (a .hashes)) (letter (now (a .incoming)) (a .mail))) (a .f .l) (p .loop .j) 0 (p .loop .inv .1) (omega arith)
+    finds-none (a .f .n) (a .f .i) (echoFaults (a .f .n) (a .f .i) (now (a .hashes)) (letter (now (a .incoming)) (a .mail))) (a .f .l)
+    (p .loop .j) 0 (p .loop .inv .1) (omega arith)
 
 pub check-echoes-spec : {M : Type 1} → statement M
 check-echoes-spec =

@@ -29,7 +29,8 @@ check-echo-requires c κs =
 returns-2 : tie.Need-returns-2
 returns-2 c =
     let a = c .before .before .before .before .before .args in
-    fault-other (a .f .i) (a .j) (c .check-echo .result) (echoFaults (a .f .n) (a .f .i) (now (a .hashes)) (letter (now (a .incoming)) (a .mail)))
+    fault-other (a .f .i) (a .j) (c .check-echo .result)
+    (echoFaults (a .f .n) (a .f .i) (now (a .hashes)) (letter (now (a .incoming)) (a .mail)))
     (c .before .before .if1 .left) (c .check-echo .ensures ∙ ap (echoFault (a .f .n) (a .f .i) (a .j) (now (a .hashes))) (c .before .letter .ensures))
 
 pub echo-fault-spec : {M : Type 1} → statement M

@@ -25,7 +25,8 @@ returns : tie.Need-returns
 returns c =
     let s = c .before .before .before .before .before in
     let a = s .args in
-    entry-absent (now (a .hashes)) (now (a .m)) (a .k) (ap (λ p. getD (now (a .m)) p 0) (sym (c .before .before .item-at .ensures)) ∙ c .if1 .taken)
+    entry-absent (now (a .hashes)) (now (a .m)) (a .k)
+    (ap (λ p. getD (now (a .m)) p 0) (sym (c .before .before .item-at .ensures)) ∙ c .if1 .taken)
 
 room : (c : tie.Else1) → let s = c .before .before .before .before .before in
     c .before .before .item-at .result + 17 ≤ length (now (s .args .m))
@@ -42,7 +43,8 @@ load-requires : tie.Need-load-requires
 load-requires c κs = omega (arith, room c)
 
 -- what was compared, by the answer
-answers : (c : tie.After-equals) (x : ℕ) → x ≡ pick (c .equals .result) 0 7 → let a = c .before .before .before .before .before .before .before .before .args in
+answers : (c : tie.After-equals) (x : ℕ) → x ≡ pick (c .equals .result) 0 7 → let a =
+    c .before .before .before .before .before .before .before .before .args in
     x ≡ entryFault (now (a .hashes)) (now (a .m)) (a .k)
 answers c x e =
     let g = c .before .before .before in
@@ -52,7 +54,8 @@ answers c x e =
     let i = g .before .before .item-at .ensures in
     entry-there (now (a .hashes)) (now (a .m)) (a .k) x (c .equals .result) (λ q. g .if1 .left (ap (λ p. getD (now (a .m)) p 0) i ∙ q))
     (c .equals .ensures ∙ ap₂ eqBlock (c .before .before .load .ensures) (c .before .load2 .ensures)
-    ∙ same-block (now (a .m)) (now (a .hashes)) (g .before .before .item-at .result + 1) (a .k) (λ j. omega (arith, k .before .shared-slice-known .given j))
+    ∙ same-block (now (a .m)) (now (a .hashes)) (g .before .before .item-at .result + 1) (a .k)
+    (λ j. omega (arith, k .before .shared-slice-known .given j))
     (λ j. omega (arith, k .shared-slice-known2 .given j)) (omega (arith, room g)) (omega (arith, s .pre .1))
     ∙ ap (λ p. same? (take 16 (drop (p + 1) (now (a .m)))) (chunk 16 (a .k) (now (a .hashes)))) i) e
 

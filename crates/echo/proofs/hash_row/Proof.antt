@@ -15,7 +15,8 @@ returns : tie.Need-returns
 returns c =
     let a = c .before .before .before .args in
     ap bytesOf (c .zero .ensures) ∙ zero-bytes
-    ∙ ap (λ b. pick b (hashVec (a .k) (letter (now (a .incoming)) (a .mail) (a .j))) (replicate 16 0)) (sym (neq-same (a .f .i) (a .j) (c .before .if1 .taken)))
+    ∙ ap (λ b. pick b (hashVec (a .k) (letter (now (a .incoming)) (a .mail) (a .j))) (replicate 16 0))
+    (sym (neq-same (a .f .i) (a .j) (c .before .if1 .taken)))
 
 letter-requires : tie.Need-letter-requires
 letter-requires c κs =
@@ -39,7 +40,8 @@ returns-2 : tie.Need-returns-2
 returns-2 c =
     let a = c .before .before .before .before .args in
     c .hash-list .ensures ∙ ap (hashVec (a .k)) (c .before .letter .ensures)
-    ∙ ap (λ b. pick b (hashVec (a .k) (letter (now (a .incoming)) (a .mail) (a .j))) (replicate 16 0)) (sym (neq-true (a .f .i) (a .j) (λ e. c .before .before .if1 .left (sym e))))
+    ∙ ap (λ b. pick b (hashVec (a .k) (letter (now (a .incoming)) (a .mail) (a .j))) (replicate 16 0))
+    (sym (neq-true (a .f .i) (a .j) (λ e. c .before .before .if1 .left (sym e))))
 
 pub hash-row-spec : {M : Type 1} → statement M
 hash-row-spec =

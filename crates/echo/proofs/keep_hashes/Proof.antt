@@ -45,7 +45,8 @@ returns c =
     let p = c .before in
     let s = p .before .before .before in
     let a = s .args in
-    even-end (row (now (a .incoming)) (a .mail) (a .f .i) (a .f .l) (a .k)) (a .f .n) 16 (now (a .section)) (s .pre .0 .1) (p .loop .j) (p .loop .section) (p .loop .inv .1) (omega arith)
+    even-end (row (now (a .incoming)) (a .mail) (a .f .i) (a .f .l) (a .k)) (a .f .n) 16 (now (a .section)) (s .pre .0 .1) (p .loop .j)
+    (p .loop .section) (p .loop .inv .1) (omega arith)
     ∙ hash-rows (a .f .n) (a .f .l) (a .f .i) (λ j. hashVec (a .k) (letter (now (a .incoming)) (a .mail) j))
 
 pub keep-hashes-spec : {M : Type 1} → statement M

@@ -70,10 +70,12 @@ loop-again c =
     let k = t .before .loop-test .taken in (
       omega (arith, k),
       (
-        ap (λ x. l .loop .a + x) (t .entry-len .ensures) ∙ entry-next (a .f .n) (a .f .i) (a .r) h (s .pre .1 .1) (l .loop .k) (l .loop .a) k (i .0),
+        ap (λ x. l .loop .a + x) (t .entry-len .ensures)
+            ∙ entry-next (a .f .n) (a .f .i) (a .r) h (s .pre .1 .1) (l .loop .k) (l .loop .a) k (i .0),
         (
           i .1 .0,
-          stretch-turn (a .f .n) (entry (a .f .i) (a .r) h) (l .loop .k) (l .loop .a) e e _ (l .loop .out) (p .put-entry .last .0) (i .1 .1) (p .put-entry .ensures)
+          stretch-turn (a .f .n) (entry (a .f .i) (a .r) h) (l .loop .k) (l .loop .a) e e _ (l .loop .out) (p .put-entry .last .0) (i .1 .1)
+              (p .put-entry .ensures)
               (ap (λ x. l .loop .a + x) (entry-length (a .f .n) (a .f .i) (a .r) h (s .pre .1 .1) (l .loop .k) k ∙ sym (t .entry-len .ensures))) (omega (arith, fits t, i .1 .0)) refl,
         ),
       ),

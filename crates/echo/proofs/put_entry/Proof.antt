@@ -21,7 +21,8 @@ returns c =
     let t = c .before .before .before .before .before .before in
     let s = t .before .before .before in
     let a = s .args in
-    put-present (a .i) (a .r) (a .k) (now (a .hashes)) (c .before .before .put-some .last .0) (λ i. omega (arith, t .before .shared-slice-known .given i)) (s .pre .1)
+    put-present (a .i) (a .r) (a .k) (now (a .hashes)) (c .before .before .put-some .last .0)
+    (λ i. omega (arith, t .before .shared-slice-known .given i)) (s .pre .1)
     (sym (t .told .ensures) ∙ c .before .before .before .before .before .if1 .taken)
     (c .before .before .put-some .ensures ∙ ap (λ b. someItem (bytesOf b)) (c .before .before .before .load .ensures))
 
@@ -29,7 +30,8 @@ returns-2 : tie.Need-returns-2
 returns-2 c =
     let t = c .before .before .before .before .before in
     let a = t .before .before .before .args in
-    put-absent (a .i) (a .r) (a .k) (now (a .hashes)) (c .before .before .put-none .last .0) (sym (t .told .ensures) ∙ c .before .before .before .before .if1 .left)
+    put-absent (a .i) (a .r) (a .k) (now (a .hashes)) (c .before .before .put-none .last .0)
+    (sym (t .told .ensures) ∙ c .before .before .before .before .if1 .left)
     (c .before .before .put-none .ensures)
 
 pub put-entry-spec : {M : Type 1} → statement M

@@ -6,7 +6,8 @@ use Rattle.echo.proofs.told_fault.Tie as tie
 returns : tie.Need-returns
 returns c =
     let a = c .before .before .before .before .before .args in
-    told-fault (a .f .i) (a .j) (a .k) (c .entry-fault .result) (now (a .hashes)) (now (a .m)) true (sym (c .before .before .told .ensures) ∙ c .before .if1 .taken) (c .entry-fault .ensures)
+    told-fault (a .f .i) (a .j) (a .k) (c .entry-fault .result) (now (a .hashes)) (now (a .m)) true
+    (sym (c .before .before .told .ensures) ∙ c .before .if1 .taken) (c .entry-fault .ensures)
 
 returns-2 : tie.Need-returns-2
 returns-2 c =

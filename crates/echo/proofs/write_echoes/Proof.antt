@@ -19,19 +19,23 @@ loop-holds c =
     (omega arith, sent-zero (a .f .n) (a .f .i) (echoMsg (a .f .n) (a .f .i) (now (a .hashes))) (c .msg-len .result) (now (a .out)))
 
 -- the messages fill the buffer
-size : (c : tie.After-msg-len Inv-loop μ-loop) → let a = c .before .before .before .args in length (now (a .out)) ≡ (a .f .n - 1) * c .msg-len .result
+size : (c : tie.After-msg-len Inv-loop μ-loop) → let a =
+    c .before .before .before .args in length (now (a .out)) ≡ (a .f .n - 1) * c .msg-len .result
 size c =
     let s = c .before .before .before in
     s .pre .1 .0 ∙ ap (λ m. (s .args .f .n - 1) * m) (sym (c .msg-len .ensures))
 
 -- message q ends within
-fits : (c : tie.After-other Inv-loop μ-loop) → let l = c .before .before in l .loop .q * l .before .msg-len .result + l .before .msg-len .result ≤ length (l .loop .out)
+fits : (c : tie.After-other Inv-loop μ-loop) → let l =
+    c .before .before in l .loop .q * l .before .msg-len .result + l .before .msg-len .result ≤ length (l .loop .out)
 fits c =
     let l = c .before .before in
     let a = l .before .before .before .before .args in
     omega (arith, in-chunks (l .loop .q) (a .f .n - 1) (l .before .msg-len .result) (c .before .loop-test .taken), size (l .before), l .loop .inv .1 .same)
 
-whole : (c : tie.After-other Inv-loop μ-loop) → let l = c .before .before in l .loop .q * l .before .msg-len .result + l .before .msg-len .result ≤ length (now (l .before .before .before .before .args .out))
+whole : (c : tie.After-other Inv-loop μ-loop) → let l =
+    c .before .before in l .loop .q * l .before .msg-len .result + l .before .msg-len .result ≤ length
+    (now (l .before .before .before .before .args .out))
 whole c = omega (arith, fits c, c .before .before .loop .inv .1 .same)
 
 mul-a : tie.Need-mul-a Inv-loop μ-loop
@@ -62,7 +66,8 @@ loop-again c =
     let s = l .before .before .before .before in
     let a = s .args in (
       omega (arith, o .before),
-      sent-turn (a .f .n) (a .f .i) (echoMsg (a .f .n) (a .f .i) (now (a .hashes))) (l .before .msg-len .result) (now (a .out)) (size (l .before)) (l .loop .q) (l .loop .out)
+      sent-turn (a .f .n) (a .f .i) (echoMsg (a .f .n) (a .f .i) (now (a .hashes))) (l .before .msg-len .result) (now (a .out))
+          (size (l .before)) (l .loop .q) (l .loop .out)
           (p .put-echo .last .0) (o .before .loop-test .taken) (l .loop .inv .1) (p .put-echo .ensures ∙ ap (echoMsg (a .f .n) (a .f .i) (now (a .hashes))) (o .other .ensures)) (p .put-echo .kept .0),
     )
 
@@ -73,7 +78,8 @@ returns : tie.Need-returns Inv-loop μ-loop
 returns c =
     let l = c .before in
     let a = l .before .before .before .before .args in
-    sent-end (a .f .n) (a .f .i) (echoMsg (a .f .n) (a .f .i) (now (a .hashes))) (l .before .msg-len .result) (now (a .out)) (size (l .before)) (l .loop .q) (l .loop .out) (l .loop .inv .1) (omega arith)
+    sent-end (a .f .n) (a .f .i) (echoMsg (a .f .n) (a .f .i) (now (a .hashes))) (l .before .msg-len .result) (now (a .out))
+    (size (l .before)) (l .loop .q) (l .loop .out) (l .loop .inv .1) (omega arith)
 
 pub write-echoes-spec : {M : Type 1} → statement M
 write-echoes-spec =

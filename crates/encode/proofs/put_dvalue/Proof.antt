@@ -17,7 +17,8 @@ returns c =
 same-length : tie.Need-same-length
 same-length c =
     let s = c .before .before .before .before .before .before in
-    ap length (returns c) ∙ length-dvalueIn (s .args .due) (s .args .k) (s .args .d) (s .args .x) (now (s .args .out)) (s .pre .0) (s .pre .1)
+    ap length (returns c)
+    ∙ length-dvalueIn (s .args .due) (s .args .k) (s .args .d) (s .args .x) (now (s .args .out)) (s .pre .0) (s .pre .1)
 
 pub put-dvalue-spec : {M : Type 1} → statement M
 put-dvalue-spec =

@@ -17,9 +17,11 @@ returns c =
     let items = now (s .args .items) in
     let x = p .put-count .last .0 in
     let w : List ℕ = putMid 0 8 o x in
-    let long : length w ≡ 8 + length items = length-put 0 8 x o (ap length (p .put-count .ensures) ∙ length-le8 (s .args .count)) (omega (arith, s .pre)) ∙ s .pre in
+    let long : length w ≡ 8 + length items =
+    length-put 0 8 x o (ap length (p .put-count .ensures) ∙ length-le8 (s .args .count)) (omega (arith, s .pre)) ∙ s .pre in
     ap (λ m. putMid 8 m w (y .copy .last .0)) (let e : length w - 8 ≡ length items = omega (arith, long) in e)
-    ∙ two-parts 8 (length items) (le8 (s .args .count)) items x (y .copy .last .0) o (s .pre) (length-le8 (s .args .count)) (p .put-count .ensures)
+    ∙ two-parts 8 (length items) (le8 (s .args .count)) items x (y .copy .last .0) o (s .pre) (length-le8 (s .args .count))
+    (p .put-count .ensures)
     (y .copy .ensures ∙ take-all (length (take (length w - 8) (drop 8 w))) items (omega (arith, long, length-get 8 (length w - 8) w (omega (arith, long)))))
 
 pub put-list-spec : {M : Type 1} → statement M

@@ -5,7 +5,7 @@ use Rattle.engine.specs.Area.{off}
 use Rattle.rounds.specs.Area.{BITS, PERM, TRIPLES, ALPHA, BETA, sizeOf, at}
 use Rattle.area.specs.GivenLaws.{length-at, place-at, place-fits}
 use Rattle.area.specs.Sizes.{size-perm}
-use Rattle.dvalue.specs.Entries.{yAt, first-in}
+use Rattle.buckets.specs.Entries.{yAt, first-in}
 use Rattle.faand.specs.declared.Records.{Records}
 use Rattle.faand.specs.Given.{Reads, reads}
 use Rattle.faand.proofs.bucket.Statement.{statement}

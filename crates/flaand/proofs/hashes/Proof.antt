@@ -12,7 +12,8 @@ use Rattle.flaand.proofs.hashes.Tie as tie
 leaky-at-requires : tie.Need-leaky-at-requires
 leaky-at-requires c κs = let s = c .before .before .before in (s .pre .0 .ranges .range, s .pre .1)
 
-read-in : (c : tie.After-leaky-at) → let a = c .before .before .before .before .args in c .leaky-at .result + 16 + 16 ≤ length (now (a .rows))
+read-in : (c : tie.After-leaky-at) → let a =
+    c .before .before .before .before .args in c .leaky-at .result + 16 + 16 ≤ length (now (a .rows))
 unfolding leakyLen
 read-in c =
     let s = c .before .before .before .before in

@@ -45,7 +45,8 @@ module _ (c : tie.In-loop Inv-loop μ-loop) where
   whole = start .pre .0 .1 ∙ ap (λ m. start .args .f .n * m) (sym is)
 
   part-in : c .before .loop .k * len + len ≤ length (c .before .loop .section)
-  part-in = omega (arith, whole, in-chunks (c .before .loop .k) (start .args .f .n) len (c .loop-test .taken), c .before .loop .inv .1 .same)
+  part-in =
+      omega (arith, whole, in-chunks (c .before .loop .k) (start .args .f .n) len (c .loop-test .taken), c .before .loop .inv .1 .same)
 
 mul-a : tie.Need-mul-a Inv-loop μ-loop
 mul-a c = omega (arith, part-in c)

@@ -62,7 +62,8 @@ module _ (c : tie.In-loop Inv-loop μ-loop) where
 
   same-sec : (s : ℕ) → s ≢ HS → sec (sizeOf f) s (c .before .loop .work) ≡ sec (sizeOf f) s w
   same-sec s ne =
-      keeping-other (sizeOf f) SECTIONS HS (omega arith) w (area (start .pre .0)) _ t (t * 16) s (c .before .loop .work) (c .before .loop .inv .1) ne
+      keeping-other (sizeOf f) SECTIONS HS (omega arith) w (area (start .pre .0)) _ t (t * 16) s (c .before .loop .work)
+      (c .before .loop .inv .1) ne
 
 h-at-requires : tie.Need-h-at-requires Inv-loop μ-loop
 h-at-requires c κs =
@@ -97,10 +98,12 @@ loop-again c =
     let g : ℕ → List ℕ = λ t. bytesOf (hOf (f i) (Table.delta (f i) (w i)) (w i) m t) in
     let at = hs i + t i * 16 in (
       omega (arith, below i),
-      keeping-turn (sizeOf (f i)) SECTIONS HS (omega arith) (w i) (area (start i .pre .0)) g (t i) (t i * 16) 16 at (at + 16) ((t i + 1) * 16)
+      keeping-turn (sizeOf (f i)) SECTIONS HS (omega arith) (w i) (area (start i .pre .0)) g (t i) (t i * 16) 16 at (at + 16)
+          ((t i + 1) * 16)
           (i .before .loop .work) (p .store .last .0) (i .before .loop .inv .1)
           (p .store .ensures ∙ ap bytesOf (b .h-at .ensures
-          ∙ ap₂ (λ (x y : List ℕ). F.h (f i) (d .result .0) x y (sec (sizeOf (f i)) ZS (i .before .loop .work)) m (t i)) (same-sec i BITS (λ e. omega arith))
+          ∙ ap₂ (λ (x y : List ℕ). F.h (f i) (d .result .0) x y (sec (sizeOf (f i)) ZS (i .before .loop .work)) m (t i))
+          (same-sec i BITS (λ e. omega arith))
           (same-sec i LEAKY (λ e. omega arith))
           ∙ ap₂ (λ k (x : List ℕ). F.h (f i) k (sec (sizeOf (f i)) BITS (w i)) (sec (sizeOf (f i)) LEAKY (w i)) x m (t i)) (d .ensures)
           (same-sec i ZS (λ e. omega arith))))
@@ -118,7 +121,8 @@ returns c =
     let s = c .before .before .before .before .before .before .before .before .before .before .before in
     let f = s .args .f in
     let e : l .t ≡ leaky (f .l) = omega (arith, c .before .before .leaky .ensures) in
-    keeping-end (sizeOf f) SECTIONS HS (omega arith) (now (s .args .work)) (area (s .pre .0)) _ (l .t) (leaky (f .l)) (l .t * 16) (l .work) (l .inv .1) e
+    keeping-end (sizeOf f) SECTIONS HS (omega arith) (now (s .args .work)) (area (s .pre .0)) _ (l .t) (leaky (f .l)) (l .t * 16) (l .work)
+    (l .inv .1) e
     (omega (arith, size-hs f))
 
 pub keep-hs-spec : {M : Type 1} → statement M

@@ -37,7 +37,8 @@ loop-again c =
     let s = l .before .before in
     let a = s .args in
     let p : 0 < itemLen (a .kind) (drop (l .loop .pos) (now (a .m))) =
-    walked-item (a .kind) (now (a .m)) (l .loop .k) (l .loop .pos) (l .loop .inv .1) (s .pre .0) (omega (arith, c .before .loop-test .taken, s .pre .1)) in (
+    walked-item (a .kind) (now (a .m)) (l .loop .k) (l .loop .pos) (l .loop .inv .1) (s .pre .0)
+    (omega (arith, c .before .loop-test .taken, s .pre .1)) in (
       search needs,
       walked-turn (a .kind) (now (a .m)) (l .loop .k) (l .loop .pos) (c .item-len .result) (l .loop .inv .1) (c .item-len .ensures)
           (λ z. omega (arith, c .item-len .ensures)),

@@ -1,7 +1,8 @@
 use Rattle.lists.specs.Kit.{_≡_, _∙_, _+_, _-_, _≤_, arith, length, now, needs}
 use Rattle.message.specs.Format.{innersDue}
 use Rattle.message.specs.FormatLaws.{decodes-short}
-use Rattle.message.proofs.Walk.{Walked, walked-start, walked-room, walked-turn, walked-stop, inners-none, inners-turn, read-bad, read-end}
+use Rattle.message.proofs.Walk.{Walked, walked-start, walked-room, walked-turn, walked-stop, inners-none, inners-turn, read-bad}
+use Rattle.message.proofs.Walk.{read-end}
 use Rattle.message.proofs.read.Statement.{statement}
 use Rattle.message.proofs.read.Tie as tie
 
@@ -12,7 +13,8 @@ abbrev μ-loop : tie.MeasureT-loop
 μ-loop kind count m found inner₀ t₀ pos₀ inner t pos = length m - pos
 
 returns : tie.Need-returns Inv-loop μ-loop
-returns c = let a = c .before .before .args in read-bad (a .kind) (a .count) (now (a .m)) (decodes-short (a .kind) (now (a .m)) (c .if1 .taken))
+returns c =
+    let a = c .before .before .args in read-bad (a .kind) (a .count) (now (a .m)) (decodes-short (a .kind) (now (a .m)) (c .if1 .taken))
 
 load64-requires : tie.Need-load64-requires Inv-loop μ-loop
 load64-requires c κs = search needs
@@ -40,7 +42,8 @@ room : (c : tie.Else2 Inv-loop μ-loop) → let l = c .before .before .before in
 room c =
     let l = c .before .before .before in
     let a = l .before .before .before .before .args in
-    walked-room (a .kind) (now (a .m)) (l .loop .t) (l .loop .pos) (c .before .item-len .result) (l .loop .inv .1 .0) (c .before .item-len .ensures)
+    walked-room (a .kind) (now (a .m)) (l .loop .t) (l .loop .pos) (c .before .item-len .result) (l .loop .inv .1 .0)
+    (c .before .item-len .ensures)
 
 inner-due-requires : tie.Need-inner-due-requires Inv-loop μ-loop
 inner-due-requires c κs =
@@ -64,8 +67,10 @@ loop-again c =
     let w = l .loop .inv .1 .0 in (
       search needs,
       (
-        walked-turn (a .kind) (now (a .m)) (l .loop .t) (l .loop .pos) (e .before .item-len .result) w (e .before .item-len .ensures) (e .if2 .left),
-        inners-turn (a .kind) (now (a .m)) (l .loop .t) (l .loop .pos) w (l .loop .inner) (c .inner-due .result) (l .loop .inv .1 .1) (c .inner-due .ensures),
+        walked-turn (a .kind) (now (a .m)) (l .loop .t) (l .loop .pos) (e .before .item-len .result) w (e .before .item-len .ensures)
+            (e .if2 .left),
+        inners-turn (a .kind) (now (a .m)) (l .loop .t) (l .loop .pos) w (l .loop .inner) (c .inner-due .result) (l .loop .inv .1 .1)
+            (c .inner-due .ensures),
       ),
     )
 
@@ -75,7 +80,8 @@ returns-3 c =
     let s = l .before in
     let a = s .before .before .before .args in
     let e : l .loop .t ≡ s .load64 .result = omega arith in
-    read-end (a .kind) (a .count) (now (a .m)) (l .loop .t) (l .loop .pos) (s .load64 .result) (c .count-code .result) (l .loop .inner) (l .loop .inv .1 .0)
+    read-end (a .kind) (a .count) (now (a .m)) (l .loop .t) (l .loop .pos) (s .load64 .result) (c .count-code .result) (l .loop .inner)
+    (l .loop .inv .1 .0)
     (s .before .if1 .left) e (s .load64 .ensures) (l .loop .inv .1 .1) (c .count-code .ensures)
 
 pub read-spec : {M : Type 1} → statement M

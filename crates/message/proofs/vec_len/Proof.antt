@@ -12,7 +12,8 @@ returns c =
 returns-2 : tie.Need-returns-2
 returns-2 c =
     let a = c .before .before .before .before in
-    vec-over (now (a .args .s)) (a .args .at) (a .args .size) (a .pre .1) (c .before .load64 .result) (c .before .load64 .ensures) (c .if2 .taken)
+    vec-over (now (a .args .s)) (a .args .at) (a .args .size) (a .pre .1) (c .before .load64 .result) (c .before .load64 .ensures)
+    (c .if2 .taken)
 
 -- the product fits what is left
 fits : (c : tie.Else2) → let a = c .before .before .before .before in 8 + c .before .load64 .result * a .args .size < 2 ^ 64

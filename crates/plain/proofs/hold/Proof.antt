@@ -33,31 +33,36 @@ returns : tie.Need-returns
 unfolding held
 returns c =
     let s = c .before .before .before .before .before .before .before .before in
-    held-at (s .args .f) (loan s) (now (s .args .work)) (s .args .k) 6 _ (c .before .before .before .before .match .keys1) (c .before .before .hold .ensures)
+    held-at (s .args .f) (loan s) (now (s .args .work)) (s .args .k) 6 _ (c .before .before .before .before .match .keys1)
+    (c .before .before .hold .ensures)
 
 returns-2 : tie.Need-returns-2
 unfolding held
 returns-2 c =
     let s = c .before .before .before .before .before .before .before .before in
-    held-at (s .args .f) (loan s) (now (s .args .work)) (s .args .k) 14 _ (c .before .before .before .before .match .keys2) (c .before .before .hold2 .ensures)
+    held-at (s .args .f) (loan s) (now (s .args .work)) (s .args .k) 14 _ (c .before .before .before .before .match .keys2)
+    (c .before .before .hold2 .ensures)
 
 returns-3 : tie.Need-returns-3
 unfolding held
 returns-3 c =
     let s = c .before .before .before .before .before .before .before .before in
-    held-at (s .args .f) (loan s) (now (s .args .work)) (s .args .k) 17 _ (c .before .before .before .before .match .keys3) (c .before .before .hold3 .ensures)
+    held-at (s .args .f) (loan s) (now (s .args .work)) (s .args .k) 17 _ (c .before .before .before .before .match .keys3)
+    (c .before .before .hold3 .ensures)
 
 returns-4 : tie.Need-returns-4
 unfolding held
 returns-4 c =
     let s = c .before .before .before .before .before .before .before .before in
-    held-at (s .args .f) (loan s) (now (s .args .work)) (s .args .k) 21 _ (c .before .before .before .before .match .keys4) (c .before .before .hold4 .ensures)
+    held-at (s .args .f) (loan s) (now (s .args .work)) (s .args .k) 21 _ (c .before .before .before .before .match .keys4)
+    (c .before .before .hold4 .ensures)
 
 returns-5 : tie.Need-returns-5
 unfolding held
 returns-5 c =
     let s = c .before .before .before .before .before .before .before .before in
-    held-at (s .args .f) (loan s) (now (s .args .work)) (s .args .k) 22 _ (c .before .before .before .before .match .keys5) (c .before .before .hold5 .ensures)
+    held-at (s .args .f) (loan s) (now (s .args .work)) (s .args .k) 22 _ (c .before .before .before .before .match .keys5)
+    (c .before .before .hold5 .ensures)
 
 returns-6 : tie.Need-returns-6
 returns-6 c =

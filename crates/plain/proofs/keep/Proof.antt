@@ -90,61 +90,71 @@ returns : tie.Need-returns
 unfolding kept
 returns c =
     let s = c .before .before .before .before .before .before .before in
-    kept-at (s .args .f) (now (s .args .work)) (told s) (s .args .k) 1 _ (c .before .before .before .before .match .keys1) (c .before .before .keep-told .ensures)
+    kept-at (s .args .f) (now (s .args .work)) (told s) (s .args .k) 1 _ (c .before .before .before .before .match .keys1)
+    (c .before .before .keep-told .ensures)
 
 returns-2 : tie.Need-returns-2
 unfolding kept
 returns-2 c =
     let s = c .before .before .before .before .before .before .before in
-    kept-at (s .args .f) (now (s .args .work)) (told s) (s .args .k) 3 _ (c .before .before .before .before .match .keys2) (c .before .before .keep-joint .ensures)
+    kept-at (s .args .f) (now (s .args .work)) (told s) (s .args .k) 3 _ (c .before .before .before .before .match .keys2)
+    (c .before .before .keep-joint .ensures)
 
 returns-3 : tie.Need-returns-3
 unfolding kept
 returns-3 c =
     let s = c .before .before .before .before .before .before .before in
-    kept-at (s .args .f) (now (s .args .work)) (told s) (s .args .k) 4 _ (c .before .before .before .before .match .keys3) (c .before .before .keep-told2 .ensures)
+    kept-at (s .args .f) (now (s .args .work)) (told s) (s .args .k) 4 _ (c .before .before .before .before .match .keys3)
+    (c .before .before .keep-told2 .ensures)
 
 returns-4 : tie.Need-returns-4
 unfolding kept
 returns-4 c =
     let s = c .before .before .before .before .before .before .before in
-    kept-at (s .args .f) (now (s .args .work)) (told s) (s .args .k) 5 _ (c .before .before .before .before .match .keys4) (c .before .before .keep-pairwise .ensures)
+    kept-at (s .args .f) (now (s .args .work)) (told s) (s .args .k) 5 _ (c .before .before .before .before .match .keys4)
+    (c .before .before .keep-pairwise .ensures)
 
 returns-5 : tie.Need-returns-5
 unfolding kept
 returns-5 c =
     let s = c .before .before .before .before .before .before .before in
-    kept-at (s .args .f) (now (s .args .work)) (told s) (s .args .k) 8 _ (c .before .before .before .before .match .keys5) (c .before .before .keep .ensures)
+    kept-at (s .args .f) (now (s .args .work)) (told s) (s .args .k) 8 _ (c .before .before .before .before .match .keys5)
+    (c .before .before .keep .ensures)
 
 returns-6 : tie.Need-returns-6
 unfolding kept
 returns-6 c =
     let s = c .before .before .before .before .before .before .before in
-    kept-at (s .args .f) (now (s .args .work)) (told s) (s .args .k) 10 _ (c .before .before .before .before .match .keys6) (c .before .before .keep2 .ensures)
+    kept-at (s .args .f) (now (s .args .work)) (told s) (s .args .k) 10 _ (c .before .before .before .before .match .keys6)
+    (c .before .before .keep2 .ensures)
 
 returns-7 : tie.Need-returns-7
 unfolding kept
 returns-7 c =
     let s = c .before .before .before .before .before .before .before in
-    kept-at (s .args .f) (now (s .args .work)) (told s) (s .args .k) 14 _ (c .before .before .before .before .match .keys7) (c .before .before .keep3 .ensures)
+    kept-at (s .args .f) (now (s .args .work)) (told s) (s .args .k) 14 _ (c .before .before .before .before .match .keys7)
+    (c .before .before .keep3 .ensures)
 
 returns-8 : tie.Need-returns-8
 unfolding kept
 returns-8 c =
     let s = c .before .before .before .before .before .before .before in
-    kept-at (s .args .f) (now (s .args .work)) (told s) (s .args .k) 15 _ (c .before .before .before .before .match .keys8) (c .before .before .keep4 .ensures)
+    kept-at (s .args .f) (now (s .args .work)) (told s) (s .args .k) 15 _ (c .before .before .before .before .match .keys8)
+    (c .before .before .keep4 .ensures)
 
 returns-9 : tie.Need-returns-9
 unfolding kept
 returns-9 c =
     let s = c .before .before .before .before .before .before .before in
-    kept-at (s .args .f) (now (s .args .work)) (told s) (s .args .k) 17 _ (c .before .before .before .before .match .keys9) (c .before .before .keep5 .ensures)
+    kept-at (s .args .f) (now (s .args .work)) (told s) (s .args .k) 17 _ (c .before .before .before .before .match .keys9)
+    (c .before .before .keep5 .ensures)
 
 returns-10 : tie.Need-returns-10
 unfolding kept
 returns-10 c =
     let s = c .before .before .before .before .before .before .before in
-    kept-at (s .args .f) (now (s .args .work)) (told s) (s .args .k) 21 _ (c .before .before .before .before .match .keys10) (c .before .before .keep6 .ensures)
+    kept-at (s .args .f) (now (s .args .work)) (told s) (s .args .k) 21 _ (c .before .before .before .before .match .keys10)
+    (c .before .before .keep6 .ensures)
 
 returns-11 : tie.Need-returns-11
 returns-11 c =

@@ -89,85 +89,99 @@ returns : tie.Need-returns
 unfolding written
 returns c =
     let s = c .before .before .before .before .before .before .before .before .before in
-    wrote-at (s .args .f) (loan s) (now (s .args .work)) (s .args .k) 1 _ (c .before .before .before .before .match .keys1) (c .before .before .write-commitments .ensures)
+    wrote-at (s .args .f) (loan s) (now (s .args .work)) (s .args .k) 1 _ (c .before .before .before .before .match .keys1)
+    (c .before .before .write-commitments .ensures)
 
 returns-2 : tie.Need-returns-2
 unfolding written
 returns-2 c =
     let s = c .before .before .before .before .before .before .before .before .before in
-    wrote-at (s .args .f) (loan s) (now (s .args .work)) (s .args .k) 3 _ (c .before .before .before .before .match .keys2) (c .before .before .write-seed .ensures)
+    wrote-at (s .args .f) (loan s) (now (s .args .work)) (s .args .k) 3 _ (c .before .before .before .before .match .keys2)
+    (c .before .before .write-seed .ensures)
 
 returns-3 : tie.Need-returns-3
 unfolding written
 returns-3 c =
     let s = c .before .before .before .before .before .before .before .before .before in
-    wrote-at (s .args .f) (loan s) (now (s .args .work)) (s .args .k) 4 _ (c .before .before .before .before .match .keys3) (c .before .before .write-pair-commitments .ensures)
+    wrote-at (s .args .f) (loan s) (now (s .args .work)) (s .args .k) 4 _ (c .before .before .before .before .match .keys3)
+    (c .before .before .write-pair-commitments .ensures)
 
 returns-4 : tie.Need-returns-4
 unfolding written
 returns-4 c =
     let s = c .before .before .before .before .before .before .before .before .before in
-    wrote-at (s .args .f) (loan s) (now (s .args .work)) (s .args .k) 5 _ (c .before .before .before .before .match .keys4) (c .before .before .write-pair-seeds .ensures)
+    wrote-at (s .args .f) (loan s) (now (s .args .work)) (s .args .k) 5 _ (c .before .before .before .before .match .keys4)
+    (c .before .before .write-pair-seeds .ensures)
 
 returns-5 : tie.Need-returns-5
 unfolding written
 returns-5 c =
     let s = c .before .before .before .before .before .before .before .before .before in
-    wrote-at (s .args .f) (loan s) (now (s .args .work)) (s .args .k) 6 _ (c .before .before .before .before .match .keys5) (c .before .before .write .ensures)
+    wrote-at (s .args .f) (loan s) (now (s .args .work)) (s .args .k) 6 _ (c .before .before .before .before .match .keys5)
+    (c .before .before .write .ensures)
 
 returns-6 : tie.Need-returns-6
 unfolding written
 returns-6 c =
     let s = c .before .before .before .before .before .before .before .before .before in
-    wrote-at (s .args .f) (loan s) (now (s .args .work)) (s .args .k) 8 _ (c .before .before .before .before .match .keys6) (c .before .before .write2 .ensures)
+    wrote-at (s .args .f) (loan s) (now (s .args .work)) (s .args .k) 8 _ (c .before .before .before .before .match .keys6)
+    (c .before .before .write2 .ensures)
 
 returns-7 : tie.Need-returns-7
 unfolding written
 returns-7 c =
     let s = c .before .before .before .before .before .before .before .before .before in
-    wrote-at (s .args .f) (loan s) (now (s .args .work)) (s .args .k) 10 _ (c .before .before .before .before .match .keys7) (c .before .before .write3 .ensures)
+    wrote-at (s .args .f) (loan s) (now (s .args .work)) (s .args .k) 10 _ (c .before .before .before .before .match .keys7)
+    (c .before .before .write3 .ensures)
 
 returns-8 : tie.Need-returns-8
 unfolding written
 returns-8 c =
     let s = c .before .before .before .before .before .before .before .before .before in
-    wrote-at (s .args .f) (loan s) (now (s .args .work)) (s .args .k) 12 _ (c .before .before .before .before .match .keys8) (c .before .before .write4 .ensures)
+    wrote-at (s .args .f) (loan s) (now (s .args .work)) (s .args .k) 12 _ (c .before .before .before .before .match .keys8)
+    (c .before .before .write4 .ensures)
 
 returns-9 : tie.Need-returns-9
 unfolding written
 returns-9 c =
     let s = c .before .before .before .before .before .before .before .before .before in
-    wrote-at (s .args .f) (loan s) (now (s .args .work)) (s .args .k) 14 _ (c .before .before .before .before .match .keys9) (c .before .before .write5 .ensures)
+    wrote-at (s .args .f) (loan s) (now (s .args .work)) (s .args .k) 14 _ (c .before .before .before .before .match .keys9)
+    (c .before .before .write5 .ensures)
 
 returns-10 : tie.Need-returns-10
 unfolding written
 returns-10 c =
     let s = c .before .before .before .before .before .before .before .before .before in
-    wrote-at (s .args .f) (loan s) (now (s .args .work)) (s .args .k) 15 _ (c .before .before .before .before .match .keys10) (c .before .before .write6 .ensures)
+    wrote-at (s .args .f) (loan s) (now (s .args .work)) (s .args .k) 15 _ (c .before .before .before .before .match .keys10)
+    (c .before .before .write6 .ensures)
 
 returns-11 : tie.Need-returns-11
 unfolding written
 returns-11 c =
     let s = c .before .before .before .before .before .before .before .before .before in
-    wrote-at (s .args .f) (loan s) (now (s .args .work)) (s .args .k) 17 _ (c .before .before .before .before .match .keys11) (c .before .before .write7 .ensures)
+    wrote-at (s .args .f) (loan s) (now (s .args .work)) (s .args .k) 17 _ (c .before .before .before .before .match .keys11)
+    (c .before .before .write7 .ensures)
 
 returns-12 : tie.Need-returns-12
 unfolding written
 returns-12 c =
     let s = c .before .before .before .before .before .before .before .before .before in
-    wrote-at (s .args .f) (loan s) (now (s .args .work)) (s .args .k) 19 _ (c .before .before .before .before .match .keys12) (c .before .before .write8 .ensures)
+    wrote-at (s .args .f) (loan s) (now (s .args .work)) (s .args .k) 19 _ (c .before .before .before .before .match .keys12)
+    (c .before .before .write8 .ensures)
 
 returns-13 : tie.Need-returns-13
 unfolding written
 returns-13 c =
     let s = c .before .before .before .before .before .before .before .before .before in
-    wrote-at (s .args .f) (loan s) (now (s .args .work)) (s .args .k) 21 _ (c .before .before .before .before .match .keys13) (c .before .before .write9 .ensures)
+    wrote-at (s .args .f) (loan s) (now (s .args .work)) (s .args .k) 21 _ (c .before .before .before .before .match .keys13)
+    (c .before .before .write9 .ensures)
 
 returns-14 : tie.Need-returns-14
 unfolding written
 returns-14 c =
     let s = c .before .before .before .before .before .before .before .before .before in
-    wrote-at (s .args .f) (loan s) (now (s .args .work)) (s .args .k) 22 _ (c .before .before .before .before .match .keys14) (c .before .before .write10 .ensures)
+    wrote-at (s .args .f) (loan s) (now (s .args .work)) (s .args .k) 22 _ (c .before .before .before .before .match .keys14)
+    (c .before .before .write10 .ensures)
 
 returns-15 : tie.Need-returns-15
 returns-15 c =

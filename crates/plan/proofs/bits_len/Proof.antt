@@ -15,7 +15,8 @@ record-len-requires c κs = in-range-true _ _ (sym (c .before .before .in-range 
 mul-result : tie.Need-mul-result
 mul-result c =
     let r = in-range-true _ _ (sym (c .before .before .before .in-range .ensures) ∙ c .before .before .if1 .taken) in
-    rw (c .before .bits-count .ensures, c .record-len .ensures) (omega (arith, mul-le-mul (bits-most _ (r .most)) (record-most _ (r .eight))))
+    rw (c .before .bits-count .ensures, c .record-len .ensures)
+    (omega (arith, mul-le-mul (bits-most _ (r .most)) (record-most _ (r .eight))))
 
 returns : tie.Need-returns
 unfolding bitsLen

@@ -17,7 +17,8 @@ dm : (c : tie.After-dm-len) → 8 + c .dm-len .result ≤ 128
 unfolding dmLen
 dm c = let h = dms (c .before) in omega (arith, c .dm-len .ensures)
 
-dvalues : (c : tie.After-known-told2) → let a = c .before .before .before .args in (a .count ≤ 1500000) × (c .before .kind2 .given .0 .0 ≤ 4)
+dvalues : (c : tie.After-known-told2) → let a =
+    c .before .before .before .args in (a .count ≤ 1500000) × (c .before .kind2 .given .0 .0 ≤ 4)
 dvalues c = let a = c .before .before .before in subst (Listed (a .args .n) (a .args .count)) (c .before .kind2 .given .1) (a .pre)
 
 -- a bucket's two lists

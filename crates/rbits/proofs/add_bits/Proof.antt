@@ -23,14 +23,16 @@ within : (c : tie.After-slice-known2 Inv-loop μ-loop) → let l = c .before .be
 within c =
     let l = c .before .before in
     let s = l .before .before .before in
-    in-record (l .loop .j) 120 (s .args .row) (s .args .g * 8) 8 (length (now (s .args .r))) (c .before .loop-test .taken) (s .pre .1 .1) (s .pre .1 .0)
+    in-record (l .loop .j) 120 (s .args .row) (s .args .g * 8) 8 (length (now (s .args .r))) (c .before .loop-test .taken) (s .pre .1 .1)
+    (s .pre .1 .0)
 
 loop-again : tie.Need-loop-again Inv-loop μ-loop
 loop-again c =
     let l = c .before .before .before in
     let a = l .before .before .before .args in (
       omega arith,
-      filled-turn (maskedAt (now (a .acc)) (now (a .r)) (a .row) (a .g) (a .b)) (l .loop .j) (now (a .acc)) (l .loop .acc) _ (l .loop .inv .1)
+      filled-turn (maskedAt (now (a .acc)) (now (a .r)) (a .row) (a .g) (a .b)) (l .loop .j) (now (a .acc)) (l .loop .acc) _
+          (l .loop .inv .1)
           (ap₂ (λ x y. bitXor x (bitAnd y (a .b))) (filled-get _ (l .loop .j) (now (a .acc)) (l .loop .acc) (l .loop .inv .1) (omega arith)) (c .load64 .ensures)) (omega arith),
     )
 
@@ -41,7 +43,8 @@ returns : tie.Need-returns Inv-loop μ-loop
 returns c =
     let l = c .before in
     let a = l .before .before .before .args in
-    filled-end (maskedAt (now (a .acc)) (now (a .r)) (a .row) (a .g) (a .b)) (l .loop .j) 120 (now (a .acc)) (l .loop .acc) (l .loop .inv .1) (omega arith) (omega arith)
+    filled-end (maskedAt (now (a .acc)) (now (a .r)) (a .row) (a .g) (a .b)) (l .loop .j) 120 (now (a .acc)) (l .loop .acc)
+    (l .loop .inv .1) (omega arith) (omega arith)
 
 pub add-bits-spec : {M : Type 1} → statement M
 add-bits-spec =

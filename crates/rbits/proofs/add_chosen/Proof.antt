@@ -9,10 +9,10 @@ use Rattle.rbits.proofs.add_chosen.Statement.{statement}
 use Rattle.rbits.proofs.add_chosen.Tie as tie
 
 abbrev Inv-loop : tie.InvT-loop
-Inv-loop acc₀ low high ws j₀ acc j = (j ≤ 120) × Written (pairOf (addedAt acc₀ low high ws)) j (j * 2) acc₀ acc
+Inv-loop acc₀ t ws j₀ acc j = (j ≤ 120) × Written (pairOf (addedAt acc₀ t ws)) j (j * 2) acc₀ acc
 
 abbrev μ-loop : tie.MeasureT-loop
-μ-loop acc₀ low high ws j₀ acc j = 120 - j
+μ-loop acc₀ t ws j₀ acc j = 120 - j
 
 loop-holds : tie.Need-loop-holds Inv-loop μ-loop
 loop-holds c = (omega arith, written-zero _ _)
@@ -23,7 +23,7 @@ loop-again c =
     let l = b .before .before .before in
     let a = l .before .before .args in (
       omega arith,
-      added-turn (now (a .acc)) (now (a .low)) (now (a .high)) (now (a .ws)) (l .loop .acc) (l .loop .j) (b .choose .result)
+      added-turn (now (a .acc)) (now (a .tab)) (now (a .ws)) (l .loop .acc) (l .loop .j) (b .choose .result)
           (l .loop .inv .1) (b .choose .ensures) (omega arith),
     )
 
@@ -32,7 +32,9 @@ same-length c = c .before .loop .inv .1 .same
 
 returns : tie.Need-returns Inv-loop μ-loop
 unfolding wordsOf
-returns c = written-end _ (c .before .loop .j) 120 (c .before .loop .j * 2) _ (c .before .loop .acc) (c .before .loop .inv .1) (omega arith) (omega arith)
+returns c =
+    written-end _ (c .before .loop .j) 120 (c .before .loop .j * 2) _ (c .before .loop .acc) (c .before .loop .inv .1) (omega arith)
+    (omega arith)
 
 pub add-chosen-spec : {M : Type 1} → statement M
 add-chosen-spec =

@@ -24,7 +24,8 @@ loop-again c =
     let a = l .before .before .before .args in (
       omega arith,
       d .add-bits .kept .0 ∙ l .loop .inv .1,
-      masked-turn (now (a .s)) (a .stride) (now (a .r)) (a .row) (a .count) (l .loop .g) (b .pack .result) (l .loop .acc) (d .add-bits .last .0)
+      masked-turn (now (a .s)) (a .stride) (now (a .r)) (a .row) (a .count) (l .loop .g) (b .pack .result) (l .loop .acc)
+          (d .add-bits .last .0)
           (l .loop .inv .2) (b .pack .ensures) (d .add-bits .ensures),
     )
 

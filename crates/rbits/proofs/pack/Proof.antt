@@ -19,11 +19,13 @@ loop-holds c = (omega arith, refl)
 -- the next bit in its place
 next : (c : tie.After-digit Inv-loop μ-loop) → let l = c .before .before in
     let a = l .before .before .args in
-    c .digit .result * 2 ^ l .loop .e % 2 ^ 64 + l .loop .w ≡ packed (l .loop .e + 1) (λ e. recordBit (now (a .s)) (a .stride) (a .count) (a .first + e))
+    c .digit .result * 2 ^ l .loop .e % 2 ^ 64 + l .loop .w ≡ packed (l .loop .e + 1)
+    (λ e. recordBit (now (a .s)) (a .stride) (a .count) (a .first + e))
 next c =
     let l = c .before .before in
     let a = l .before .before .args in
-    packed-turn (l .loop .e) (λ e. recordBit (now (a .s)) (a .stride) (a .count) (a .first + e)) (c .digit .result) (l .loop .w) (c .before .loop-test .taken)
+    packed-turn (l .loop .e) (λ e. recordBit (now (a .s)) (a .stride) (a .count) (a .first + e)) (c .digit .result) (l .loop .w)
+    (c .before .loop-test .taken)
     (c .digit .ensures) (l .loop .inv .1)
 
 add-w : tie.Need-add-w Inv-loop μ-loop

@@ -24,7 +24,8 @@ loop-again c =
 returns : tie.Need-returns Inv-loop μ-loop
 returns c =
     let l = c .before in
-    filled-end (λ j. num (odd (ones (getD (now (l .before .args .acc)) j 0)))) (l .loop .j) 120 _ (l .loop .out) (l .loop .inv .2) (omega arith) (omega arith)
+    filled-end (λ j. num (odd (ones (getD (now (l .before .args .acc)) j 0)))) (l .loop .j) 120 _ (l .loop .out) (l .loop .inv .2)
+    (omega arith) (omega arith)
 
 pub parities-spec : {M : Type 1} → statement M
 parities-spec =

@@ -20,7 +20,8 @@ within : (c : tie.In-loop Inv-loop μ-loop) → let a = c .before .before .befor
     c .before .loop .j * a .row + a .g * 8 + 8 ≤ length (now (a .r))
 within c =
     let s = c .before .before .before .before in
-    in-record (c .before .loop .j) 120 (s .args .row) (s .args .g * 8) 8 (length (now (s .args .r))) (c .loop-test .taken) (s .pre .1 .1) (s .pre .1 .0)
+    in-record (c .before .loop .j) 120 (s .args .row) (s .args .g * 8) 8 (length (now (s .args .r))) (c .loop-test .taken) (s .pre .1 .1)
+    (s .pre .1 .0)
 
 loop-again : tie.Need-loop-again Inv-loop μ-loop
 loop-again c =

@@ -49,4 +49,5 @@ returns-3 c =
     (c .judge .ensures)
 
 pub content-spec : {M : Type 1} → statement M
-content-spec = tie.close (tie.spec (λ c κs. search needs) check-requires returns to-echo-requires returns-2 (λ c κs. search needs) returns-3)
+content-spec =
+    tie.close (tie.spec (λ c κs. search needs) check-requires returns to-echo-requires returns-2 (λ c κs. search needs) returns-3)

@@ -17,7 +17,8 @@ use Rattle.session.proofs.fault.Tie as tie
 
 returns : tie.Need-returns
 unfolding faultOf
-returns c = (λ r perm out. finds-one _ _ _ _ (c .before .before .form .ensures .0 r perm out) (c .if1 .taken), λ z. absurd (c .if1 .taken z))
+returns c =
+    (λ r perm out. finds-one _ _ _ _ (c .before .before .form .ensures .0 r perm out) (c .if1 .taken), λ z. absurd (c .if1 .taken z))
 
 -- what the call is lent
 abbrev lent : tie.Start → List ℕ → List ℕ → List ℕ → Lent
@@ -30,7 +31,8 @@ mail-is c =
     let e = c .before .before in
     let s = e .before .before .before .before .before .before in
     e .form .ensures .1
-    ∙ ap (λ b. pick b (mailOf (s .args .f) (kindOf (s .args .f .l) (s .args .k)) (lent s [] [] [])) noMail) (eq-eqb (e .form .result .code) 0 (c .if1 .left))
+    ∙ ap (λ b. pick b (mailOf (s .args .f) (kindOf (s .args .f .l) (s .args .k)) (lent s [] [] [])) noMail)
+    (eq-eqb (e .form .result .code) 0 (c .if1 .left))
 
 content-requires : tie.Need-content-requires
 content-requires c κs =
@@ -55,7 +57,8 @@ returns-2 c =
     let h = c .content in (
       λ r perm out.
           let z = sym (e .form .ensures .0 r perm out .code-is) ∙ t .if1 .left in
-          let any = mail-any (now (a .incoming)) (now (a .starts)) (now (a .lens)) (now (a .missing)) r perm out (a .f) (kindOf (a .f .l) (a .k)) in
+          let any =
+          mail-any (now (a .incoming)) (now (a .starts)) (now (a .lens)) (now (a .missing)) r perm out (a .f) (kindOf (a .f .l) (a .k)) in
           let same = ap (λ (m : Mail). mask (a .f) (letter (now (a .incoming)) m)) (mail-is t ∙ any) in
           finds-two _ _ _ _ z
           (subst (λ (m : ℕ → List ℕ). Finds (h .result .code) (h .result .party) (checkOf table (a .k) (a .f) (now (a .work)) m))

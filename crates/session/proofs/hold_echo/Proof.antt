@@ -21,7 +21,8 @@ note-requires c κs =
     let m = mask (a .f) (letter (now (a .incoming)) (a .mail)) in (
       record { ranges = s .pre .work .ranges; whole = q .keep-clean .kept .0 ∙ s .pre .work .whole },
       (
-        names-party (a .f) (s .pre .work .ranges .own) (a .k) (now (a .work)) m (j .judge .result .code) (j .judge .result .party) (j .judge .ensures),
+        names-party (a .f) (s .pre .work .ranges .own) (a .k) (now (a .work)) m (j .judge .result .code) (j .judge .result .party)
+            (j .judge .ensures),
         s .pre .received,
       ),
     )

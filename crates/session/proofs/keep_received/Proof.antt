@@ -18,7 +18,8 @@ returns-2 : tie.Need-returns-2
 returns-2 c =
     let e = c .before .before .before .before .before in
     let a = e .before .before .before .args in
-    plain-takes (a .k) _ (now (a .work)) _ (sym (e .is-echo .ensures) ∙ c .before .before .before .before .if1 .left) (c .before .before .keep .ensures)
+    plain-takes (a .k) _ (now (a .work)) _ (sym (e .is-echo .ensures) ∙ c .before .before .before .before .if1 .left)
+    (c .before .before .keep .ensures)
 
 pub keep-received-spec : {M : Type 1} → statement M
 keep-received-spec = tie.close (tie.spec (λ c κs. search needs) returns keep-requires (λ c. search needs) returns-2)

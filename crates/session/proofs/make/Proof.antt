@@ -25,7 +25,8 @@ returns c =
     let f = a .f in (
       h .hold .ensures,
       p .write .ensures
-          ∙ ap (λ (w : List ℕ). toOthers (f .n) (f .i) (Table.written (a .next) f (loan (now (a .r)) (now (a .perm))) w)) (h .hold .ensures),
+          ∙ ap (λ (w : List ℕ). toOthers (f .n) (f .i) (Table.written (a .next) f (loan (now (a .r)) (now (a .perm))) w))
+          (h .hold .ensures),
     )
 
 pub make-spec : {M : Type 1} → statement M

@@ -16,13 +16,15 @@ use Rattle.session.proofs.round.Tie as tie
 -- what the call is lent
 abbrev lent : tie.Start → Lent
 lent s =
-    given (now (s .args .incoming)) (now (s .args .starts)) (now (s .args .lens)) (now (s .args .missing)) (now (s .args .r)) (now (s .args .perm)) (now (s .args .out))
+    given (now (s .args .incoming)) (now (s .args .starts)) (now (s .args .lens)) (now (s .args .missing)) (now (s .args .r))
+    (now (s .args .perm)) (now (s .args .out))
 
 returns : tie.Need-returns
 unfolding replyOf
 returns c =
     let s = c .before .before .before .before .before .before .before .before .before .before .before .before .before in
-    call-refused (s .args .s) (s .args .k) (lent s) (now (s .args .work)) (c .before .reason .result) (c .before .reason .ensures) (c .if1 .taken)
+    call-refused (s .args .s) (s .args .k) (lent s) (now (s .args .work)) (c .before .reason .result) (c .before .reason .ensures)
+    (c .if1 .taken)
 
 fault-requires : tie.Need-fault-requires
 fault-requires c κs =
@@ -36,7 +38,9 @@ fault-requires c κs =
       starts-n = A .starts-n;
       lens-n = A .lens-n;
       missing-n = A .missing-n;
-      parts = parts-any (now (a .incoming)) (now (a .starts)) (now (a .lens)) (now (a .missing)) (now (a .r)) (now (a .perm)) (now (a .out)) (a .s .party)
+      parts =
+          parts-any (now (a .incoming)) (now (a .starts)) (now (a .lens)) (now (a .missing)) (now (a .r)) (now (a .perm)) (now (a .out))
+          (a .s .party)
           ∙ A .parts-in;
     }
 
@@ -47,7 +51,8 @@ returns-2 c =
     let x = c .before .before .before .before .before .before .before in
     let s = c .before .before .before .before .before .before .before .before .before .before .before .before .before .before .before .before .before .before .before .before .before .before in
     let a = s .args in
-    call-faulted (a .s) (a .k) (lent s) (now (a .work)) (sym (e .reason .ensures) ∙ c .before .before .before .before .before .before .before .before .before .if1 .left)
+    call-faulted (a .s) (a .k) (lent s) (now (a .work))
+    (sym (e .reason .ensures) ∙ c .before .before .before .before .before .before .before .before .before .if1 .left)
     (x .fault .result .code) (x .fault .result .party) (c .ended .result) (c .before .before .before .clear .last .0)
     (x .fault .ensures .0 (now (a .r)) (now (a .perm)) (now (a .out))) (c .before .before .before .before .before .if2 .taken) (c .ended .ensures) (c .before .before .before .clear .ensures)
 
@@ -56,14 +61,17 @@ mail-is : (c : tie.Else2) → let x = c .before .before in let s = x .before .be
     x .fault .result .mail ≡ mailOf (s .args .s .party) (kindOf (s .args .s .party .l) (s .args .k)) (lent s)
 mail-is c =
     let x = c .before .before in
-    let a = x .before .before .before .before .before .before .before .before .before .before .before .before .before .before .before .args in
+    let a =
+    x .before .before .before .before .before .before .before .before .before .before .before .before .before .before .before .args in
     x .fault .ensures .1 (c .if2 .left)
-    ∙ mail-any (now (a .incoming)) (now (a .starts)) (now (a .lens)) (now (a .missing)) (now (a .r)) (now (a .perm)) (now (a .out)) (a .s .party)
+    ∙ mail-any (now (a .incoming)) (now (a .starts)) (now (a .lens)) (now (a .missing)) (now (a .r)) (now (a .perm)) (now (a .out))
+    (a .s .party)
     (kindOf (a .s .party .l) (a .k))
 
 -- they are those of the definition
 lists-are : (c : tie.Else2) → let x = c .before .before in let s = x .before .before .before .before .before .before .before .before .before .before .before .before .before .before .before in let f = s .args .s .party in
-    mask f (letter (now (s .args .incoming)) (x .fault .result .mail)) ≡ mask f (letter (now (s .args .incoming)) (mailOf f (kindOf (f .l) (s .args .k)) (lent s)))
+    mask f (letter (now (s .args .incoming)) (x .fault .result .mail)) ≡ mask f
+    (letter (now (s .args .incoming)) (mailOf f (kindOf (f .l) (s .args .k)) (lent s)))
 lists-are c =
     let a = c .before .before .before .before .before .before .before .before .before .before .before .before .before .before .before .before .before .args in
     ap (λ (m : Mail). mask (a .s .party) (letter (now (a .incoming)) m)) (mail-is c)
@@ -85,7 +93,8 @@ step-requires c κs =
         received = subst (Received _ _ f (now (a .incoming))) (sym (mail-is t)) (received f (a .k) (lent s) (none .0) (A .ranges .range .eight) (A .parts-in));
       },
       (
-        ap (λ (m : ℕ → List ℕ). checkOf table (a .k) f (now (a .work)) m .code) (lists-are t ∙ lists-heard f (a .k) (lent s) (none .0)) ∙ none .1,
+        ap (λ (m : ℕ → List ℕ). checkOf table (a .k) f (now (a .work)) m .code) (lists-are t ∙ lists-heard f (a .k) (lent s) (none .0))
+            ∙ none .1,
         (A .out-whole, A .lent-fits),
       ),
     )

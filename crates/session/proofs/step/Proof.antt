@@ -45,7 +45,9 @@ write-requires c κs =
     let s = c .before .before .before .before .before .before .before .before .before .before .before .before .before .before in
     let a = s .args in (
       record { ranges = s .pre .0 .work .ranges; whole = h .hold-echo .kept .0 ∙ s .pre .0 .work .whole },
-      s .pre .1 .1 .0 ∙ out-echo (a .f) (a .k) (below s (t .before .if1 .left)) (sym (t .to-echo .ensures) ∙ c .before .before .before .before .before .before .if2 .taken),
+      s .pre .1 .1 .0
+          ∙ out-echo (a .f) (a .k) (below s (t .before .if1 .left))
+          (sym (t .to-echo .ensures) ∙ c .before .before .before .before .before .before .if2 .taken),
     )
 
 keep-received-requires : tie.Need-keep-received-requires
@@ -114,12 +116,15 @@ returns-3 c =
     let f = a .f in
     let w = now (a .work) in
     let low = below s (t .before .if1 .left) in
-    let none = sym (t .to-echo .ensures) ∙ c .before .before .before .before .before .before .before .before .before .before .before .before .if2 .left in
+    let none =
+    sym (t .to-echo .ensures)
+    ∙ c .before .before .before .before .before .before .before .before .before .before .before .before .if2 .left in
     let next = c .before .before .before .before .before .next-round .ensures in (
       p .make .ensures .0 ∙ ap₂ (λ j (x : List ℕ). Table.held j f (lent s) x) next (h .keep-received .ensures)
           ∙ sym (keep-made f w (told s) (a .k) (lent s) low none),
       p .make .ensures .1
-          ∙ ap₂ (λ j (x : List ℕ). toOthers (f .n) (f .i) (Table.written j f (lent s) (Table.held j f (lent s) x))) next (h .keep-received .ensures)
+          ∙ ap₂ (λ j (x : List ℕ). toOthers (f .n) (f .i) (Table.written j f (lent s) (Table.held j f (lent s) x))) next
+          (h .keep-received .ensures)
           ∙ sym (write-made f w (told s) (a .k) (lent s) low none),
     )
 

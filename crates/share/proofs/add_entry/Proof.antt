@@ -6,7 +6,8 @@ use Rattle.share.proofs.add_entry.Statement.{statement}
 use Rattle.share.proofs.add_entry.Tie as tie
 
 put-entry-of-requires : tie.Need-put-entry-of-requires
-put-entry-of-requires c κs = c .before .before .before .before .before .before .before .before .before .before .before .before .before .pre .0 .0
+put-entry-of-requires c κs =
+    c .before .before .before .before .before .before .before .before .before .before .before .before .before .pre .0 .0
 
 returns : tie.Need-returns
 returns c =

@@ -9,7 +9,8 @@ use Rattle.share.proofs.add_record.Statement.{statement}
 use Rattle.share.proofs.add_record.Tie as tie
 
 abbrev Inv-loop : tie.InvT-loop
-Inv-loop out₀ s at n i d bit k₀ out k = (k ≤ n) × Filled (entryOf i (shares .op (shareAt out₀ 0) (sel shares d (shareAt s at)))) n k out₀ out
+Inv-loop out₀ s at n i d bit k₀ out k =
+    (k ≤ n) × Filled (entryOf i (shares .op (shareAt out₀ 0) (sel shares d (shareAt s at)))) n k out₀ out
 
 abbrev μ-loop : tie.MeasureT-loop
 μ-loop out₀ s at n i d bit k₀ out k = n - k

@@ -25,7 +25,8 @@ loop-again c =
     let o = p .before .before .before .before in
     let l = o .before .before in
     let i = l .before .before .before .args .i in
-    let w : _ ≡ entryBytes i (l .loop .k) _ _ = p .put-entry-of .ensures ∙ ap₂ (entryBytes i (l .loop .k)) (p .before .before .mac-at .ensures) (p .before .key-at .ensures) in
+    let w : _ ≡ entryBytes i (l .loop .k) _ _ =
+    p .put-entry-of .ensures ∙ ap₂ (entryBytes i (l .loop .k)) (p .before .before .mac-at .ensures) (p .before .key-at .ensures) in
     (omega (arith, o), filled-turn (l .loop .inv .1) (o .mac-off .result) (o .mac-off .result + 32) (o .mac-off .ensures) refl (p .put-entry-of .last .0) (o .before .loop-test .taken) w)
 
 returns : tie.Need-returns Inv-loop μ-loop

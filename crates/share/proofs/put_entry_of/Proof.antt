@@ -11,7 +11,8 @@ unfolding neq
 returns c =
     let s = c .before .before .before .before .before .before .before in
     c .before .before .put-entry .ensures
-    ∙ ap₂ (λ (m k : Block). bytesOf m ++ bytesOf k) (c .before .before .before .before .const-mul .ensures) (c .before .before .before .const-mul2 .ensures)
+    ∙ ap₂ (λ (m k : Block). bytesOf m ++ bytesOf k) (c .before .before .before .before .const-mul .ensures)
+    (c .before .before .before .const-mul2 .ensures)
     ∙ own-entry (s .args .i) (s .args .of) (s .args .m .0) (s .args .k .0)
 
 pub put-entry-of-spec : {M : Type 1} → statement M

@@ -28,7 +28,8 @@ loop-again c =
 returns : tie.Need-returns Inv-loop μ-loop
 returns c =
     let a = c .before .before .before .before .before .before .before .args in
-    tossed-end (a .f .i) (now (a .seed)) (letter (now (a .incoming)) (a .mail)) (a .f .n) (a .f .l) (c .before .loop .k) (c .before .loop .x) (c .before .loop .inv .1) (omega arith)
+    tossed-end (a .f .i) (now (a .seed)) (letter (now (a .incoming)) (a .mail)) (a .f .n) (a .f .l) (c .before .loop .k)
+    (c .before .loop .x) (c .before .loop .inv .1) (omega arith)
 
 pub joint-seed-spec : {M : Type 1} → statement M
 joint-seed-spec =

@@ -15,7 +15,8 @@ open-requires c κs =
 returns : tie.Need-returns
 returns c =
     let a = c .before .before .before .before .args in
-    subst (λ (x : List ℕ). Finds (c .«open» .result .code) (c .«open» .result .party) (opening (a .f) x (letter (now (a .incoming)) (a .mail))))
+    subst
+    (λ (x : List ℕ). Finds (c .«open» .result .code) (c .«open» .result .party) (opening (a .f) x (letter (now (a .incoming)) (a .mail))))
     (c .before .section .ensures) (c .«open» .ensures)
 
 pub judge-spec : {M : Type 1} → statement M

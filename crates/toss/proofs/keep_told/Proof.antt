@@ -23,4 +23,5 @@ returns c =
 
 pub keep-told-spec : {M : Type 1} → statement M
 keep-told-spec =
-    tie.close (tie.spec (λ c κs. search needs) (λ c. search needs) (λ c. search needs) part-end told-rows-requires (λ c. search needs) returns)
+    tie.close
+    (tie.spec (λ c κs. search needs) (λ c. search needs) (λ c. search needs) part-end told-rows-requires (λ c. search needs) returns)

@@ -23,14 +23,16 @@ returns : tie.Need-returns Inv-loop μ-loop
 unfolding opening
 returns c =
     let a = c .before .before .before .before .before .before .args in
-    finds-first (a .f .n) (a .f .i) (openFault (now (a .comms)) (letter (now (a .incoming)) (a .mail))) (a .f .l) (c .before .before .before .loop .k) (c .before .open-fault .result)
+    finds-first (a .f .n) (a .f .i) (openFault (now (a .comms)) (letter (now (a .incoming)) (a .mail))) (a .f .l)
+    (c .before .before .before .loop .k) (c .before .open-fault .result)
     (c .before .before .loop-test .taken) (c .before .before .before .loop .inv .1) (c .before .open-fault .ensures) (c .if1 .taken)
 
 loop-again : tie.Need-loop-again Inv-loop μ-loop
 loop-again c =
     let a = c .before .before .before .before .before .before .args in (
       omega arith,
-      scan-turn (c .before .before .before .loop .k) (faultAt (a .f .i) (openFault (now (a .comms)) (letter (now (a .incoming)) (a .mail)))) (c .before .before .before .loop .inv .1)
+      scan-turn (c .before .before .before .loop .k) (faultAt (a .f .i) (openFault (now (a .comms)) (letter (now (a .incoming)) (a .mail))))
+          (c .before .before .before .loop .inv .1)
           (sym (c .before .open-fault .ensures) ∙ c .if1 .left),
     )
 
@@ -38,7 +40,8 @@ returns-2 : tie.Need-returns-2 Inv-loop μ-loop
 unfolding opening
 returns-2 c =
     let a = c .before .before .before .before .args in
-    finds-none (a .f .n) (a .f .i) (openFault (now (a .comms)) (letter (now (a .incoming)) (a .mail))) (a .f .l) (c .before .loop .k) 0 (c .before .loop .inv .1) (omega arith)
+    finds-none (a .f .n) (a .f .i) (openFault (now (a .comms)) (letter (now (a .incoming)) (a .mail))) (a .f .l) (c .before .loop .k) 0
+    (c .before .loop .inv .1) (omega arith)
 
 pub open-spec : {M : Type 1} → statement M
 open-spec =

@@ -27,7 +27,8 @@ part-commitment-end c =
     omega (arith, ap length (c .letter .ensures), letter-long (s .pre .1) (a .k) (s .pre .0 .1 .1 .0) (c .before .if1 .left))
 
 -- what was compared, by the answer
-answers : (c : tie.After-is) (x : ℕ) → x ≡ pick (c .is .result) 0 2 → let a = c .before .before .before .before .before .before .before .args in
+answers : (c : tie.After-is) (x : ℕ) → x ≡ pick (c .is .result) 0 2 → let a =
+    c .before .before .before .before .before .before .before .args in
     x ≡ faultAt (a .f .i) (openFault (now (a .comms)) (letter (now (a .incoming)) (a .mail))) (a .k)
 unfolding Toss.told
 answers c x e =

@@ -32,7 +32,8 @@ returns c =
     let t = p .before .before .before in
     let a = t .before .before .before .args in
     c .before .xor-inplace .ensures
-    ∙ ap₂ xorInplace (copied (replicate 32 0) (now (g .result)) _ (sym (g .ensures .1)) (p .copy .ensures) ∙ g .ensures .0) (ap told (m .letter .ensures))
+    ∙ ap₂ xorInplace (copied (replicate 32 0) (now (g .result)) _ (sym (g .ensures .1)) (p .copy .ensures) ∙ g .ensures .0)
+    (ap told (m .letter .ensures))
     ∙ ap (λ b. pick b (xorInplace (chunk 32 (a .k) (now (a .pairs))) (told (letter (now (a .incoming)) (a .mail) (a .k)))) (replicate 32 0))
     (sym (neq-true (a .f .i) (a .k) (λ e. t .if1 .taken (sym e))))
 

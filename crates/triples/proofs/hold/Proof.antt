@@ -6,7 +6,7 @@ use Rattle.engine.specs.declared.Frame.{Frame}
 use Rattle.rounds.specs.Area.{TRIPLES, BITS, ZS, ES, PERM, DS, at, keep, sizeOf}
 use Rattle.rounds.specs.Buckets.{tripleRows}
 use Rattle.area.specs.Sizes.{size-triples}
-use Rattle.dvalue.specs.Rows.{Filled, filled-none, filled-work, filled-other, filled-end, row-in, row-long, filled-turn}
+use Rattle.buckets.specs.Rows.{Filled, filled-none, filled-work, filled-other, filled-end, row-in, row-long, filled-turn}
 use Rattle.triples.specs.Laws.{rowOf, row-kept, length-rowOf, rows-are}
 use Rattle.triples.proofs.hold.Statement.{statement}
 use Rattle.triples.proofs.hold.Tie as tie

@@ -7,7 +7,7 @@ use Rattle.share.specs.Record.{recordLen}
 use Rattle.plan.specs.Plan.{leaky}
 use Rattle.rounds.specs.Buckets.{Triple, entry, later, tripleRow}
 use Rattle.combine.specs.PairLaws.{Holds}
-use Rattle.dvalue.specs.Entries.{first-in, later-in, later-most, entry-lt}
+use Rattle.buckets.specs.Entries.{first-in, later-in, later-most, entry-lt}
 use Rattle.triples.specs.Given.{d-in}
 use Rattle.triples.specs.Laws.{leakyAt, small-leaky, length-row, holds-first, holds-end, done, done-none, done-more, done-all}
 use Rattle.triples.proofs.put_triple.Statement.{statement}

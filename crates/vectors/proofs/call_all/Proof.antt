@@ -7,7 +7,8 @@ use Rattle.vectors.proofs.call_all.Statement.{statement}
 use Rattle.vectors.proofs.call_all.Tie as tie
 
 abbrev Inv-loop : tie.InvT-loop
-Inv-loop s k m heard sent r perm works₀ next₀ tally₀ n i₀ works next tally i = (i ≤ n) × (length works ≡ length works₀) × (length next ≡ length next₀)
+Inv-loop s k m heard sent r perm works₀ next₀ tally₀ n i₀ works next tally i =
+    (i ≤ n) × (length works ≡ length works₀) × (length next ≡ length next₀)
 
 abbrev μ-loop : tie.MeasureT-loop
 μ-loop s k m heard sent r perm works₀ next₀ tally₀ n i₀ works next tally i = n - i

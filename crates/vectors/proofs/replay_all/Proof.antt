@@ -7,7 +7,8 @@ use Rattle.vectors.proofs.replay_all.Statement.{statement}
 use Rattle.vectors.proofs.replay_all.Tie as tie
 
 abbrev Inv-loop : tie.InvT-loop
-Inv-loop list works₀ sent₀ next₀ tally₀ count at₀ q₀ t10 works sent next tally at q = (q ≤ count) × (length works ≡ length works₀) × (length sent ≡ length sent₀) × (length next ≡ length next₀)
+Inv-loop list works₀ sent₀ next₀ tally₀ count at₀ q₀ t10 works sent next tally at q =
+    (q ≤ count) × (length works ≡ length works₀) × (length sent ≡ length sent₀) × (length next ≡ length next₀)
 
 abbrev μ-loop : tie.MeasureT-loop
 μ-loop list works₀ sent₀ next₀ tally₀ count at₀ q₀ t10 works sent next tally at q = count - q

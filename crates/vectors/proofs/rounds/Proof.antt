@@ -7,7 +7,8 @@ use Rattle.vectors.proofs.rounds.Statement.{statement}
 use Rattle.vectors.proofs.rounds.Tie as tie
 
 abbrev Inv-loop : tie.InvT-loop
-Inv-loop s r perm works₀ sent₀ next₀ tally₀ n l count k₀ len₀ q₀ t14 works sent next tally k len q = (q ≤ count) × (length works ≡ length works₀) × (length sent ≡ length sent₀) × (length next ≡ length next₀)
+Inv-loop s r perm works₀ sent₀ next₀ tally₀ n l count k₀ len₀ q₀ t14 works sent next tally k len q =
+    (q ≤ count) × (length works ≡ length works₀) × (length sent ≡ length sent₀) × (length next ≡ length next₀)
 
 abbrev μ-loop : tie.MeasureT-loop
 μ-loop s r perm works₀ sent₀ next₀ tally₀ n l count k₀ len₀ q₀ t14 works sent next tally k len q = count - q

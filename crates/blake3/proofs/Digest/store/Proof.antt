@@ -12,7 +12,9 @@ returns c =
     let s = c .before .before .before .before .before .before .before .before .before .before .before .args in
     let d0 = blockAt (bytes (s .self .0)) 0 in
     let d1 = blockAt (bytes (s .self .0)) 16 in
-    let x = c .before .before .before .before .before .before .before .store .ensures ∙ ap bytesOf (c .before .before .before .before .before .before .before .before .block .ensures) in
+    let x =
+    c .before .before .before .before .before .before .before .store .ensures
+    ∙ ap bytesOf (c .before .before .before .before .before .before .before .before .block .ensures) in
     let y = c .before .before .store2 .ensures ∙ ap bytesOf (c .before .before .before .second .ensures) in
     rw (x, y)
     (over-put (bytesOf d0) (bytesOf d1) (s .out .now) 16 16 (length-bytesOf d0)
