@@ -40,12 +40,20 @@ pub struct Ran {
 /// How much is looked at beside messages, results and answers.
 #[derive(Clone, Copy, PartialEq, Eq)]
 pub enum Care {
-    /// Nothing: for benchmarks.
+    /// Nothing: for benchmarks. Lent memory was touched before, as that of a box which lends the same for every session.
     Time,
+    /// The same in fresh memory, whose pages the system makes when a call first touches them.
+    TimeFresh,
     /// Memory after each refusal and at the end.
     Ends,
     /// Also what the work area holds, parts that lie anywhere, and calls that a host gets wrong.
     All,
+}
+
+impl Care {
+    fn times(self) -> bool {
+        matches!(self, Care::Time | Care::TimeFresh)
+    }
 }
 
 /// A number of the answer, and the party above it.
@@ -332,7 +340,8 @@ pub fn run(
 
     // What lies in lent memory before a call is of no account.
     let dirt = |g: &mut SplitMix, len: usize| match care {
-        Care::Time => vec![0; len],
+        Care::Time => vec![1; len],
+        Care::TimeFresh => vec![0; len],
         _ => g.bytes(len),
     };
     let mut hosts: Vec<Host> = (0..n)
@@ -388,7 +397,7 @@ pub fn run(
             }
             probes += 1;
         }
-        let before = (care != Care::Time).then(|| (h.session, h.work.clone(), h.out.clone()));
+        let before = (!care.times()).then(|| (h.session, h.work.clone(), h.out.clone()));
         let start = cpu_time();
         let (number, party) = h.open();
         nanoseconds[i] += cpu_time() - start;
@@ -489,7 +498,7 @@ pub fn run(
                 probes += 1;
             }
 
-            let before = (care != Care::Time).then(|| h.out.clone());
+            let before = (!care.times()).then(|| h.out.clone());
             let start = cpu_time();
             let (number, party) = h.round(round.into(), &t);
             let took = cpu_time() - start;
@@ -532,7 +541,7 @@ pub fn run(
                     if h.work.iter().any(|byte| *byte != 0) {
                         broken.push(format!("party {i}: done, work area not zero"));
                     }
-                    if care != Care::Time {
+                    if !care.times() {
                         over(h, g, &mut broken);
                     }
                 }

@@ -18,11 +18,12 @@ fn main() {
     };
     for (n, l) in cases {
         let s = Session::generate(n, l, 1);
-        let (mut ours, mut rust) = (vec![], vec![]);
-        // in turn, so that what else the machine does meets both
+        let (mut ours, mut fresh, mut rust) = (vec![], vec![], vec![]);
+        // in turn, so that what else the machine does meets all
         for turn in 0..times.max(1) {
             let o = run(&s, &mut honest);
             let u = beside::run(&s, &mut honest, Care::Time, &mut SplitMix(1), None);
+            let v = beside::run(&s, &mut honest, Care::TimeFresh, &mut SplitMix(1), None);
             if turn == 0 {
                 for (mine, theirs) in u.ends.iter().zip(&o.ends) {
                     let (End::Done(mine), Rust::Done(theirs)) = (mine, theirs) else {
@@ -33,21 +34,30 @@ fn main() {
             }
             rust.extend(o.nanoseconds);
             ours.extend(u.nanoseconds);
+            fresh.extend(v.nanoseconds);
         }
-        ours.sort();
-        rust.sort();
         let ms = |ns: u64| ns as f64 / 1e6;
-        let (m, t) = (ours[ours.len() / 2], rust[rust.len() / 2]);
+        // the median and the least
+        let both = |list: &mut Vec<u64>| {
+            list.sort();
+            (list[list.len() / 2], list[0])
+        };
+        let (theirs, theirs_least) = both(&mut rust);
         println!(
-            "n {n} l {l}: ours {:.2} ms (least {:.2}), the Rust {:.2} ms (least {:.2}); ratio {:.2} \
-             (of the least {:.2}); {} sessions each",
-            ms(m),
-            ms(ours[0]),
-            ms(t),
-            ms(rust[0]),
-            m as f64 / t as f64,
-            ours[0] as f64 / rust[0] as f64,
-            ours.len()
+            "n {n} l {l}: the Rust {:.2} ms (least {:.2}); {} sessions each",
+            ms(theirs),
+            ms(theirs_least),
+            rust.len()
         );
+        for (what, list) in [("kept", &mut ours), ("fresh", &mut fresh)] {
+            let (mine, least) = both(list);
+            println!(
+                "    ours, {what} memory: {:.2} ms (least {:.2}); ratio {:.2} (of the least {:.2})",
+                ms(mine),
+                ms(least),
+                mine as f64 / theirs as f64,
+                least as f64 / theirs_least as f64
+            );
+        }
     }
 }
