@@ -19,7 +19,6 @@ module _ (O : Order) where
   unfoldable pub roundIn : Bool → ℕ → Bool
   roundIn two k = leb 1 k && leb k (O .last) && not (two && echoIn k)
 
-  -- "each accepted call makes the next in order due, echoes passed over for n = 2": the round after k, the first after 0, and 0 after the
-  -- last
+  -- "each accepted call makes the next in order due, echoes passed over for n = 2": the round after k; the first after 0, 0 after the last
   unfoldable pub nextIn : Bool → ℕ → ℕ
   nextIn two k = pick (leb (O .last) k) 0 (pick (two && echoIn (suc k)) (suc (suc k)) (suc k))

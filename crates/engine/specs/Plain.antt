@@ -13,9 +13,10 @@ use Rattle.engine.specs.Step.{Frame, Loan, Fault, none?, Rule, Protocol,
 use Rattle.engine.specs.Area.{off, sec, putSec, toOthers, mem}
 use Rattle.engine.specs.Order.{Order, echoIn, roundIn, nextIn}
 
--- ---- what a round gives What is done with its messages. form: 13 or 6 of one message, or 0; list: the part of it that holds the list;
--- judge: the content, from the lists; faults: the numbers that the content check can find; keep: the work area afterwards; digest: the 16
--- bytes of `hash_vec` of a list, for a round that has an echo
+-- ---- what a round gives
+-- What is done with its messages. form: 13 or 6 of one message, or 0; list: the part of it that holds the list; judge: the content, from
+-- the lists; faults: the numbers that the content check can find; keep: the work area afterwards; digest: the 16 bytes of `hash_vec` of a
+-- list, for a round that has an echo
 pub record Recv : Type 0 where
   pub form : Frame → List ℕ → ℕ
   pub list : Frame → List ℕ → List ℕ
@@ -42,9 +43,10 @@ pub record Echo : Type 0 where
   pub write : ℕ → ℕ → List ℕ → ℕ → List ℕ
   pub fault : ℕ → ℕ → ℕ → List ℕ → List ℕ → ℕ
 
--- ---- the table of the rounds fine: n, i, l in opening's ranges; order: the last round, and those that are echoes; count, size: the
--- sections of the work area. Two more stand behind the `count` that the rounds use: section count, of 2 bytes, for a fault that waits for
--- an echo, and section count + 1, n rows of 16 bytes, for the hashes. resultLen, result: what the last call writes
+-- ---- the table of the rounds
+-- fine: n, i, l in opening's ranges; order: the last round, and those that are echoes; count, size: the sections of the work area. Two
+-- more stand behind the `count` that the rounds use: section count, of 2 bytes, for a fault that waits for an echo, and section count + 1,
+-- n rows of 16 bytes, for the hashes. resultLen, result: what the last call writes
 pub record Table : Type 0 where
   pub fine : Frame → Bool
   pub order : Order

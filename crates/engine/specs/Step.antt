@@ -13,8 +13,9 @@ pub use Rattle.engine.specs.declared.Session.{Session}
 use Rattle.engine.specs.declared.Verdict.{Verdict}
 use Rattle.engine.specs.declared.Verdict.the-variants as Variant
 
--- ---- what a call is given and leaves "The r Blocks are lent with the call that writes `fabitn`, the permutation .. with the one that
--- writes `dvalue`; both are empty otherwise."
+-- ---- what a call is given and leaves
+-- "The r Blocks are lent with the call that writes `fabitn`, the permutation .. with the one that writes `dvalue`; both are empty
+-- otherwise."
 pub record Loan : Type 0 where
   pub r : List ℕ
   pub perm : List ℕ

@@ -18,7 +18,8 @@ use Rattle.share.specs.RecordLaws.{faults-valid}
 use Rattle.plan.specs.Plan.{InRange, leaky, bitsCount, msgLen}
 use Rattle.engine.specs.declared.Frame.{Frame}
 use Rattle.rounds.specs.Area.{workLen}
-use Rattle.rounds.specs.Opening.{Args, neither, listsDue, buffersDue, masksFault, bytesFault, lengthsFault, reason}
+use Rattle.rounds.specs.OpeningLaws.{neither}
+use Rattle.rounds.specs.Opening.{Args, listsDue, buffersDue, masksFault, bytesFault, lengthsFault, reason}
 use Rattle.honest.specs.Inputs.{Run, box, Own, Boxes, deltas, bitsOf, alphasOf, betasOf}
 use Rattle.honest.specs.Course.{lawful}
 use Rattle.honest.specs.Opening.{Given, honest-opening}

@@ -18,19 +18,12 @@ use Rattle.engine.specs.Step.{Accepted, Refused, outcome}
 use Rattle.engine.specs.Area.{toOthers}
 use Rattle.rounds.specs.Area.{sizes, sizeOf, workLen}
 use Rattle.rounds.specs.Opening.{Args, orFault, listsDue, buffersDue, masksFault, bytesFault, lengthsFault, reason, area, spec}
+use Rattle.rounds.specs.OpeningLaws.{neither}
 use Rattle.rounds.specs.Toss as Toss
 use Rattle.area.specs.Given.{Ranged}
 use Rattle.opening.specs.Given.{Lens, lens, found, lists?, buffers?, row?, masks?, bytesOf, Due}
 
 -- ---- a chain of reasons
-or-none : (x y : ℕ) → orFault x y ≡ 0 → (x ≡ 0) × (y ≡ 0)
-unfolding orFault
-or-none x y h = go (eqb x 0) refl h
-  where
-    go : (b : Bool) → eqb x 0 ≡ b → pick b y x ≡ 0 → (x ≡ 0) × (y ≡ 0)
-    go true e p = (eqb-true x 0 e, p)
-    go false e p = absurd (eqb-false x 0 e p)
-
 pub or-left : (x y : ℕ) → x ≢ 0 → orFault x y ≡ x
 unfolding orFault
 or-left x y h = rw (ne-eqb x 0 h) refl
@@ -195,4 +188,4 @@ module _ (a : Args) where
   accepts code e h = rw (eq-eqb (reason a) 0 (reason-found ∙ sym e ∙ h)) refl
 
   pub due : (code : ℕ) → code ≡ found a → code ≡ 0 → Due f (lens a)
-  due code e h = due-of f (lens a) (or-none _ _ (sym e ∙ h) .0)
+  due code e h = due-of f (lens a) (neither _ _ (sym e ∙ h) .0)

@@ -1,6 +1,5 @@
 -- The check of a list of records without a branch: bit bytes and own entries ORed together. A byte is no more than an OR that it is in,
--- so where that is
--- as a record's has to be, each record is.
+-- so where that is as a record's has to be, each record is.
 use mathlib.Core.Path.{_≡_, refl, sym, ap, _∙_, subst}
 use mathlib.Core.List.{List}
 use Prim.Native.Nat.{ℕ, _+_, _*_, _<_, _≤_}

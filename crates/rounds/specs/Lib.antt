@@ -11,6 +11,7 @@ pub mod Echo
 pub mod Mail
 pub mod Table
 pub mod Opening
+pub mod OpeningLaws
 pub mod OthersLaws
 pub mod RowsLaws
 pub mod FaultLaws

@@ -1,11 +1,9 @@
 -- Opening (document 01, "The call"): what it refuses, and what it leaves.
-use mathlib.Core.Path.{_≡_, refl}
-use mathlib.Core.Bool.{Bool, true, false, _&&_}
-use mathlib.Core.List.{List, []}
-use Prim.Native.Nat.{ℕ, zero, suc, _+_, _-_, _*_}
+use mathlib.Core.Bool.{Bool, true, _&&_}
+use mathlib.Core.List.{List}
+use Prim.Native.Nat.{ℕ, _+_, _-_, _*_}
 use lib.ListN.{length, getD, replicate}
 use lib.Dec.{ltb, leb, eqb}
-use borrow.Author.Tests.{eqb-true, eqb-false}
 use Rattle.lists.specs.Pick.{pick}
 use Rattle.lists.specs.All.{allOf}
 use Rattle.lists.specs.Over.{cat}
@@ -54,14 +52,6 @@ masksFault a =
 -- the first fault of two lists looked at one after the other
 unfoldable pub orFault : ℕ → ℕ → ℕ
 orFault a b = pick (eqb a 0) b a
-
-pub neither : (a b : ℕ) → orFault a b ≡ 0 → (a ≡ 0) × (b ≡ 0)
-unfolding orFault
-neither a b = go (eqb a 0) refl
-  where
-    go : (c : Bool) → eqb a 0 ≡ c → pick c b a ≡ 0 → (a ≡ 0) × (b ≡ 0)
-    go true e h = (eqb-true a 0 e, h)
-    go false e h = absurd (eqb-false a 0 e h)
 
 -- "then lent bytes in order (1 before 4)": bits, alpha, beta, masks
 unfoldable pub bytesFault : Args → ℕ
