@@ -12,6 +12,7 @@ use borrow.Author.Tests.{ltb-true, leb-true, eqb-true, eqb-false, eq-eqb, ne-eqb
 use Rattle.lists.specs.Pick.{pick, pick-else, by-eq}
 use Rattle.lists.specs.All.{allOf, of-all, all-turn, all-false, all-ext, true-false, and-first, and-second, and-false, not-false}
 use Rattle.lists.specs.Over.{tab, length-tab, getD-tab, tab-zero, tab-step}
+use Rattle.lists.specs.Sect.{get}
 use Rattle.algebra.specs.Sum.{neq-true}
 use Rattle.message.specs.declared.Kind.{Kind}
 use Rattle.message.specs.declared.Kind.the-variants.{Options}
@@ -21,13 +22,13 @@ use Rattle.message.specs.PrefixLaws.{list-form}
 use Rattle.message.specs.Read as Read
 use Rattle.permutation.specs.Permutation.{isPerm}
 use Rattle.plan.specs.Plan as Plan
-use Rattle.plan.specs.Plan.{echo?, isRound, nextRound, kindOf, countDue, msgLen, outLen, leaky, rLen, InRange}
+use Rattle.plan.specs.Plan.{FABITN, DVALUE, echo?, isRound, nextRound, kindOf, countDue, msgLen, outLen, leaky, rLen, InRange}
 use Rattle.plan.specs.PlanLaws.{Rest, kind-rest, count-rest, out-len-last, out-len}
 use Rattle.engine.specs.declared.Frame.{Frame}
 use Rattle.engine.specs.declared.Session.{Session}
 use Rattle.engine.specs.Step.{Lent, Loan, frame, mask, gone, part, heard, inside, partsIn, lengthsDue, reasonOf, orElse, scan, byParty}
 use Rattle.engine.specs.Step.{formFault}
-use Rattle.engine.specs.StepLaws.{other-is, mask-ext}
+use Rattle.engine.specs.StepLaws.{other-neq, other-is, mask-ext}
 use Rattle.engine.specs.Area.{mem}
 use Rattle.engine.specs.Order.{echoIn, roundIn}
 use Rattle.engine.specs.Plain.{lenOf, outLenOf, lentOf, formAt, listAt, ruleOf, protocolOf}
@@ -35,7 +36,6 @@ use Rattle.rounds.specs.Area as Area
 use Rattle.rounds.specs.Area.{workLen, sizeOf}
 use Rattle.rounds.specs.declared.Mail.{Mail}
 use Rattle.rounds.specs.Mail.{letter}
-use Rattle.rounds.specs.RowsLaws.{other-neq}
 use Rattle.rounds.specs.MailLaws.{neq-same}
 use Rattle.rounds.specs.FaultLaws.{Finds}
 use Rattle.rounds.specs.Echo.{echo}
@@ -110,29 +110,30 @@ out-len-is n l i k r h = by-eq _ k 22
     low : k ≤ 22
     low = round-low n k h
 
--- ---- what is lent: r with the call that writes round 6, the permutation with the one that writes round 21
-lent-none : (k n l : ℕ) (q : Loan) → k ≢ 6 → k ≢ 21 → lent k n l q ≡ noLoan q
+-- ---- what is lent: r with the call that writes `fabitn`, the permutation with the one that writes `dvalue`
+lent-none : (k n l : ℕ) (q : Loan) → k ≢ FABITN → k ≢ DVALUE → lent k n l q ≡ noLoan q
 unfolding lent
-lent-none k n l q a b = rw (ne-eqb k 6 a, ne-eqb k 21 b) refl
+lent-none k n l q a b = rw (ne-eqb k FABITN a, ne-eqb k DVALUE b) refl
 
 -- by the round that is written
 module _ (j n l : ℕ) (r perm : List ℕ) where
-  pub lent-six : j ≡ 6 → (x : ℕ) (b : Bool) → b ≡ (eqb (length r) (rLen l) && eqb (length perm) 0) → x ≡ pick b 0 17
+  pub lent-r : j ≡ FABITN → (x : ℕ) (b : Bool) → b ≡ (eqb (length r) (rLen l) && eqb (length perm) 0) → x ≡ pick b 0 17
       → x ≡ lent j n l (loan r perm)
   unfolding lent
-  lent-six e x b h w = rw (e) (w ∙ ap (λ c. pick c 0 17) h)
+  lent-r e x b h w = rw (e) (w ∙ ap (λ c. pick c 0 17) h)
 
   -- another length
-  pub lent-long : j ≡ 21 → (eqb (length r) 0 && eqb (length perm) (leaky l)) ≡ false → 17 ≡ lent j n l (loan r perm)
+  pub lent-long : j ≡ DVALUE → (eqb (length r) 0 && eqb (length perm) (leaky l)) ≡ false → 17 ≡ lent j n l (loan r perm)
   unfolding lent
   lent-long e h = rw (e) (ap (λ c. pick c (pick (isPerm perm) 0 18) 17) (sym h))
 
-  pub lent-perm : j ≡ 21 → (eqb (length r) 0 && eqb (length perm) (leaky l)) ≡ true → (x : ℕ) (b : Bool) → b ≡ isPerm perm → x ≡ pick b 0 18
+  pub lent-perm : j ≡ DVALUE → (eqb (length r) 0 && eqb (length perm) (leaky l)) ≡ true
+      → (x : ℕ) (b : Bool) → b ≡ isPerm perm → x ≡ pick b 0 18
       → x ≡ lent j n l (loan r perm)
   unfolding lent
   lent-perm e h x b i w = rw (e, h) (w ∙ ap (λ c. pick c 0 18) i)
 
-  pub lent-rest : j ≢ 6 → j ≢ 21 → (x : ℕ) (b : Bool) → b ≡ (eqb (length r) 0 && eqb (length perm) 0) → x ≡ pick b 0 17
+  pub lent-rest : j ≢ FABITN → j ≢ DVALUE → (x : ℕ) (b : Bool) → b ≡ (eqb (length r) 0 && eqb (length perm) 0) → x ≡ pick b 0 17
       → x ≡ lent j n l (loan r perm)
   unfolding noLoan
   lent-rest a c x b h w = w ∙ ap (λ d. pick d 0 17) h ∙ sym (lent-none j n l (loan r perm) a c)
@@ -165,8 +166,8 @@ unfolding formFault kindFault
 fault-is k n l i q j = ap (pick (gone q j) 14) (form-is k n l i (part q j))
 
 -- the part of the incoming buffer that holds party k's message
-pub part-is : (q : Lent) (k : ℕ) → part q k ≡ Read.partOf (getD (q .starts) k 0) (getD (q .lens) k 0) (q .incoming)
-unfolding part Read.partOf
+pub part-is : (q : Lent) (k : ℕ) → part q k ≡ get (getD (q .starts) k 0) (getD (q .lens) k 0) (q .incoming)
+unfolding part
 part-is q k = refl
 
 -- what is lent besides, and the outgoing buffer, play no part in it
@@ -190,7 +191,7 @@ module _ (incoming starts lens missing r perm out : List ℕ) where
 module _ (n l i : ℕ) (q : Lent) where
   parts-are : partsIn (frame n l i) q ≡ allOf n (fits i q)
   unfolding partsIn fits
-  parts-are = all-ext n _ _ (λ k h. ap (λ b. pick b (pick (gone q k) true (inside q k)) true) (other-neq n l i k h))
+  parts-are = all-ext n _ _ (λ k h. ap (λ b. pick b (pick (gone q k) true (inside q k)) true) (other-neq (frame n l i) k h))
 
   pub parts-bad : (k : ℕ) → k < n → fits i q k ≡ false → false ≡ partsIn (frame n l i) q
   parts-bad k h e = sym (parts-are ∙ all-false n (fits i q) k h e)
@@ -233,7 +234,7 @@ module _ (i : ℕ) (q : Lent) (k : ℕ) where
   fault-gone K c h = rw (ne-eqb _ _ h) refl
 
   pub fault-there : (K : Kind) (c : ℕ) → getD (q .missing) k 0 ≡ 0 → (x : ℕ)
-      → x ≡ Format.formOf K c (Read.partOf (getD (q .starts) k 0) (getD (q .lens) k 0) (q .incoming))
+      → x ≡ Format.formOf K c (get (getD (q .starts) k 0) (getD (q .lens) k 0) (q .incoming))
       → x ≡ kindFault K c q k
   unfolding kindFault gone
   fault-there K c h x e = rw (eq-eqb _ _ h) (e ∙ ap (Format.formOf K c) (sym (part-is q k)))
@@ -248,7 +249,7 @@ module _ (i : ℕ) (q : Lent) (k : ℕ) where
     used-gone ne h = rw (neq-true i k (λ e. ne (sym e)), ne-eqb _ _ h) refl
 
     pub used-there : k ≢ i → getD (q .missing) k 0 ≡ 0 → (x : ℕ)
-        → x ≡ Format.listLen K (Read.partOf (getD (q .starts) k 0) (getD (q .lens) k 0) (q .incoming))
+        → x ≡ Format.listLen K (get (getD (q .starts) k 0) (getD (q .lens) k 0) (q .incoming))
         → x ≡ usedAt i K q k
     unfolding usedAt gone
     used-there ne h x e = rw (neq-true i k (λ e. ne (sym e)), eq-eqb _ _ h) (e ∙ ap (Format.listLen K) (sym (part-is q k)))

@@ -1,26 +1,19 @@
-// What a round call refuses before it looks at content (document 01, "The call"): 20, 19, 17, 18 of the call itself, which leave everything as it was,
-// and then, party by party, 14, 13 and 6 of what was received, with the bytes of each list. The definitions are those of crates/engine (Step, Plain)
-// over the table of crates/rounds. Nothing here is secret. A host may lend anything: every number is taken as it comes, and no sum wraps.
+// What a round call refuses before it looks at what was received (document 01, "Round call: 20, 19, 17, 18"): it leaves everything as it
+// was. 14, 13 and 6: crate form. The definitions are those of crates/engine (Step, Plain) over the table of crates/rounds. Nothing here is
+// secret. A host may lend anything: every number is taken as it comes, and no sum wraps.
 ghost use mathlib.Core.Path.{_≡_};
 ghost use mathlib.Core.Bool.{true, _&&_};
-ghost use mathlib.Core.List.{List, []};
+ghost use mathlib.Core.List.{[]};
 ghost use Prim.Native.Nat.{ℕ, _<_};
-ghost use lib.ListN.{length, replicate};
+ghost use lib.ListN.{length};
 ghost use lib.Dec.{eqb};
-ghost use Rattle.lists.specs.Pick.{pick};
-ghost use Rattle.plan.specs.Plan.{InRange, kindOf};
-ghost use Rattle.engine.specs.Step.{frame, partsIn, reasonOf, byParty, formFault};
-ghost use Rattle.engine.specs.Plain.{protocolOf, ruleOf, lentOf};
-ghost use Rattle.rounds.specs.FaultLaws.{Finds, faultAt};
+ghost use Rattle.plan.specs.Plan.{InRange};
+ghost use Rattle.engine.specs.Step.{frame, partsIn, reasonOf};
+ghost use Rattle.engine.specs.Plain.{protocolOf, lentOf};
 ghost use Rattle.rounds.specs.Table as T;
 ghost use Rattle.rounds.specs.Table.{table};
-ghost use Rattle.area.specs.Given.{Ranged};
-ghost use Rattle.admit.specs.Admit.{loan, given, lengthsFit, fits, kindFault, usedAt, noMail, mailOf};
-use engine::Frame;
+ghost use Rattle.admit.specs.Admit.{loan, given, lengthsFit, fits};
 use engine::Session;
-use message::Kind;
-use message::Reading;
-use rounds::Mail;
 
 // ---- 20
 
@@ -55,13 +48,13 @@ pub fn lent(k: usize, n: usize, l: usize, r: &[u8], perm: &[u32]) -> u8
     ensures { λ x. ⌜ x ≡ lentOf table k n l (loan (now (r .entry)) (now (perm .entry))) ⌝ }
 {
     let next = plan::next_round(n, k);
-    if next == 6 {
+    if next == plan::FABITN {
         if loaned(r.len(), plan::r_len(l), perm.len(), 0) {
             return 0;
         }
         return 17;
     }
-    if next == 21 {
+    if next == plan::DVALUE {
         if loaned(r.len(), 0, perm.len(), plan::leaky(l)) {
             if permutation::is_permutation(perm) {
                 return 0;
@@ -187,93 +180,4 @@ pub fn reason(
         return 17;
     }
     lent(k, n, l, r, perm)
-}
-
-// ---- 14, 13 and 6
-
-// What is read of party k's message: 14, 13, 6 or 0, and the bytes of its list; nothing of the own number.
-fn read_one(
-    incoming: &[u8],
-    starts: &[usize],
-    lens: &[usize],
-    missing: &[u8],
-    kind: Kind,
-    count: usize,
-    i: usize,
-    k: usize,
-) -> Reading
-    requires { ⌜ (k < length (now starts)) × (k < length (now lens)) × (k < length (now missing)) ⌝ }
-    requires { ⌜ fits i (given (now incoming) (now starts) (now lens) (now missing) [] [] []) k ≡ true ⌝ }
-    ensures { λ r. ⌜ (r .code ≡ faultAt i (kindFault kind count (given (now (incoming .entry)) (now (starts .entry)) (now (lens .entry)) (now (missing .entry)) [] [] [])) k)
-        × (r .used ≡ usedAt i kind (given (now (incoming .entry)) (now (starts .entry)) (now (lens .entry)) (now (missing .entry)) [] [] []) k) ⌝ }
-{
-    if k == i {
-        return Reading { code: 0, used: 0 };
-    }
-    let mark = missing[k];
-    if mark != 0 {
-        return Reading { code: 14, used: 0 };
-    }
-    message::read(kind, count, message::part(incoming, starts[k], lens[k]))
-}
-
-// What is read of all messages: the first fault, its number 0 for none, and then where each party's list lies.
-pub struct Heard {
-    pub code: u8,
-    pub party: usize,
-    pub mail: Mail,
-}
-
-// The first other party whose message is missing, doesn't decode, or has another count than the one due; without one, the lists of all.
-pub fn form(
-    incoming: &[u8],
-    starts: &[usize],
-    lens: &[usize],
-    missing: &[u8],
-    f: Frame,
-    k: usize,
-) -> Heard
-    requires { ⌜ Ranged f ⌝ }
-    requires { ⌜ (length (now starts) ≡ f .n) × (length (now lens) ≡ f .n) × (length (now missing) ≡ f .n) ⌝ }
-    requires { ⌜ partsIn f (given (now incoming) (now starts) (now lens) (now missing) [] [] []) ≡ true ⌝ }
-    ensures { λ h. ⌜ (((r perm out : List ℕ) → Finds (h .code) (h .party) (byParty f (formFault (ruleOf table k) f
-        (given (now (incoming .entry)) (now (starts .entry)) (now (lens .entry)) (now (missing .entry)) r perm out))))
-        × (h .mail ≡ pick (eqb (h .code) 0) (mailOf f (kindOf (f .l) k)
-        (given (now (incoming .entry)) (now (starts .entry)) (now (lens .entry)) (now (missing .entry)) [] [] [])) noMail)) ⌝ }
-{
-    let n = f.n;
-    let i = f.i;
-    let l = f.l;
-    let kind = plan::kind_of(l, k);
-    let count = plan::count_due(n, l, k);
-    let mut at: [usize; 8] = [0; 8];
-    let mut used: [usize; 8] = [0; 8];
-    let mut j = 0;
-    while j < n {
-        let next = j + 1;
-        let r = read_one(incoming, starts, lens, missing, kind, count, i, j);
-        let code = r.code;
-        if code != 0 {
-            let none: [usize; 8] = [0; 8];
-            return Heard {
-                code: code,
-                party: j,
-                mail: Mail {
-                    starts: none,
-                    lens: none,
-                },
-            };
-        }
-        at[j] = starts[j];
-        used[j] = r.used;
-        j = next;
-    }
-    Heard {
-        code: 0,
-        party: 0,
-        mail: Mail {
-            starts: at,
-            lens: used,
-        },
-    }
 }

@@ -17,7 +17,7 @@ use Rattle.alone.specs.Formula as F
 use Rattle.alone.specs.Formula.{Seen}
 use Rattle.alone.specs.Holds.{tripleRows}
 use Rattle.alone.specs.Cells.{encode-ext}
-use Rattle.alone.specs.Given.{Given}
+use Rattle.alone.specs.Given.{Admissible}
 use Rattle.alone.specs.BucketsLaws.{Ordered, a-read, c-read, small-abc, b-is}
 
 pub agree-finish : (n i : ℕ) (c β a c′ β′ a′ : Share) (p q : Bool) → Agree n i c c′ → Agree n i β β′ → Agree n i a a′
@@ -27,7 +27,7 @@ agree-finish n i c β a c′ β′ a′ p q hc hb ha =
     agree-op n i (shares .op c (sel shares p β)) (sel shares q a) (shares .op c′ (sel shares p β′)) (sel shares q a′)
     (agree-op n i c (sel shares p β) c′ (sel shares p β′) hc (agree-sel n i p β β′ hb)) (agree-sel n i q a a′ ha)
 
-module _ (S : Seen) (I : Given S) (O : Ordered (S .inputs .party .l) (S .permutation)) where
+module _ (S : Seen) (I : Admissible S) (O : Ordered (S .inputs .party .l) (S .permutation)) where
   open Seen S using (inputs as a, permutation as order, mail as m)
   open Args (S .inputs) using (party as f)
 

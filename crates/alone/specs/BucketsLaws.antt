@@ -32,7 +32,7 @@ use Rattle.rounds.specs.Beaver as Beaver
 use Rattle.alone.specs.Formula as F
 use Rattle.alone.specs.Formula.{Seen}
 use Rattle.alone.specs.Holds.{dRows, tripleRows}
-use Rattle.alone.specs.Given.{Given, small-x}
+use Rattle.alone.specs.Given.{Admissible, small-x}
 use Rattle.alone.specs.Cells.{row-byte, part-in, encode-ext}
 use Rattle.alone.specs.FlaandLaws.{z-share-read, small-z}
 
@@ -188,7 +188,7 @@ dvalue-ext c b b′ x x′ p q =
     ap₂ (λ (s t : List ℕ). s ++ t) (encode-ext c _ _ (λ e le. ap (λ (v : Bool). num v ∷ []) (p e le)))
     (encode-ext c _ _ (λ e le. ap bytesOf (q e le)))
 
-module _ (S : Seen) (I : Given S) (O : Ordered (S .inputs .party .l) (S .permutation)) where
+module _ (S : Seen) (I : Admissible S) (O : Ordered (S .inputs .party .l) (S .permutation)) where
   open Seen S using (inputs as a, permutation as order, mail as m)
   open Args (S .inputs) using (party as f)
 

@@ -28,7 +28,7 @@ use Rattle.rounds.specs.Buckets.{zShare}
 use Rattle.alone.specs.Formula as F
 use Rattle.alone.specs.Formula.{Seen}
 use Rattle.alone.specs.Holds.{hRows}
-use Rattle.alone.specs.Given.{Given, small-delta, small-r}
+use Rattle.alone.specs.Given.{Admissible, small-delta, small-r}
 use Rattle.alone.specs.Base.{chunk-rows, length-rows}
 use Rattle.alone.specs.Cells.{row-block, encode-ext}
 use Rattle.alone.specs.HaandLaws.{small-G, small-phi, phi-read, key-hash-read, u-read, z-read, mac-hash-read}
@@ -75,7 +75,7 @@ module _ (f : Frame) (m : ℕ → List ℕ) where
       ∙ getD-tab (leaky (f .l)) t (λ t. num (eTold m j t)) 0 lt)
       ∙ odd-num (eTold m j t)
 
-module _ (S : Seen) (I : Given S) where
+module _ (S : Seen) (I : Admissible S) where
   open Seen S using (inputs as a, mail as m)
   open Args (S .inputs) using (party as f)
 

@@ -13,7 +13,7 @@ use Rattle.rounds.specs.Beaver as Beaver
 use Rattle.alone.specs.Formula as F
 use Rattle.alone.specs.Formula.{Seen}
 
-pub record Given (S : Seen) : Type 0 where
+pub record Admissible (S : Seen) : Type 0 where
   pub range : InRange (S .inputs .party .n) (S .inputs .party .l)
   pub own : S .inputs .party .i < S .inputs .party .n
   pub pairs-len : length (S .inputs .pairs) ≡ 32 * S .inputs .party .n
@@ -24,7 +24,7 @@ pub record Given (S : Seen) : Type 0 where
   pub mail-bytes : (k j : ℕ) → Bytes (S .mail k j)
 
 -- ---- what is read of it fits Blocks
-module _ (S : Seen) (I : Given S) where
+module _ (S : Seen) (I : Admissible S) where
   open Seen S using (inputs as a)
   open Args (S .inputs) using (party as f)
 

@@ -22,7 +22,7 @@ use Rattle.rounds.specs.Opening.{Args, listsDue, buffersDue, bytesFault, reason
 use Rattle.rounds.specs.Toss as Toss
 use Rattle.alone.specs.Holds.{since, storeOf, holds}
 use Rattle.alone.specs.Formula.{Seen}
-use Rattle.alone.specs.Given.{Given}
+use Rattle.alone.specs.Given.{Admissible}
 
 -- ---- what is accepted
 -- the inputs are as long as they should
@@ -190,7 +190,7 @@ module _ (S : Seen) (z : reason (S .inputs) ≡ 0) where
   open Seen S using (inputs as a, mail as m)
   open Args (S .inputs) using (party as f)
 
-  pub given : ByteArgs a → ((k j : ℕ) → Bytes (m k j)) → Given S
+  pub given : ByteArgs a → ((k j : ℕ) → Bytes (m k j)) → Admissible S
   given b h = record {
     range = taken a z .range;
     own = taken a z .own;

@@ -43,7 +43,7 @@ use Rattle.rounds.specs.Beaver as Beaver
 use Rattle.alone.specs.Formula as F
 use Rattle.alone.specs.Formula.{Seen}
 use Rattle.alone.specs.Holds.{since, storeOf, hRows, dRows, tripleRows, holds, tale}
-use Rattle.alone.specs.Given.{Given}
+use Rattle.alone.specs.Given.{Admissible}
 use Rattle.alone.specs.Base.{length-rows, has-at, Fit, keep-none, keep-free, keep-one, keep-two}
 use Rattle.alone.specs.Cells.{length-cells}
 use Rattle.alone.specs.HaandLaws.{length-leakyRows, length-zRows}
@@ -60,7 +60,7 @@ row-long c s m h = length-get 8 (c * s) m h
 abbrev pub seenBy : Args → (ℕ → Loan) → (ℕ → ℕ → List ℕ) → Seen
 seenBy a q m = record { inputs = a; strings = q 6 .r; permutation = q 21 .perm; mail = m }
 
-module _ (a : Args) (q : ℕ → Loan) (m : ℕ → ℕ → List ℕ) (I : Given (seenBy a q m)) where
+module _ (a : Args) (q : ℕ → Loan) (m : ℕ → ℕ → List ℕ) (I : Admissible (seenBy a q m)) where
   open Args a using (party as f)
 
   abbrev S : Seen

@@ -37,7 +37,7 @@ use Rattle.alone.specs.Formula as F
 use Rattle.alone.specs.Formula.{Seen}
 use Rattle.alone.specs.Holds.{since, holds, tale}
 use Rattle.alone.specs.Cells.{encode-ext}
-use Rattle.alone.specs.Given.{Given}
+use Rattle.alone.specs.Given.{Admissible}
 use Rattle.rounds.specs.EchoLaws.{length-hashVec}
 use Rattle.rounds.specs.JudgeLaws.{Found, judge-found}
 use Rattle.alone.specs.Echo.{lawful}
@@ -62,7 +62,7 @@ module _ (a : Args) (q : ℕ → Loan) (m : ℕ → ℕ → List ℕ) where
   abbrev pub U : Tale
   U = tale S
 
-  module _ (I : Given S) where
+  module _ (I : Admissible S) where
     duties : Duties table (f .n) (f .l) (f .i) U m q
     unfolding echoIn mem allOf plainAfter Found
     duties = record {
@@ -107,7 +107,7 @@ module _ (a : Args) (q : ℕ → Loan) (m : ℕ → ℕ → List ℕ) where
     }
 
   module _ (z : reason a ≡ 0) (b : ByteArgs a) (h : (k j : ℕ) → Bytes (m k j)) where
-    I : Given S
+    I : Admissible S
     I = given S z b h
 
     start : AsTold table (f .n) (f .l) (f .i) U m q (duties I) (openedBox a)

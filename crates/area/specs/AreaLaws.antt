@@ -5,7 +5,7 @@ use Prim.Native.Nat.{ℕ, zero, suc, _+_, _-_, _*_, _≤_, _<_}
 use native.Mathlib.Nat.{mul-le-mul}
 use native.Mathlib.Numerals.{add-one}
 use native.Mathlib.Omega.{arith}
-use Rattle.share.specs.Record.{recordLen}
+use Rattle.share.specs.Layout.{recordLen, RECORD-MOST, record-most}
 use Rattle.plan.specs.Plan.{InRange, bucketSize, leaky, bitsCount, dmLen}
 use Rattle.plan.specs.PlanLaws.{leaky-most, bits-most, bucket-high}
 use Rattle.engine.specs.declared.Frame.{Frame}
@@ -32,8 +32,8 @@ module _ (f : Frame) (r : InRange (f .n) (f .l)) where
   pub by-bit : (x : ℕ) {m : ℕ} → x ≤ m → bitsCount l * x ≤ 4500160 * m
   by-bit x h = mul-le-mul (bits-most l (r .most)) h
 
-  pub record-at-most : recordLen n ≤ 257
-  record-at-most = omega (arith, r .eight)
+  pub record-at-most : recordLen n ≤ RECORD-MOST
+  record-at-most = record-most n (r .eight)
 
   pub dm-at-most : dmLen n ≤ 113
   unfolding dmLen
@@ -93,7 +93,7 @@ module _ (f : Frame) (r : InRange (f .n) (f .l)) where
                                               (
                                                 omega (arith, by-result (bucketSize l - 1) (let h : bucketSize l - 1 ≤ 4 = omega (arith, bucket-high l) in h)),
                                                 (
-                                                  omega (arith, by-result (2 * recordLen n) (let h : 2 * recordLen n ≤ 514 = omega arith in h)),
+                                                  omega (arith, by-result (2 * recordLen n) (let h : 2 * recordLen n ≤ 2 * RECORD-MOST = omega (arith, record-at-most) in h)),
                                                   (
                                                     omega arith,
                                                     (

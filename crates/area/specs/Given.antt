@@ -1,4 +1,5 @@
--- What a function of a round may assume of what it is given: the numbers of a session that was opened, its work area, and where a section lies in it.
+-- What a function of a round may assume of what it is given: the numbers of a session that was opened, its work area, and where a section
+-- lies in it.
 use mathlib.Core.Path.{_≡_}
 use mathlib.Core.List.{List}
 use Prim.Native.Nat.{ℕ, _+_, _<_}

@@ -9,9 +9,8 @@ use lib.ListN.{length}
 use Rattle.lists.specs.Sect.{get, put, length-get}
 use Rattle.lists.specs.Over.{in-chunks}
 use Rattle.engine.specs.declared.Frame.{Frame}
-use Rattle.engine.specs.Area.{off, sec, putSec, length-sec, sec-same, sec-other}
+use Rattle.engine.specs.Area.{off, section-before, sec, putSec, length-sec, sec-same, sec-other}
 use Rattle.rounds.specs.Area.{SECTIONS, sizeOf, workLen, at, keep}
-use Rattle.rounds.specs.AreaLaws.{section-in}
 use Rattle.area.specs.Given.{Work, Place}
 
 module _ (f : Frame) (s a e : ℕ) (p : Place f s a e) where
@@ -43,7 +42,7 @@ module _ {f : Frame} {w : List ℕ} (h : Work f w) where
   lent-length s m x b e q = ap length q ∙ length-at s b ∙ e
 
   pub section-inside : (s : ℕ) → s < SECTIONS → off (sizeOf f) s + sizeOf f s ≤ length w
-  section-inside s b = let e : length w ≡ workLen f = h .whole in omega (arith, section-in f s b)
+  section-inside s b = omega (arith, area, section-before (sizeOf f) s SECTIONS b)
 
   pub place-in : (s a e : ℕ) → s < SECTIONS → Place f s a e → e ≤ length w
   place-in s a e b p = omega (arith, section-inside s b, p .starts, p .ends)

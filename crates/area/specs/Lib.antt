@@ -1,4 +1,5 @@
 pub mod AreaLaws
+pub mod Filled
 pub mod Given
 pub mod GivenLaws
 pub mod Positions

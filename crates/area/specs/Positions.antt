@@ -6,21 +6,21 @@ use native.Mathlib.Nat.{mul-le-mul}
 use native.Mathlib.Omega.{arith}
 use lib.ListN.{length}
 use Rattle.lists.specs.Over.{in-record, in-chunks}
-use Rattle.share.specs.Record.{recordLen}
+use Rattle.share.specs.Layout.{recordLen, RECORD-MOST, record-most}
 use Rattle.plan.specs.Plan.{InRange, leaky, bitsCount}
-use Rattle.plan.specs.PlanLaws.{leaky-most, record-most}
+use Rattle.plan.specs.PlanLaws.{leaky-most}
 use Rattle.engine.specs.declared.Frame.{Frame}
 use Rattle.rounds.specs.Area.{leakyLen}
 
 -- no product of a record's number with its length wraps
-pub at-most : (j n : ℕ) → j ≤ 4500160 → n ≤ 8 → j * recordLen n ≤ 4500160 * 512
+pub at-most : (j n : ℕ) → j ≤ 4500160 → n ≤ 8 → j * recordLen n ≤ 4500160 * RECORD-MOST
 at-most j n h k = mul-le-mul h (record-most n k)
 
 module _ (f : Frame) (r : InRange (f .n) (f .l)) (t : ℕ) (b : t < leaky (f .l)) where
   pub position-most : t ≤ 1500000
   position-most = omega (arith, leaky-most (f .l) (r .most), b)
 
-  pub record-most-at : (c : ℕ) → c ≤ 2 → (c * leaky (f .l) + t) * recordLen (f .n) ≤ 4500160 * 512
+  pub record-most-at : (c : ℕ) → c ≤ 2 → (c * leaky (f .l) + t) * recordLen (f .n) ≤ 4500160 * RECORD-MOST
   record-most-at c h =
       let e : c * leaky (f .l) ≤ 2 * 1500000 = mul-le-mul h (leaky-most (f .l) (r .most)) in
       at-most (c * leaky (f .l) + t) (f .n) (omega (arith, e, position-most)) (r .eight)

@@ -1,5 +1,5 @@
-// The work area (docs/WORK_AREA.md; crates/rounds, Area): its sections by name, how long each is, where it lies, and how long the whole is. All of
-// that goes by n and l, which are public. And own delta, which is read from it.
+// The work area (docs/WORK_AREA.md; crates/rounds, Area): its sections by name, how long each is, where it lies, and how long the whole is.
+// All of that goes by n and l, which are public. And own delta, which is read from it.
 ghost use mathlib.Core.Path.{_≡_};
 ghost use Prim.Native.Nat.{_+_, _-_, _*_, _≤_, _<_};
 ghost use lib.ListN.{length};

@@ -3,7 +3,9 @@
 // Speed: a round is written as two calls, `columns` and `diagonals`, and `compress` names them seven times. Each is small enough to be
 // inlined there, the state then stays in registers and `permute` costs nothing; a function for a whole round would stay a call.
 ghost use mathlib.Core.Path.{_≡_};
-ghost use Prim.Native.Nat.{_/_, _%_, _^_, _<_};
+ghost use Prim.Native.Nat.{_+_, _/_, _%_, _^_, _<_};
+ghost use lib.ListN.{getD};
+ghost use lib.Bits.{bitXor};
 ghost use Rattle.blake3_core.specs.Word.{rotr, plus};
 ghost use Rattle.blake3_core.specs.Compress as S;
 
@@ -50,14 +52,17 @@ fn add(x: u32, y: u32) -> u32
     std::num::wrapping_add_u32(x, y)
 }
 
-// The mixing function: a quarter round at the places i, j, k, l of the state.
-fn g(v: &mut [u32; 16], i: usize, j: usize, k: usize, l: usize, x: u32, y: u32)
+// The mixing function: a quarter round at the places i, j, k, l of the state, with the message words p and q.
+fn g(v: &mut [u32; 16], i: usize, j: usize, k: usize, l: usize, m: &[u32; 16], p: usize, q: usize)
     requires { ⌜ i < 16 ⌝ }
     requires { ⌜ j < 16 ⌝ }
     requires { ⌜ k < 16 ⌝ }
     requires { ⌜ l < 16 ⌝ }
-    ensures { λ _. ⌜ now (v .exit) ≡ S.g i j k l x y (now (v .entry)) ⌝ }
+    requires { ⌜ (p < 16) × (q < 16) ⌝ }
+    ensures { λ _. ⌜ now (v .exit) ≡ S.g i j k l (getD (now (m .entry)) p 0) (getD (now (m .entry)) q 0) (now (v .entry)) ⌝ }
 {
+    let x = m[p];
+    let y = m[q];
     let mut a = v[i];
     let mut b = v[j];
     let mut c = v[k];
@@ -80,20 +85,20 @@ fn g(v: &mut [u32; 16], i: usize, j: usize, k: usize, l: usize, x: u32, y: u32)
 pub fn columns(v: &mut [u32; 16], m: &[u32; 16])
     ensures { λ _. ⌜ now (v .exit) ≡ S.columns (now (m .entry)) (now (v .entry)) ⌝ }
 {
-    g(v, 0, 4, 8, 12, m[0], m[1]);
-    g(v, 1, 5, 9, 13, m[2], m[3]);
-    g(v, 2, 6, 10, 14, m[4], m[5]);
-    g(v, 3, 7, 11, 15, m[6], m[7]);
+    g(v, 0, 4, 8, 12, m, 0, 1);
+    g(v, 1, 5, 9, 13, m, 2, 3);
+    g(v, 2, 6, 10, 14, m, 4, 5);
+    g(v, 3, 7, 11, 15, m, 6, 7);
 }
 
 // The second half of a round.
 pub fn diagonals(v: &mut [u32; 16], m: &[u32; 16])
     ensures { λ _. ⌜ now (v .exit) ≡ S.diagonals (now (m .entry)) (now (v .entry)) ⌝ }
 {
-    g(v, 0, 5, 10, 15, m[8], m[9]);
-    g(v, 1, 6, 11, 12, m[10], m[11]);
-    g(v, 2, 7, 8, 13, m[12], m[13]);
-    g(v, 3, 4, 9, 14, m[14], m[15]);
+    g(v, 0, 5, 10, 15, m, 8, 9);
+    g(v, 1, 6, 11, 12, m, 10, 11);
+    g(v, 2, 7, 8, 13, m, 12, 13);
+    g(v, 3, 4, 9, 14, m, 14, 15);
 }
 
 // The message words in the order of the next round.
@@ -153,18 +158,26 @@ pub fn start(h: &[u32; 8], t: u64, n: u32, f: u32) -> [u32; 16]
     state(h, low(t), high(t), n, f)
 }
 
+// Word i of the state's first half and of its second.
+fn both(v: &[u32; 16], i: usize) -> u32
+    requires { ⌜ i < 8 ⌝ }
+    ensures { λ r. ⌜ r ≡ bitXor (getD (now (v .entry)) i 0) (getD (now (v .entry)) (i + 8) 0) ⌝ }
+{
+    v[i] ^ v[i + 8]
+}
+
 pub fn fold(v: &[u32; 16]) -> [u32; 8]
     ensures { λ r. ⌜ r ≡ S.fold (now (v .entry)) ⌝ }
 {
     [
-        v[0] ^ v[8],
-        v[1] ^ v[9],
-        v[2] ^ v[10],
-        v[3] ^ v[11],
-        v[4] ^ v[12],
-        v[5] ^ v[13],
-        v[6] ^ v[14],
-        v[7] ^ v[15],
+        both(v, 0),
+        both(v, 1),
+        both(v, 2),
+        both(v, 3),
+        both(v, 4),
+        both(v, 5),
+        both(v, 6),
+        both(v, 7),
     ]
 }
 

@@ -1,8 +1,8 @@
 // BLAKE3 of many Blocks at once: 64 of them side by side, one in each lane.
 //
-// Speed: the loop over the lanes of a window has no call left in it once `lane` is inlined, and LLVM then turns it into vector code for four lanes
-// at a time. That needs words of 32 bits alone in it (`Words`, `Digest`), 64 turns, and `lane` called at one place: `compress`, which many call,
-// would stay a call. The words of the message that are 0 are constants there, and their additions go.
+// Speed: the loop over the lanes of a window has no call left in it once `lane` is inlined, and LLVM then turns it into vector code for
+// four lanes at a time. That needs words of 32 bits alone in it (`Words`, `Digest`), 64 turns, and `lane` called at one place: `compress`,
+// which many call, would stay a call. The words of the message that are 0 are constants there, and their additions go.
 ghost use mathlib.Core.Path.{_≡_};
 ghost use Prim.Native.Nat.{_*_, _<_, _≤_};
 ghost use lib.ListN.{length, getD};

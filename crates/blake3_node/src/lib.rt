@@ -1,5 +1,6 @@
 // BLAKE3's nodes: the chaining value of a chunk, of at most 1024 bytes, and that of a parent over two nodes.
-// From the BLAKE3 specification, 2.4 and 2.5, with the names of the authors' reference_impl.rs. The tree over the nodes is the crate blake3.
+// From the BLAKE3 specification, 2.4 and 2.5, with the names of the authors' reference_impl.rs. The tree over the nodes is the crate
+// blake3.
 ghost use mathlib.Core.Path.{_≡_};
 ghost use mathlib.Core.List.{_++_};
 ghost use Prim.Native.Nat.{_+_, _<_, _≤_};

@@ -6,11 +6,12 @@ use mathlib.Core.List.{List, [], _∷_}
 use Prim.Native.Nat.{ℕ, zero, suc, _+_, _-_, _*_, _<_, _≤_}
 use native.Mathlib.Nat.{le-refl}
 use native.Mathlib.Omega.{arith}
-use lib.ListN.{length, getD, replicate}
+use lib.ListN.{getD, replicate}
 use lib.Dec.{ltb, eqb}
 use borrow.Author.Tests.{ne-eqb, eqb-true, eqb-false}
 use Rattle.lists.specs.Pick.{pick}
 use Rattle.lists.specs.Rows.{cat-ext}
+use Rattle.plan.specs.Plan.{RNG-VER, PAIR-VER, FABITN, FASHARE-VER, FASHARE-DIBI, FLAAND-HASH, DVALUE, FAAND}
 use Rattle.engine.specs.declared.Frame.{Frame}
 use Rattle.engine.specs.Step.{Fault, none?, other, mask, orElse, scan, byParty}
 use Rattle.engine.specs.StepLaws.{other-cases, or-none, or-first}
@@ -81,10 +82,20 @@ module _ (k code : ℕ) where
   pub faults-two : (a c d : ℕ) → faults a ≡ c ∷ d ∷ [] → k ≡ a → (eqb code c || eqb code d) ≡ mem code (faults k)
   faults-two a c d h e = mem-two code c d ∙ sym (ap (mem code) (ap faults e ∙ h))
 
-  pub faults-none : k ≢ 3 → k ≢ 5 → k ≢ 6 → k ≢ 10 → k ≢ 12 → k ≢ 19 → k ≢ 21 → k ≢ 22 → false ≡ mem code (faults k)
+  pub faults-none : k ≢ RNG-VER → k ≢ PAIR-VER → k ≢ FABITN → k ≢ FASHARE-VER → k ≢ FASHARE-DIBI → k ≢ FLAAND-HASH → k ≢ DVALUE → k ≢ FAAND
+      → false ≡ mem code (faults k)
   unfolding faults mem
   faults-none h3 h5 h6 h10 h12 h19 h21 h22 =
-      rw (ne-eqb k 3 h3, ne-eqb k 5 h5, ne-eqb k 6 h6, ne-eqb k 10 h10, ne-eqb k 12 h12, ne-eqb k 19 h19, ne-eqb k 21 h21, ne-eqb k 22 h22) refl
+      rw (
+        ne-eqb k RNG-VER h3,
+        ne-eqb k PAIR-VER h5,
+        ne-eqb k FABITN h6,
+        ne-eqb k FASHARE-VER h10,
+        ne-eqb k FASHARE-DIBI h12,
+        ne-eqb k FLAAND-HASH h19,
+        ne-eqb k DVALUE h21,
+        ne-eqb k FAAND h22,
+      ) refl
 
 -- the two bytes, and whether they are a fault
 module _ (f : Frame) (k : ℕ) (w x : List ℕ) (party : ℕ) (b : Bool)

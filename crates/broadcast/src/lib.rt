@@ -1,6 +1,7 @@
-// Broadcast with abort in the work area (document 01, "What each round means"; `broadcast_verification` of src/mpc/faand.rs): the call for a round that
-// is echoed keeps the hashes of the lists and the fault that it found; the echo's call compares the hashes, then reports that fault. So a fault
-// is known to all before anybody stops for it. The definitions are those of crate engine, specs/Plain.antt; crate echo reads and writes the messages.
+// Broadcast with abort in the work area (document 01, "What each round means"; `broadcast_verification` of src/mpc/faand.rs): the call for
+// a round that is echoed keeps the hashes of the lists and the fault that it found; the echo's call compares the hashes, then reports that
+// fault. So a fault is known to all before anybody stops for it. The definitions are those of crate engine, specs/Plain.antt; crate echo
+// reads and writes the messages.
 ghost use mathlib.Core.Path.{_≡_};
 ghost use mathlib.Core.Logic.{_≢_};
 ghost use Prim.Native.Nat.{_-_, _*_, _<_, _≤_};
@@ -97,13 +98,13 @@ fn finds(k: usize, code: u8) -> bool
     ensures { λ r. ⌜ r ≡ mem code (faults k) ⌝ }
 {
     match k {
-        3 | 5 => code == 2,
-        6 => code == 8,
-        10 => (code == 4) | (code == 1),
-        12 => (code == 2) | (code == 9),
-        19 => (code == 2) | (code == 10),
-        21 => code == 11,
-        22 => code == 12,
+        plan::RNG_VER | plan::PAIR_VER => code == 2,
+        plan::FABITN => code == 8,
+        plan::FASHARE_VER => (code == 4) | (code == 1),
+        plan::FASHARE_DIBI => (code == 2) | (code == 9),
+        plan::FLAAND_HASH => (code == 2) | (code == 10),
+        plan::DVALUE => code == 11,
+        plan::FAAND => code == 12,
         _ => false,
     }
 }

@@ -10,13 +10,14 @@ use Rattle.lists.specs.Over.{in-chunks}
 use Rattle.algebra.specs.Group.{XorGroup}
 use Rattle.share.specs.Record.{recordLen}
 use Rattle.share.specs.Share.{shareAt, shares}
-use Rattle.plan.specs.Plan.{bucketSize, leaky, bitsCount}
+use Rattle.plan.specs.Plan.{bucketSize, leaky}
 use Rattle.plan.specs.PlanLaws.{bucket-low, bucket-high}
 use Rattle.engine.specs.declared.Frame.{Frame}
 use Rattle.rounds.specs.Haand.{y}
 use Rattle.rounds.specs.Buckets.{word4, entry, later, d}
 use Rattle.area.specs.Given.{Ranged}
-use Rattle.buckets.specs.Given.{Lent}
+use Rattle.area.specs.Positions.{y-in}
+use Rattle.buckets.specs.Given.{Permuted}
 
 pub leaky-some : (l : ℕ) → 1 ≤ l → 1 ≤ leaky l
 unfolding leaky
@@ -50,13 +51,10 @@ module _ (f : Frame) where
   yAt perm j e = (leaky (f .l) + entry f perm j e) * recordLen (f .n)
 
 -- it lies within the records
-pub y-within : {f : Frame} {recs perm : List ℕ} → Ranged f → Lent f recs perm → (j e at : ℕ) → at ≡ yAt f perm j e
+pub y-within : {f : Frame} {recs perm : List ℕ} → Ranged f → Permuted f recs perm → (j e at : ℕ) → at ≡ yAt f perm j e
     → at + recordLen (f .n) ≤ length recs
-unfolding bitsCount
 y-within {f} {recs} {perm} r q j e at h =
-    let t = entry f perm j e in
-    let b : t < leaky (f .l) = entry-lt f perm j e (r .range .one) in
-    omega (arith, h, q .records, in-chunks (leaky (f .l) + t) (3 * leaky (f .l) + 160) (recordLen (f .n)) (omega arith))
+    omega (arith, h, y-in f recs (q .records) (entry f perm j e) (entry-lt f perm j e (r .range .one)))
 
 -- d where it is read
 pub d-read : (f : Frame) (recs perm : List ℕ) (j e y0 y1 : ℕ) → y0 ≡ yAt f perm j 0 → y1 ≡ yAt f perm j (e + 1)

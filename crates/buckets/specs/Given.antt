@@ -14,7 +14,7 @@ use Rattle.area.specs.GivenLaws.{length-at}
 use Rattle.area.specs.Sizes.{size-bits, size-perm, size-ds}
 
 -- the records and the permutation in their whole length
-pub record Lent (f : Frame) (recs perm : List ℕ) : Type 0 where
+pub record Permuted (f : Frame) (recs perm : List ℕ) : Type 0 where
   pub records : length recs ≡ bitsCount (f .l) * recordLen (f .n)
   pub numbers : length perm ≡ leaky (f .l) * 4
 
@@ -24,7 +24,7 @@ unfolding later
 size-opened f = size-ds f
 
 -- the two sections, lent
-pub lent-is : {f : Frame} {w recs perm : List ℕ} → Work f w → recs ≡ at f BITS w → perm ≡ at f PERM w → Lent f recs perm
+pub lent-is : {f : Frame} {w recs perm : List ℕ} → Work f w → recs ≡ at f BITS w → perm ≡ at f PERM w → Permuted f recs perm
 lent-is {f} h r p = record {
   records = ap length r ∙ length-at h BITS (omega arith) ∙ size-bits f;
   numbers = ap length p ∙ length-at h PERM (omega arith) ∙ size-perm f;

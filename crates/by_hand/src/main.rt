@@ -1,6 +1,6 @@
-// The limits of document 01, "Checked by hand", through the public calls. "300,001 is 16" and 9 "is 15". With l = 300,000 and no share lists the reason
-// is another, 6: the limit lets it pass; host/large runs such a session. A session of 8 is opened and called: the echo among 8 has 112 bytes.
-// (The program `sizes` has the lengths by plan, `sessions` those of sessions of 2 and 3; `cases` the starred ones.)
+// The limits of document 01, "Checked by hand", through the public calls. "300,001 is 16" and 9 "is 15". With l = 300,000 and no share
+// lists the reason is another, 6: the limit lets it pass; host/large runs such a session. A session of 8 is opened and called: the echo
+// among 8 has 112 bytes. (The program `sizes` has the lengths by plan, `sessions` those of sessions of 2 and 3; `cases` the starred ones.)
 use engine::Answer;
 use engine::Session;
 use engine::Verdict;

@@ -3,14 +3,14 @@
 use mathlib.Core.Path.{_≡_, refl}
 use mathlib.Core.Bool.{Bool, true, false, not, _&&_}
 use mathlib.Core.List.{List, [], _∷_, _++_}
-use Prim.Native.Nat.{ℕ, zero, suc, _+_, _*_, _/_, _%_, _^_}
-use lib.ListN.{length, getD, replicate}
-use lib.Dec.{ltb, leb, eqb}
+use Prim.Native.Nat.{ℕ, _+_, _*_, _/_, _%_, _^_}
+use lib.ListN.{getD}
+use lib.Dec.{eqb}
 use Rattle.lists.specs.Pick.{pick}
 use Rattle.lists.specs.All.{allOf}
 use Rattle.lists.specs.Over.{tab, cat}
 use Rattle.lists.specs.Same.{same?}
-use Rattle.algebra.specs.Group.{XorGroup, bits, addb, sel, odd, num}
+use Rattle.algebra.specs.Group.{XorGroup, addb, odd, num}
 use Rattle.block.specs.Block.{le8}
 use Rattle.block.specs.Group.{blocks}
 use Rattle.share.specs.Share.{Share, shares}

@@ -1,11 +1,10 @@
 -- A triple that stands in a buffer, combined step by step.
-use mathlib.Core.Path.{_≡_, refl, sym, ap, ap₂, _∙_}
+use mathlib.Core.Path.{_≡_, ap, ap₂, _∙_}
 use mathlib.Core.Bool.{Bool}
 use mathlib.Core.List.{List, _++_}
-use Prim.Native.Nat.{ℕ, zero, suc, _+_, _-_, _*_, _<_, _≤_}
-use native.Mathlib.Nat.{le-refl}
+use Prim.Native.Nat.{ℕ, _+_, _-_, _*_, _<_, _≤_}
 use native.Mathlib.Omega.{arith}
-use lib.ListN.{length, getD, take, drop}
+use lib.ListN.{length}
 use Rattle.lists.specs.Sect.{get, put, length-put, get-put-same, get-put-before, get-put-after}
 use Rattle.lists.specs.Bytes.{Bytes}
 use Rattle.algebra.specs.Group.{XorGroup, sel}

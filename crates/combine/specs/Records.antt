@@ -1,18 +1,18 @@
 -- The output of combining: the records x, y and z of a triple, one after another.
 use mathlib.Core.Path.{_≡_, refl, sym, ap, ap₂, _∙_, subst}
 use mathlib.Core.Bool.{Bool}
-use mathlib.Core.List.{List, [], _++_, append-assoc, append-nil}
-use Prim.Native.Nat.{ℕ, zero, suc, _+_, _-_, _*_, _<_, _≤_}
+use mathlib.Core.List.{List, [], _++_, append-assoc}
+use Prim.Native.Nat.{ℕ, _+_, _-_, _*_, _<_, _≤_}
 use native.Mathlib.Numerals.{add-one}
 use native.Mathlib.Omega.{arith}
-use lib.ListN.{length, getD, take, drop, length-append, take-append-drop, length-drop}
-use lib.Seq.{take-at, drop-at, take-all, take-add, drop-drop, take-append-le}
+use lib.ListN.{length, take, drop, length-append, take-append-drop, length-drop}
+use lib.Seq.{take-at, drop-at, take-all, drop-drop}
 use Rattle.lists.specs.Sect.{get, put}
 use Rattle.lists.specs.Over.{over-next, over-full, in-chunks}
 use Rattle.lists.specs.Bytes.{Bytes}
 use Rattle.algebra.specs.Group.{XorGroup}
 use Rattle.share.specs.Record.{recordLen}
-use Rattle.share.specs.Share.{shareAt, recordOf}
+use Rattle.share.specs.Share.{recordOf}
 use Rattle.share.specs.ShareLaws.{small-share-at, length-recordOf}
 use Rattle.rounds.specs.Buckets.{Triple, two, combine}
 use Rattle.rounds.specs.Combine.{triple, records}

@@ -1,5 +1,5 @@
-// Combining leaky ANDs: the public call, and the step that the buckets of a session take too. From `combine_bucket` and `combine_two_leaky_ands`
-// of src/mpc/faand.rs. Bits, MACs, keys and d decide no branch and no index: d times a record is added.
+// Combining leaky ANDs: the public call, and the step that the buckets of a session take too. From `combine_bucket` and
+// `combine_two_leaky_ands` of src/mpc/faand.rs. Bits, MACs, keys and d decide no branch and no index: d times a record is added.
 ghost use mathlib.Core.Path.{_≡_};
 ghost use Prim.Native.Nat.{ℕ, _+_, _-_, _*_, _<_, _≤_};
 ghost use lib.ListN.{length, getD};
@@ -26,7 +26,8 @@ fn combine_z(z: &mut [u8], s: &[u8], x2: usize, zs: &[u8], z2: usize, n: usize, 
     share::add_record(z, s, x2, n, i, d);
 }
 
-// Combines the triple in t, x at its start and z at `z_at`, with the triple that has x at `x2` of s and z at `z2` of zs. Of y's none is changed.
+// Combines the triple in t, x at its start and z at `z_at`, with the triple that has x at `x2` of s and z at `z2` of zs. Of y's none is
+// changed.
 pub fn combine_two(
     t: &mut [u8],
     z_at: usize,
@@ -141,7 +142,8 @@ fn reason(n: usize, i: usize, count: usize, triples: &[u8], d: &[u8], out: &[u8]
     bits_fault(d)
 }
 
-// Combines `count` triples of records x, y, z into one, written to `out`: document 01, "Combining alone". A refused call leaves `out` as it was.
+// Combines `count` triples of records x, y, z into one, written to `out`: document 01, "Combining alone". A refused call leaves `out` as it
+// was.
 pub fn combine(
     n: usize,
     i: usize,

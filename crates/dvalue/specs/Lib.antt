@@ -1,2 +1,1 @@
 pub mod Dvalues
-pub mod Opened

@@ -1,6 +1,6 @@
 // Echoes (document 01, "What each round means"): everybody tells everybody the hash of each list that it got in the round before. From
-// src/mpc/faand.rs of polytune (`broadcast_verification`, `hash_vec`). What is kept of the lists, what is sent, and the check of what the others
-// heard; the definitions stand in crates/rounds (Echo). A list that was broadcast is public, and so is its hash.
+// src/mpc/faand.rs of polytune (`broadcast_verification`, `hash_vec`). What is kept of the lists, what is sent, and the check of what the
+// others heard; the definitions stand in crates/rounds (Echo). A list that was broadcast is public, and so is its hash.
 ghost use mathlib.Core.Path.{_≡_};
 ghost use mathlib.Core.Logic.{_≢_};
 ghost use mathlib.Core.Bool.{true, _&&_};
@@ -26,12 +26,13 @@ use rounds::Mail;
 
 // ---- what is kept of the lists
 
-// `hash_vec`: the first 16 bytes of BLAKE3 of the list of round k, its count included; of the bits alone where the items are a bit and a Block.
+// `hash_vec`: the first 16 bytes of BLAKE3 of the list of round k, its count included; of the bits alone where the items are a bit and a
+// Block.
 fn hash_list(list: &[u8], k: usize) -> Block
     requires { ⌜ 8 ≤ length (now list) ⌝ }
     ensures { λ r. ⌜ bytesOf r ≡ Echo.hashVec k (now (list .entry)) ⌝ }
 {
-    if (k == 6) | (k == 15) {
+    if (k == plan::FABITN) | (k == plan::FLAAND) {
         blake3::hash128_firsts(list, 17)
     } else {
         blake3::hash128(list)

@@ -1,5 +1,5 @@
--- What a message's bytes are (document 01, "Messages"): bincode legacy. A bool is one byte, a Block and a hash are bare, a tuple is its fields
--- one after another.
+-- What a message's bytes are (document 01, "Messages"): bincode legacy. A bool is one byte, a Block and a hash are bare, a tuple is its
+-- fields one after another.
 use Prim.Native.Nat.{ℕ}
 use mathlib.Core.Bool.{Bool}
 use mathlib.Core.List.{List, [], _∷_, _++_}

@@ -3,10 +3,9 @@ use mathlib.Core.Path.{_≡_, refl, sym, ap, _∙_}
 use mathlib.Core.Bool.{Bool}
 use mathlib.Core.List.{List, [], _∷_, _++_, append-assoc, append-nil}
 use Prim.Native.Nat.{ℕ, zero, suc, _+_, _-_, _*_, _^_, _<_, _≤_}
-use native.Mathlib.Nat.{zero-add, suc-add}
 use native.Mathlib.Omega.{arith}
 use lib.ListN.{length, getD, take, drop, length-append}
-use lib.Seq.{take-at, drop-at, getD-take, getD-drop, take-take, take-all, take-nil, drop-drop, take-length}
+use lib.Seq.{take-at, drop-at, getD-take, getD-drop, take-take, take-all, drop-drop, take-length}
 use Rattle.lists.specs.Sect.{drop-take-add}
 use Rattle.lists.specs.Over.{tab, cat}
 use Rattle.lists.specs.Tab.{tab-getD}

@@ -1,5 +1,5 @@
--- The round trip of every kind of message, each by the one law of RoundTrip: the list is accepted, handed back whole, and its items are found.
--- Fields.antt reads their fields.
+-- The round trip of every kind of message, each by the one law of RoundTrip: the list is accepted, handed back whole, and its items are
+-- found. Fields.antt reads their fields.
 use mathlib.Core.Path.{_≡_}
 use mathlib.Core.Bool.{Bool, true, false}
 use mathlib.Core.List.{List, [], _∷_, _++_}

@@ -1,6 +1,6 @@
 // Messages written: the items of bincode legacy lists (document 01, "Messages"), each onto an exact part of the outgoing buffer, which the
-// caller lends as `&mut out[a..e]`. Reading what was written gives back the value: specs/Kinds.antt, specs/Fields.antt. A loop that writes a
-// count and then item after item leaves the list: specs/Stretch.antt. From src/utils/serde.rs of polytune.
+// caller lends as `&mut out[a..e]`. Reading what was written gives back the value: specs/Kinds.antt, specs/Fields.antt. A loop that writes
+// a count and then item after item leaves the list: specs/Stretch.antt. From src/utils/serde.rs of polytune.
 ghost use mathlib.Core.Path.{_≡_};
 ghost use mathlib.Core.List.{_++_};
 ghost use Prim.Native.Nat.{ℕ, _+_, _*_, _<_};

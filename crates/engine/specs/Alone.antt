@@ -20,7 +20,7 @@ use Rattle.engine.specs.Area.{off, putSec, length-putSec, sec-other, toO
 use Rattle.engine.specs.Sheet.{Store, Known}
 use Rattle.engine.specs.Order.{nextIn}
 use Rattle.engine.specs.Plain.{Table, prior, isEcho, nextOf, numberOf, toEcho, lentOf, formAt, listAt, pending, digests, echoCheck}
-use Rattle.engine.specs.Plain.{checkOf, waits, kept, held, made, keepOf, writeOf, protocolOf}
+use Rattle.engine.specs.Plain.{checkOf, waits, ifClean, forEcho, made, keepOf, writeOf, protocolOf}
 use Rattle.engine.specs.Honest.{Lawful, before, due, plainAfter}
 use Rattle.engine.specs.PlainLaws.{length-rows, held-waits, first-plain, no-two, echo-not-last, next-on, next-echo, next-plain}
 
@@ -154,7 +154,7 @@ module _ (T : Table) (n l i : ℕ) (U : Tale) (m : ℕ → ℕ → List ℕ) (q 
     pub more : k < T .order .last
     pub echo : isEcho T (suc k) ≡ true
     pub formed : Formed k
-    pub held-is : v ≡ held T k f work (m k)
+    pub held-is : v ≡ forEcho T k f work (m k)
 
   pub data Stands (d : ℕ) : ℕ → List ℕ → Type 0 where
     plainly : {k : ℕ} {w : List ℕ} → numberOf T two d ≡ k → Plainly k w → Stands d k w
@@ -249,7 +249,7 @@ module _ (T : Table) (n l i : ℕ) (U : Tale) (m : ℕ → ℕ → List ℕ) (q 
       passed-before z = record { lent = E .before .lent; formed = E .formed; work = E .work; known = E .before .known; judged = z }
 
       known-after : Judged k (E .work) → At (before (plainAfter T k)) v
-      unfolding held waits kept digests passed-before
+      unfolding forEcho waits ifClean digests passed-before
       known-after z =
           let h : PlainAt k = (E .before .some, E .more, E .before .plain) in
           let K = recv-of k h (E .before .past) (passed-before z) in
@@ -274,7 +274,7 @@ module _ (T : Table) (n l i : ℕ) (U : Tale) (m : ℕ → ℕ → List ℕ) (q 
         where
           go : (b : Bool) → eqb (T .recv k .judge f (E .work) (m k) .code) 0 ≡ b → At (due k) v
           go true e = later (due k) (before (plainAfter T k)) v after-le (known-after (eqb-true _ 0 e))
-          go false e = unfold held waits kept digests in subst (At (due k)) (sym (E .held-is))
+          go false e = unfold forEcho waits ifClean digests in subst (At (due k)) (sym (E .held-is))
               (rw e (at-held (due k) (E .work) _ _ (E .before .known) refl (length-rows f _ (λ j lj ne. D .digest-len k (m k j)))))
 
     -- ---- what an accepted call for round k leaves, after d others
@@ -346,7 +346,7 @@ module _ (T : Table) (n l i : ℕ) (U : Tale) (m : ℕ → ℕ → List ℕ) (q 
           let ne : k ≢ T .order .last = λ p. omega arith in
           let c = next-echo T n l W two k lk te in
           let r : eqb k (T .order .last) ≡ false = ne-eqb k (T .order .last) ne in
-          let E : Echoing k (held T k f w (m k)) =
+          let E : Echoing k (forEcho T k f w (m k)) =
           record { work = w; before = A; more = lk; echo = c .1; formed = formed; held-is = refl } in
           record {
             stands = rw (r, te, c .0) (echoing (ap (nextOf T two) nk ∙ c .0) E);

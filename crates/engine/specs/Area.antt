@@ -80,43 +80,43 @@ module _ (size : ℕ → ℕ) where
       go false e ih = omega (arith, ih (ltb-false t s e))
 
   -- section s ends before a later one starts
-  within : (s t : ℕ) → s < t → off s + size s ≤ off t
+  pub section-before : (s t : ℕ) → s < t → off s + size s ≤ off t
   unfolding off
-  within s t h = off-le (suc s) t h
+  section-before s t h = off-le (suc s) t h
 
   module _ (S : ℕ) (w : List ℕ) (h : length w ≡ off S) where
     pub length-sec : (s : ℕ) → s < S → length (sec s w) ≡ size s
     unfolding sec
     length-sec s l =
-        length-take (size s) (drop (off s) w) ∙ ap (min (size s)) (length-drop (off s) w) ∙ (let e = within s S l in omega (arith, e))
+        length-take (size s) (drop (off s) w) ∙ ap (min (size s)) (length-drop (off s) w) ∙ (let e = section-before s S l in omega (arith, e))
 
     pub length-putSec : (s : ℕ) (xs : List ℕ) → s < S → length xs ≡ size s → length (putSec s xs w) ≡ off S
     unfolding putSec
-    length-putSec s xs l hx = length-put (off s) (size s) xs w hx (omega (arith, within s S l)) ∙ h
+    length-putSec s xs l hx = length-put (off s) (size s) xs w hx (omega (arith, section-before s S l)) ∙ h
 
     pub sec-same : (s : ℕ) (xs : List ℕ) → s < S → length xs ≡ size s → sec s (putSec s xs w) ≡ xs
     unfolding sec putSec
-    sec-same s xs l hx = get-put-same (off s) (size s) xs w hx (omega (arith, within s S l))
+    sec-same s xs l hx = get-put-same (off s) (size s) xs w hx (omega (arith, section-before s S l))
 
     pub sec-other : (s t : ℕ) (xs : List ℕ) → t < S → s ≢ t → length xs ≡ size t → sec s (putSec t xs w) ≡ sec s w
     unfolding sec putSec
     sec-other s t xs l ne hx = go (ltb s t) refl
       where
         go : (b : Bool) → ltb s t ≡ b → get (off s) (size s) (put (off t) (size t) xs w) ≡ get (off s) (size s) w
-        go true e = get-put-before (off s) (size s) (off t) (size t) xs w (within s t (ltb-true s t e)) (omega (arith, within t S l))
+        go true e = get-put-before (off s) (size s) (off t) (size t) xs w (section-before s t (ltb-true s t e)) (omega (arith, section-before t S l))
         go false e =
-            let q = within t s (omega (arith, ltb-false s t e, ne)) in
-            get-put-after (off s) (size s) (off t) (size t) xs w hx q (omega (arith, within t S l))
+            let q = section-before t s (omega (arith, ltb-false s t e, ne)) in
+            get-put-after (off s) (size s) (off t) (size t) xs w hx q (omega (arith, section-before t S l))
 
     -- putting a section twice, and two sections in either order
     pub putSec-twice : (s : ℕ) (xs ys : List ℕ) → s < S → length ys ≡ size s → putSec s xs (putSec s ys w) ≡ putSec s xs w
     unfolding putSec
-    putSec-twice s xs ys l hy = put-twice (off s) (size s) xs ys w hy (omega (arith, within s S l))
+    putSec-twice s xs ys l hy = put-twice (off s) (size s) xs ys w hy (omega (arith, section-before s S l))
 
     -- writing a part of a section, and one element of it
     pub put-sec : (s a k : ℕ) (xs : List ℕ) → s < S → a + k ≤ size s → put (off s + a) k xs w ≡ putSec s (put a k xs (sec s w)) w
     unfolding sec putSec
-    put-sec s a k xs l h′ = put-put-in (off s) (size s) a k xs w h′ (omega (arith, within s S l))
+    put-sec s a k xs l h′ = put-put-in (off s) (size s) a k xs w h′ (omega (arith, section-before s S l))
 
   -- a buffer laid out section by section
   pub length-lay : (S : ℕ) (c : ℕ → List ℕ) → ((s : ℕ) → s < S → length (c s) ≡ size s) → length (cat S c) ≡ off S
@@ -130,58 +130,70 @@ module _ (size : ℕ → ℕ) where
       ap₂ (λ a k. take k (drop a (cat S c))) (sym (length-lay s c (λ t m. h t (omega arith)))) (sym (h s l)) ∙ cat-part S c s l
 
 -- ---- one message to each other party
+-- the q-th party but i
 unfoldable pub nth : ℕ → ℕ → ℕ
-nth i q = pick (ltb q i) q (suc q)
+nth i q = pick (ltb q i) q (q + 1)
 
 unfoldable pub toOthers : ℕ → ℕ → (ℕ → List ℕ) → List ℕ
 toOthers n i g = cat (n - 1) (λ q. g (nth i q))
 
-slot-lt : (n j i : ℕ) → j < n → i < n → j ≢ i → pick (ltb i j) i (i - 1) < n - 1
+-- nth i goes through all parties but i, each once
+nth-by : {C : Type 0} (i q : ℕ) → (q < i → nth i q ≡ q → C) → (i ≤ q → nth i q ≡ q + 1 → C) → C
+unfolding nth
+nth-by {C} i q low high = go (ltb q i) refl
+  where
+    go : (b : Bool) → ltb q i ≡ b → C
+    go true e = low (ltb-true q i e) (ap (λ b. pick b q (q + 1)) e)
+    go false e = high (ltb-false q i e) (ap (λ b. pick b q (q + 1)) e)
+
+pub nth-skips : (i q : ℕ) → nth i q ≢ i
+nth-skips i q = nth-by i q (λ h e. omega arith) (λ h e. omega arith)
+
+pub nth-below : (n i q : ℕ) → q < n - 1 → nth i q < n
+nth-below n i q l = nth-by i q (λ h e. omega arith) (λ h e. omega arith)
+
+pub nth-once : (i p q : ℕ) → nth i p ≡ nth i q → p ≡ q
+nth-once i p q x =
+    nth-by i p (λ h e. nth-by i q (λ h2 e2. omega arith) (λ h2 e2. omega arith)) (λ h e. nth-by i q (λ h2 e2. omega arith) (λ h2 e2. omega arith))
+
+-- where party i's message stands among those of party j
+slot : ℕ → ℕ → ℕ
+slot j i = pick (ltb i j) i (i - 1)
+
+slot-lt : (n j i : ℕ) → j < n → i < n → j ≢ i → slot j i < n - 1
+unfolding slot
 slot-lt n j i lj li ne = go (ltb i j) refl
   where
     go : (b : Bool) → ltb i j ≡ b → pick b i (i - 1) < n - 1
     go true e = omega (arith, ltb-true i j e)
     go false e = omega (arith, ltb-false i j e)
 
-slot-nth : (j i : ℕ) → j ≢ i → nth j (pick (ltb i j) i (i - 1)) ≡ i
-unfolding nth
+slot-nth : (j i : ℕ) → j ≢ i → nth j (slot j i) ≡ i
+unfolding nth slot
 slot-nth j i ne = go (ltb i j) refl
   where
-    go : (b : Bool) → ltb i j ≡ b → pick (ltb (pick b i (i - 1)) j) (pick b i (i - 1)) (suc (pick b i (i - 1))) ≡ i
+    go : (b : Bool) → ltb i j ≡ b → pick (ltb (pick b i (i - 1)) j) (pick b i (i - 1)) (pick b i (i - 1) + 1) ≡ i
     go true e = rw e refl
     go false e = rw (le-ltb (i - 1) j (omega (arith, ltb-false i j e))) (omega (arith, ltb-false i j e))
 
-nth-lt : (n j q : ℕ) → q < n - 1 → nth j q < n
-unfolding nth
-nth-lt n j q h = go (ltb q j)
-  where
-    go : (b : Bool) → pick b q (suc q) < n
-    go true = omega arith
-    go false = omega arith
-
-nth-ne : (j q : ℕ) → j ≢ nth j q
-unfolding nth
-nth-ne j q = go (ltb q j) refl
-  where
-    go : (b : Bool) → ltb q j ≡ b → j ≢ pick b q (suc q)
-    go true e p = omega (arith, ltb-true q j e)
-    go false e p = omega (arith, ltb-false q j e)
+pub nth-onto : (n i j : ℕ) → i < n → j < n → j ≢ i → (q : ℕ) × (q < n - 1) × (nth i q ≡ j)
+nth-onto n i j li lj ne = (slot i j, slot-lt n i j li lj (λ e. ne (sym e)), slot-nth i j (λ e. ne (sym e)))
 
 pub toOthers-ext : (n j : ℕ) (g h : ℕ → List ℕ) → ((k : ℕ) → k < n → j ≢ k → g k ≡ h k) → toOthers n j g ≡ toOthers n j h
 unfolding toOthers
-toOthers-ext n j g h e = cat-ext (n - 1) _ _ (λ q l. e (nth j q) (nth-lt n j q l) (nth-ne j q))
+toOthers-ext n j g h e = cat-ext (n - 1) _ _ (λ q l. e (nth j q) (nth-below n j q l) (λ e. nth-skips j q (sym e)))
 
 module _ (m n j : ℕ) (g : ℕ → List ℕ) (h : (k : ℕ) → k < n → j ≢ k → length (g k) ≡ m) where
   pub length-toOthers : length (toOthers n j g) ≡ (n - 1) * m
   unfolding toOthers
-  length-toOthers = length-cat (n - 1) m (λ q. g (nth j q)) (λ q l. h (nth j q) (nth-lt n j q l) (nth-ne j q))
+  length-toOthers = length-cat (n - 1) m (λ q. g (nth j q)) (λ q l. h (nth j q) (nth-below n j q l) (λ e. nth-skips j q (sym e)))
 
   -- what party i finds in its stretch
   pub stretch-toOthers : (i : ℕ) → j < n → i < n → j ≢ i → stretch m j i (toOthers n j g) ≡ g i
-  unfolding stretch toOthers chunk
+  unfolding stretch toOthers chunk slot
   stretch-toOthers i lj li ne =
-      let at : ℕ = pick (ltb i j) i (i - 1) in
-      let each : (q : ℕ) → q < n - 1 → length (g (nth j q)) ≡ m = λ q l. h (nth j q) (nth-lt n j q l) (nth-ne j q) in
+      let at : ℕ = slot j i in
+      let each : (q : ℕ) → q < n - 1 → length (g (nth j q)) ≡ m = λ q l. h (nth j q) (nth-below n j q l) (λ e. nth-skips j q (sym e)) in
       ap (λ a. take m (drop a (cat (n - 1) (λ q. g (nth j q))))) (mul-comm m at)
       ∙ chunk-cat m (n - 1) (λ q. g (nth j q)) each at (slot-lt n j i lj li ne)
       ∙ ap g (slot-nth j i ne)

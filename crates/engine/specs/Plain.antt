@@ -78,8 +78,8 @@ prior zero = zero
 prior (suc k) = k
 
 -- with a fault, what was received isn't kept
-unfoldable pub kept : Fault → List ℕ → List ℕ → List ℕ
-kept e w w′ = pick (eqb (e .code) 0) w′ w
+unfoldable pub ifClean : Fault → List ℕ → List ℕ → List ℕ
+ifClean e w w′ = pick (eqb (e .code) 0) w′ w
 
 module _ (T : Table) where
   -- ---- the order of the rounds; two: n = 2
@@ -147,12 +147,12 @@ module _ (T : Table) where
 
   -- ---- the work area
   -- after a call that writes an echo
-  unfoldable pub held : ℕ → Frame → List ℕ → (ℕ → List ℕ) → List ℕ
-  held k f w m =
+  unfoldable pub forEcho : ℕ → Frame → List ℕ → (ℕ → List ℕ) → List ℕ
+  forEcho k f w m =
       let e : Fault = T .recv k .judge f w m in
       putSec (T .size f) (T .count) (waits e)
       (putSec (T .size f) (suc (T .count)) (digests k f m)
-      (kept e w (T .recv k .keep f w m)))
+      (ifClean e w (T .recv k .keep f w m)))
 
   -- after a call that makes the messages of the next plain round
   unfoldable pub made : ℕ → Frame → Loan → List ℕ → (ℕ → List ℕ) → List ℕ
@@ -160,7 +160,7 @@ module _ (T : Table) where
 
   -- "The last call writes the l result records to the outgoing buffer and zeroes the work area"
   unfoldable pub keepOf : ℕ → Frame → Loan → List ℕ → (ℕ → List ℕ) → List ℕ
-  keepOf k f q w m = pick (eqb k (T .order .last)) (replicate (length w) 0) (pick (toEcho (eqb (f .n) 2) k) (held k f w m) (made k f q w m))
+  keepOf k f q w m = pick (eqb k (T .order .last)) (replicate (length w) 0) (pick (toEcho (eqb (f .n) 2) k) (forEcho k f w m) (made k f q w m))
 
   -- the results, an echo, or the messages of the next plain round
   unfoldable pub writeOf : ℕ → Frame → Loan → List ℕ → (ℕ → List ℕ) → List ℕ

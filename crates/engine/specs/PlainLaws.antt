@@ -23,7 +23,7 @@ use Rattle.engine.specs.Honest.{orderTest, courseTest, Lawful, before, d
 use Rattle.engine.specs.Honest.{ListAt, SendAt, LastAt, Honest, momentOf, readyOf, valOf, sentOf, sheetOf, loansOf}
 use Rattle.engine.specs.Order.{echoIn, roundIn, nextIn}
 use Rattle.engine.specs.Plain.{Table, rowsOf, prior, isEcho, nextOf, numberOf, stepsOf, toEcho, lenOf, formAt}
-use Rattle.engine.specs.Plain.{listAt, pending, hashes, digests, echoCheck, checkOf, waits, waiting, kept, held, made, keepOf}
+use Rattle.engine.specs.Plain.{listAt, pending, hashes, digests, echoCheck, checkOf, waits, waiting, ifClean, forEcho, made, keepOf}
 use Rattle.engine.specs.Plain.{writeOf, protocolOf}
 
 -- ---- rows of 16 bytes
@@ -74,8 +74,8 @@ module _ (T : Table) (k : ℕ) (f : Frame) (w : List ℕ) (m : ℕ → List ℕ)
   pub held-waits : length w ≡ off (T .size f) (suc (suc (T .count))) → T .size f (T .count) ≡ 2 → T .size f (suc (T .count)) ≡ f .n * 16
       → ((x : List ℕ) → length (T .recv k .digest f x) ≡ 16) → T .recv k .judge f w m .code ≢ 0
       → mem (T .recv k .judge f w m .code) (T .recv k .faults) ≡ true → T .recv k .judge f w m .party < f .n
-      → pending T (suc k) f (held T k f w m) ≡ T .recv k .judge f w m
-  unfolding pending held kept digests
+      → pending T (suc k) f (forEcho T k f w m) ≡ T .recv k .judge f w m
+  unfolding pending forEcho ifClean digests
   held-waits h two rows len ne mine among =
       rw (ne-eqb (T .recv k .judge f w m .code) 0 ne)
       (ap (waiting (T .recv k .faults) (f .n))
@@ -480,7 +480,7 @@ module _ (T : Table) (U : Script) (n l : ℕ) (W : Lawful T n l) where
           keepOf T k f (L k) w m
           ≡ putSec (T .size f) (T .count) (0 ∷ 0 ∷ []) (putSec (T .size f) (suc (T .count)) (rows k i) (T .recv k .keep f w m)))
       keep-is i li w K m M =
-          unfold keepOf held waits kept in rw (ne-eqb k (T .order .last) ne, q, clean i li w K m M, digests-are i li m M) refl
+          unfold keepOf forEcho waits ifClean in rw (ne-eqb k (T .order .last) ne, q, clean i li w K m M, digests-are i li m M) refl
 
       write-is : (i : ℕ) (w : List ℕ) (m : ℕ → List ℕ)
           → writeOf T k (frame n l i) (L k) w m ≡ toOthers n i (T .echo .write n i (digests T k (frame n l i) m))

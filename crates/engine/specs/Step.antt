@@ -3,10 +3,11 @@
 use mathlib.Core.Bool.{Bool, true, not, _&&_}
 use mathlib.Core.List.{List, []}
 use Prim.Native.Nat.{ℕ, zero, suc, _+_, _-_, _*_}
-use lib.ListN.{length, getD, take, drop, replicate}
+use lib.ListN.{length, getD, replicate}
 use lib.Dec.{ltb, leb, eqb}
 use Rattle.lists.specs.Pick.{pick}
 use Rattle.lists.specs.All.{allOf}
+use Rattle.lists.specs.Sect.{get}
 use Rattle.algebra.specs.Sum.{neq}
 pub use Rattle.engine.specs.declared.Frame.{Frame}
 pub use Rattle.engine.specs.declared.Session.{Session}
@@ -102,7 +103,7 @@ gone q k = not (eqb (getD (q .missing) k 0) 0)
 
 -- the part of the incoming buffer that holds party k's message
 unfoldable pub part : Lent → ℕ → List ℕ
-part q k = take (getD (q .lens) k 0) (drop (getD (q .starts) k 0) (q .incoming))
+part q k = get (getD (q .starts) k 0) (getD (q .lens) k 0) (q .incoming)
 
 -- what is read of it
 unfoldable pub heard : Rule → Frame → Lent → ℕ → List ℕ
@@ -111,7 +112,7 @@ heard R f q k = R .list f (part q k)
 -- "The outgoing buffer holds just the messages that call writes, by party, own left out": the one for party i in what party j wrote, of
 -- m bytes
 unfoldable pub stretch : ℕ → ℕ → ℕ → List ℕ → List ℕ
-stretch m j i o = take m (drop (m * pick (ltb i j) i (i - 1)) o)
+stretch m j i o = get (m * pick (ltb i j) i (i - 1)) m o
 
 -- ---- refusals that leave everything as it was: 20, 19, 17, 18
 -- "17 .. a message part outside it", where there is a message

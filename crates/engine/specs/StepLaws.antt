@@ -97,6 +97,15 @@ module _ (P : Protocol) (s : Session) (k : ℕ) (q : Lent) (w : List ℕ) where
   no-reason a e z g = rw (a, eq-eqb k (s .due) e, z) g
 
 -- ---- other parties
+-- below n, another party is one of another number
+pub other-neq : (f : Frame) (k : ℕ) → k < f .n → other f k ≡ neq (f .i) k
+unfolding other
+other-neq f k h = ap (λ b. neq (f .i) k && b) (lt-ltb k (f .n) h) ∙ and-true (neq (f .i) k)
+  where
+    and-true : (b : Bool) → (b && true) ≡ b
+    and-true true = refl
+    and-true false = refl
+
 pub other-is : (f : Frame) (j : ℕ) → j < f .n → f .i ≢ j → other f j ≡ true
 unfolding other
 other-is f j l ne = ap₂ _&&_ (neq-true (f .i) j ne) (lt-ltb j (f .n) l)

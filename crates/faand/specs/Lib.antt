@@ -1,4 +1,2 @@
 pub mod Given
 pub mod ItemLaws
-pub mod CheckLaws
-pub mod FinishLaws

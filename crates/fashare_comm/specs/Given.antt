@@ -7,6 +7,6 @@ use Rattle.share.specs.Record.{recordLen}
 use Rattle.plan.specs.Plan.{InRange, bitsCount}
 use Rattle.engine.specs.declared.Frame.{Frame}
 
-pub record Given (f : Frame) (recs : List ℕ) : Type 0 where
+pub record AllRecords (f : Frame) (recs : List ℕ) : Type 0 where
   pub range : InRange (f .n) (f .l)
   pub records : length recs ≡ bitsCount (f .l) * recordLen (f .n)

@@ -3,7 +3,6 @@
 use mathlib.Core.Path.{_≡_, refl, sym, ap, ap₂, _∙_}
 use mathlib.Core.List.{List, [], _∷_, _++_, append-assoc}
 use Prim.Native.Nat.{ℕ, zero, suc, _+_, _-_, _*_, _<_, _≤_}
-use native.Mathlib.Nat.{mul-le-mul}
 use native.Mathlib.Numerals.{add-one}
 use native.Mathlib.Omega.{arith}
 use lib.ListN.{length, drop, set, length-append, length-set}
@@ -18,30 +17,32 @@ use Rattle.block.specs.Group.{blocks}
 use Rattle.block.specs.Trip.{length-bytesOf}
 use Rattle.blake3.specs.Tree.{hash}
 use Rattle.blake3.specs.ByteLaws.{length-hash}
-use Rattle.share.specs.Record.{recordLen, bitAt, macAt, keyAt}
+use Rattle.share.specs.Layout.{RECORD-MOST, recordLen, record-within}
+use Rattle.share.specs.Record.{bitAt, macAt, keyAt}
 use Rattle.share.specs.Share.{shareAt}
 use Rattle.plan.specs.Plan.{leaky, bitsCount, dmLen}
-use Rattle.plan.specs.Plan as Plan
-use Rattle.plan.specs.PlanLaws.{leaky-most, record-most}
+use Rattle.plan.specs.PlanLaws.{leaky-most}
 use Rattle.engine.specs.declared.Frame.{Frame}
+use Rattle.engine.specs.Area.{nth}
 use Rattle.rounds.specs.Area.{BITS, sizes, sizeOf, at}
 use Rattle.rounds.specs.Fashare.{STRINGS, COMM, recordAt, own, dm, d0, d1}
 use Rattle.area.specs.Given.{Work}
 use Rattle.area.specs.GivenLaws.{length-at}
-use Rattle.fashare_comm.specs.Given.{Given}
+use Rattle.area.specs.Positions.{at-most}
+use Rattle.fashare_comm.specs.Given.{AllRecords}
 
 -- ---- records
 -- those of a work area
-pub given : {f : Frame} {w : List ℕ} → Work f w → (recs : List ℕ) → recs ≡ at f BITS w → Given f recs
+pub given : {f : Frame} {w : List ℕ} → Work f w → (recs : List ℕ) → recs ≡ at f BITS w → AllRecords f recs
 unfolding sizeOf sizes
 given h recs e = record { range = h .ranges .range; records = ap length e ∙ length-at h BITS (omega arith) }
 
 -- where one begins is no large number
-pub record-small : (f : Frame) (q : ℕ) → f .n ≤ 8 → f .l ≤ 300000 → q < STRINGS → recordAt f q ≤ 4500040 * 512
+pub record-small : (f : Frame) (q : ℕ) → f .n ≤ 8 → f .l ≤ 300000 → q < STRINGS → recordAt f q ≤ 4500160 * RECORD-MOST
 record-small f q h k v =
-    mul-le-mul (let e : 3 * leaky (f .l) + q ≤ 4500040 = omega (arith, leaky-most (f .l) k) in e) (record-most (f .n) h)
+    at-most (3 * leaky (f .l) + q) (f .n) (omega (arith, leaky-most (f .l) k)) h
 
-module _ {f : Frame} {recs : List ℕ} (g : Given f recs) (q at : ℕ) (hq : q < STRINGS) (ea : at ≡ recordAt f q) where
+module _ {f : Frame} {recs : List ℕ} (g : AllRecords f recs) (q at : ℕ) (hq : q < STRINGS) (ea : at ≡ recordAt f q) where
   pub record-in : at + recordLen (f .n) ≤ length recs
   unfolding bitsCount
   record-in =
@@ -50,7 +51,7 @@ module _ {f : Frame} {recs : List ℕ} (g : Given f recs) (q at : ℕ) (hq : q <
 
   -- up to the entry of party k
   pub entry-in : (k : ℕ) → k < f .n → at + recordLen (k + 1) ≤ length recs
-  entry-in k h = omega (arith, record-in)
+  entry-in k h = omega (arith, record-in, record-within (f .n) k h)
 
 -- ---- d0, after k of n keys
 pub d0-is : (f : Frame) (recs : List ℕ) (q at k : ℕ) (s : Block) → at ≡ recordAt f q → k ≡ f .n
@@ -61,28 +62,28 @@ d0-is f recs q at k s ea ek h = h ∙ ap₂ (λ n a. others blocks (f .i) n (key
 -- ---- dm: the bit byte, then the MACs
 abbrev pub dmPart : List ℕ → ℕ → ℕ → ℕ → List ℕ
 dmPart recs at i zero = num (bitAt recs at) ∷ []
-dmPart recs at i (suc p) = bytesOf (macAt recs at (Plan.other i p))
+dmPart recs at i (suc p) = bytesOf (macAt recs at (nth i p))
 
-pub part-next : (recs : List ℕ) (at i p : ℕ) → dmPart recs at i (p + 1) ≡ bytesOf (macAt recs at (Plan.other i p))
+pub part-next : (recs : List ℕ) (at i p : ℕ) → dmPart recs at i (p + 1) ≡ bytesOf (macAt recs at (nth i p))
 part-next recs at i p = rw (add-one p)
 
 dm-parts : (recs : List ℕ) (at i c : ℕ)
-    → cat (suc c) (dmPart recs at i) ≡ num (bitAt recs at) ∷ cat c (λ p. bytesOf (macAt recs at (Plan.other i p)))
+    → cat (suc c) (dmPart recs at i) ≡ num (bitAt recs at) ∷ cat c (λ p. bytesOf (macAt recs at (nth i p)))
 unfolding cat
 dm-parts recs at i zero = refl
-dm-parts recs at i (suc c) = ap (λ (x : List ℕ). x ++ bytesOf (macAt recs at (Plan.other i c))) (dm-parts recs at i c)
+dm-parts recs at i (suc c) = ap (λ (x : List ℕ). x ++ bytesOf (macAt recs at (nth i c))) (dm-parts recs at i c)
 
 pub dm-is : (f : Frame) (recs : List ℕ) (q at : ℕ) (d : List ℕ) → at ≡ recordAt f q
     → d ≡ cat (f .n - 1 + 1) (dmPart recs at (f .i)) → d ≡ dm f recs q
 unfolding dm own shareAt
 dm-is f recs q at d ea h =
     h ∙ ap (λ n. cat n (dmPart recs at (f .i))) (add-one (f .n - 1)) ∙ dm-parts recs at (f .i) (f .n - 1)
-    ∙ ap (λ a. num (bitAt recs a) ∷ cat (f .n - 1) (λ p. bytesOf (macAt recs a (Plan.other (f .i) p)))) ea
+    ∙ ap (λ a. num (bitAt recs a) ∷ cat (f .n - 1) (λ p. bytesOf (macAt recs a (nth (f .i) p)))) ea
 
 pub length-dm : (f : Frame) (recs : List ℕ) (q : ℕ) → length (dm f recs q) ≡ dmLen (f .n)
 unfolding dm dmLen
 length-dm f recs q =
-    let e : length (cat (f .n - 1) (λ p. bytesOf (own f recs q .mac (Plan.other (f .i) p)))) ≡ (f .n - 1) * 16 =
+    let e : length (cat (f .n - 1) (λ p. bytesOf (own f recs q .mac (nth (f .i) p)))) ≡ (f .n - 1) * 16 =
     length-cat (f .n - 1) 16 _ (λ p h. length-bytesOf _) in
     omega (arith, e)
 
@@ -100,7 +101,10 @@ dm-first g v l h e =
     }
 
 -- the longest one, of eight parties
-pub dm-most : (n : ℕ) → n ≤ 8 → dmLen n ≤ 113
+abbrev pub DM-MOST : ℕ
+DM-MOST = 113
+
+pub dm-most : (n : ℕ) → n ≤ 8 → dmLen n ≤ DM-MOST
 unfolding dmLen
 dm-most n h = omega arith
 

@@ -6,15 +6,15 @@ ghost use Prim.Native.Nat.{_-_, _*_, _<_};
 ghost use lib.ListN.{length};
 ghost use Rattle.lists.specs.Over.{cat};
 ghost use Rattle.blake3.specs.Tree as T;
-ghost use Rattle.plan.specs.Plan.{InRange, dmLen, msgLen};
+ghost use Rattle.plan.specs.Plan.{FASHARE-COMM, InRange, dmLen, msgLen};
 ghost use Rattle.engine.specs.Area.{toOthers};
 ghost use Rattle.rounds.specs.Area as Area;
 ghost use Rattle.rounds.specs.Mail.{letter, Arrived};
-ghost use Rattle.rounds.specs.SentLaws.{rowIn};
+ghost use Rattle.rounds.specs.Loops.{rowOf};
 ghost use Rattle.rounds.specs.Fashare as Fashare;
 ghost use Rattle.rounds.specs.Table as Table;
 ghost use Rattle.area.specs.Given.{Work};
-ghost use Rattle.fashare_comm.specs.Given.{Given};
+ghost use Rattle.fashare_comm.specs.Given.{AllRecords};
 ghost use Rattle.fashare_comm.specs.Laws.{commItem};
 use blake3::Digest;
 use block::Block;
@@ -55,7 +55,7 @@ pub fn record_at(f: Frame, q: usize) -> usize
 
 // "d0 is the XOR of own keys".
 pub fn d0(recs: &[u8], f: Frame, q: usize) -> Block
-    requires { ⌜ (q < Fashare.STRINGS) × Given f (now recs) ⌝ }
+    requires { ⌜ (q < Fashare.STRINGS) × AllRecords f (now recs) ⌝ }
     ensures { λ r. ⌜ r ≡ Fashare.d0 f (now (recs .entry)) q ⌝ }
 {
     let n = f.n;
@@ -74,7 +74,7 @@ pub fn d0(recs: &[u8], f: Frame, q: usize) -> Block
 // "dm = own bit byte, then MACs by party, own left out".
 pub fn write_dm(out: &mut [u8], recs: &[u8], f: Frame, q: usize)
     requires { ⌜ length (now out) ≡ dmLen (f .n) ⌝ }
-    requires { ⌜ (q < Fashare.STRINGS) × Given f (now recs) ⌝ }
+    requires { ⌜ (q < Fashare.STRINGS) × AllRecords f (now recs) ⌝ }
     ensures { λ _. ⌜ now (out .exit) ≡ Fashare.dm f (now (recs .entry)) q ⌝ }
 {
     let n = f.n;
@@ -94,7 +94,7 @@ pub fn write_dm(out: &mut [u8], recs: &[u8], f: Frame, q: usize)
 
 // BLAKE3 of dm.
 fn dm_digest(recs: &[u8], f: Frame, q: usize) -> Digest
-    requires { ⌜ (q < Fashare.STRINGS) × Given f (now recs) ⌝ }
+    requires { ⌜ (q < Fashare.STRINGS) × AllRecords f (now recs) ⌝ }
     ensures { λ r. ⌜ r .0 ≡ T.digest (Fashare.dm f (now (recs .entry)) q) ⌝ }
 {
     let n = f.n;
@@ -107,7 +107,7 @@ fn dm_digest(recs: &[u8], f: Frame, q: usize) -> Digest
 // "Send BLAKE3 of d0, d1, dm": the three commitments to string q.
 fn write_comm(out: &mut [u8], recs: &[u8], delta: Delta, f: Frame, q: usize)
     requires { ⌜ length (now out) ≡ Fashare.COMM ⌝ }
-    requires { ⌜ (q < Fashare.STRINGS) × Given f (now recs) ⌝ }
+    requires { ⌜ (q < Fashare.STRINGS) × AllRecords f (now recs) ⌝ }
     ensures { λ _. ⌜ now (out .exit) ≡ commItem f (delta .0) (now (recs .entry)) q ⌝ }
 {
     let key = Key(d0(recs, f, q));
@@ -119,7 +119,7 @@ fn write_comm(out: &mut [u8], recs: &[u8], delta: Delta, f: Frame, q: usize)
 
 // The commitments to all strings.
 fn comms(recs: &[u8], delta: Delta, f: Frame) -> [u8; ROW]
-    requires { ⌜ Given f (now recs) ⌝ }
+    requires { ⌜ AllRecords f (now recs) ⌝ }
     ensures { λ r. ⌜ r ≡ cat Fashare.STRINGS (commItem f (delta .0) (now (recs .entry))) ⌝ }
 {
     let mut all = [0u8; ROW];
@@ -136,7 +136,7 @@ fn comms(recs: &[u8], delta: Delta, f: Frame) -> [u8; ROW]
 // The same message to every other party. It is hashed once.
 pub fn write(out: &mut [u8], work: &[u8], f: Frame)
     requires { ⌜ Work f (now work) ⌝ }
-    requires { ⌜ length (now out) ≡ (f .n - 1) * msgLen (f .n) (f .l) 8 ⌝ }
+    requires { ⌜ length (now out) ≡ (f .n - 1) * msgLen (f .n) (f .l) FASHARE-COMM ⌝ }
     ensures { λ _. ⌜ now (out .exit) ≡ toOthers (f .n) (f .i)
         (λ _. Fashare.commMsg f (Table.delta f (now (work .entry))) (Area.at f Area.BITS (now (work .entry)))) ⌝ }
 {
@@ -152,7 +152,7 @@ pub fn write(out: &mut [u8], work: &[u8], f: Frame)
 fn keep_row(row: &mut [u8], incoming: &[u8], mail: Mail, f: Frame, k: usize)
     requires { ⌜ (length (now row) ≡ Fashare.COMM-ROW) × (k < f .n) ⌝ }
     requires { ⌜ Arrived f Fashare.COMM-MSG (now incoming) mail ⌝ }
-    ensures { λ _. ⌜ now (row .exit) ≡ rowIn (f .i) Fashare.COMM-ROW (Fashare.commsIn (letter (now (incoming .entry)) mail)) k ⌝ }
+    ensures { λ _. ⌜ now (row .exit) ≡ rowOf (f .i) Fashare.COMM-ROW (Fashare.commsIn (letter (now (incoming .entry)) mail)) k ⌝ }
 {
     let i = f.i;
     if i == k {

@@ -8,6 +8,6 @@ use Rattle.engine.specs.declared.Frame.{Frame}
 use Rattle.rounds.specs.Fashare.{STRINGS}
 use Rattle.fashare_comm.specs.Given as Fashare
 
-pub record Given (f : Frame) (recs dms : List ℕ) : Type 0 where
-  pub own : Fashare.Given f recs
+pub record DmsKept (f : Frame) (recs dms : List ℕ) : Type 0 where
+  pub own : Fashare.AllRecords f recs
   pub kept : length dms ≡ f .n * (STRINGS * dmLen (f .n))

@@ -31,16 +31,16 @@ use Rattle.rounds.specs.Fashare.{STRINGS, COMM, DIBI-MSG, recordAt}
 use Rattle.area.specs.Given.{Work}
 use Rattle.area.specs.GivenLaws.{length-at}
 use Rattle.fashare_comm.specs.Laws as Own
-use Rattle.fashare_dibi.specs.Given.{Given}
+use Rattle.fashare_dibi.specs.Given.{DmsKept}
 
 -- the records and dms of a work area
-pub given : {f : Frame} {w : List ℕ} → Work f w → (recs dms : List ℕ) → recs ≡ at f BITS w → dms ≡ at f DMS w → Given f recs dms
+pub given : {f : Frame} {w : List ℕ} → Work f w → (recs dms : List ℕ) → recs ≡ at f BITS w → dms ≡ at f DMS w → DmsKept f recs dms
 unfolding sizeOf sizes
 given h recs dms er ed = record { own = Own.given h recs er; kept = ap length ed ∙ length-at h DMS (omega arith) }
 
 -- ---- dms: a row of them for each party
-pub dm-most : (n k q : ℕ) → n ≤ 8 → k < n → q < STRINGS → (k * STRINGS + q) * dmLen n ≤ 320 * 113
-dm-most n k q h g e = mul-le-mul {n₂ = 320} {m₂ = 113} (omega arith) (Own.dm-most n h)
+pub dm-most : (n k q : ℕ) → n ≤ 8 → k < n → q < STRINGS → (k * STRINGS + q) * dmLen n ≤ 8 * STRINGS * Own.DM-MOST
+dm-most n k q h g e = mul-le-mul {n₂ = 8 * STRINGS} {m₂ = Own.DM-MOST} (omega arith) (Own.dm-most n h)
 
 -- dm q of party k lies within
 pub dm-in : (n k q len : ℕ) → k < n → q < STRINGS → len ≡ n * (STRINGS * dmLen n) → (k * STRINGS + q) * dmLen n + dmLen n ≤ len

@@ -8,7 +8,7 @@ ghost use Rattle.algebra.specs.Group.{sel};
 ghost use Rattle.algebra.specs.Sum.{neq};
 ghost use Rattle.block.specs.Block.{blockAt};
 ghost use Rattle.block.specs.Group.{blocks};
-ghost use Rattle.plan.specs.Plan.{dmLen, msgLen};
+ghost use Rattle.plan.specs.Plan.{FASHARE-DIBI, dmLen, msgLen};
 ghost use Rattle.engine.specs.Step.{byParty};
 ghost use Rattle.engine.specs.Area.{toOthers};
 ghost use Rattle.rounds.specs.Area as Area;
@@ -17,7 +17,7 @@ ghost use Rattle.rounds.specs.FaultLaws.{Finds, faultAt};
 ghost use Rattle.rounds.specs.Fashare as Fashare;
 ghost use Rattle.rounds.specs.Table as Table;
 ghost use Rattle.area.specs.Given.{Work};
-ghost use Rattle.fashare_dibi.specs.Given.{Given};
+ghost use Rattle.fashare_dibi.specs.Given.{DmsKept};
 use block::Block;
 use engine::Frame;
 use fashare_comm::COMM;
@@ -63,7 +63,7 @@ fn others_bit(dms: &[u8], f: Frame, q: usize) -> bool
 
 // d0 where the others' bits add to 0, else d1: delta is added by a product, so that no bit decides a branch.
 fn opened(recs: &[u8], dms: &[u8], delta: Delta, f: Frame, q: usize) -> Block
-    requires { ⌜ (q < Fashare.STRINGS) × Given f (now recs) (now dms) ⌝ }
+    requires { ⌜ (q < Fashare.STRINGS) × DmsKept f (now recs) (now dms) ⌝ }
     ensures { λ r. ⌜ r ≡ blocks .op (Fashare.d0 f (now (recs .entry)) q)
         (sel blocks (Fashare.others1 f (now (dms .entry)) q) (delta .0)) ⌝ }
 {
@@ -76,7 +76,7 @@ fn opened(recs: &[u8], dms: &[u8], delta: Delta, f: Frame, q: usize) -> Block
 // The message, which is the same to all.
 fn write_msg(out: &mut [u8], recs: &[u8], dms: &[u8], delta: Delta, f: Frame)
     requires { ⌜ length (now out) ≡ Fashare.DIBI-MSG ⌝ }
-    requires { ⌜ Given f (now recs) (now dms) ⌝ }
+    requires { ⌜ DmsKept f (now recs) (now dms) ⌝ }
     ensures { λ _. ⌜ now (out .exit) ≡ Fashare.dibiMsg f (delta .0) (now (recs .entry)) (now (dms .entry)) ⌝ }
 {
     encode::put_count(&mut out[0..8], STRINGS);
@@ -92,7 +92,7 @@ fn write_msg(out: &mut [u8], recs: &[u8], dms: &[u8], delta: Delta, f: Frame)
 // "then d0 or d1 by the XOR of the others' bits": to every other party.
 pub fn write(out: &mut [u8], work: &[u8], f: Frame)
     requires { ⌜ Work f (now work) ⌝ }
-    requires { ⌜ length (now out) ≡ (f .n - 1) * msgLen (f .n) (f .l) 12 ⌝ }
+    requires { ⌜ length (now out) ≡ (f .n - 1) * msgLen (f .n) (f .l) FASHARE-DIBI ⌝ }
     ensures { λ _. ⌜ now (out .exit) ≡ toOthers (f .n) (f .i) (λ _. Fashare.dibiMsg f (Table.delta f (now (work .entry)))
         (Area.at f Area.BITS (now (work .entry))) (Area.at f Area.DMS (now (work .entry)))) ⌝ }
 {
@@ -142,7 +142,7 @@ fn dm_mac(dms: &[u8], f: Frame, q: usize, k: usize, j: usize) -> Mac
 // The XOR of all MACs for k: the own one, and those in the dms of the others.
 fn macs_for(recs: &[u8], dms: &[u8], f: Frame, q: usize, k: usize) -> Block
     requires { ⌜ (q < Fashare.STRINGS) × (k < f .n) ⌝ }
-    requires { ⌜ Given f (now recs) (now dms) ⌝ }
+    requires { ⌜ DmsKept f (now recs) (now dms) ⌝ }
     ensures { λ r. ⌜ r ≡ Fashare.macsFor f (now (recs .entry)) (now (dms .entry)) q k ⌝ }
 {
     let n = f.n;
@@ -161,7 +161,7 @@ fn macs_for(recs: &[u8], dms: &[u8], f: Frame, q: usize, k: usize) -> Block
 // for k.
 fn dibi_fault(recs: &[u8], comms: &[u8], dms: &[u8], m: &[u8], f: Frame, q: usize, k: usize) -> u8
     requires { ⌜ (q < Fashare.STRINGS) × (k < f .n) ⌝ }
-    requires { ⌜ Given f (now recs) (now dms) ⌝ }
+    requires { ⌜ DmsKept f (now recs) (now dms) ⌝ }
     requires { ⌜ (length (now comms) ≡ f .n * Fashare.COMM-ROW) × (Fashare.DIBI-MSG ≤ length (now m)) ⌝ }
     ensures { λ r. ⌜ r ≡ Fashare.dibiFault f (now (recs .entry)) (now (comms .entry)) (now (dms .entry)) (λ _. now (m .entry)) q k ⌝ }
 {
@@ -188,7 +188,7 @@ fn party_fault(
     k: usize,
 ) -> u8
     requires { ⌜ (q < Fashare.STRINGS) × (k < f .n) ⌝ }
-    requires { ⌜ Given f (now recs) (now dms) ⌝ }
+    requires { ⌜ DmsKept f (now recs) (now dms) ⌝ }
     requires { ⌜ (length (now comms) ≡ f .n * Fashare.COMM-ROW) × Arrived f Fashare.DIBI-MSG (now incoming) mail ⌝ }
     ensures { λ r. ⌜ r ≡ faultAt (f .i) (Fashare.dibiFault f (now (recs .entry)) (now (comms .entry)) (now (dms .entry))
         (letter (now (incoming .entry)) mail) q) k ⌝ }
@@ -212,7 +212,7 @@ fn check_string(
     q: usize,
 ) -> Fault
     requires { ⌜ q < Fashare.STRINGS ⌝ }
-    requires { ⌜ Given f (now recs) (now dms) ⌝ }
+    requires { ⌜ DmsKept f (now recs) (now dms) ⌝ }
     requires { ⌜ (length (now comms) ≡ f .n * Fashare.COMM-ROW) × Arrived f Fashare.DIBI-MSG (now incoming) mail ⌝ }
     ensures { λ r. ⌜ Finds (r .code) (r .party) (byParty f (Fashare.dibiFault f (now (recs .entry)) (now (comms .entry))
         (now (dms .entry)) (letter (now (incoming .entry)) mail) q)) ⌝ }

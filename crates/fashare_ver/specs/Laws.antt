@@ -19,11 +19,11 @@ use Rattle.message.specs.Format.{itemAt}
 use Rattle.encode.specs.Encode.{dmItem}
 use Rattle.encode.specs.Coded.{length-encode}
 use Rattle.encode.specs.Coded as Coded
-use Rattle.plan.specs.Plan.{dmLen, msgLen, listLen, kindOf, countDue}
+use Rattle.plan.specs.Plan.{FASHARE-VER, dmLen, msgLen, listLen, kindOf, countDue}
 use Rattle.engine.specs.declared.Frame.{Frame}
 use Rattle.rounds.specs.Fashare.{STRINGS, dm, verMsg, dmAt, dmFault}
 use Rattle.rounds.specs.DmLaws.{Dues, dues-place}
-use Rattle.fashare_comm.specs.Laws.{length-dm, dm-most}
+use Rattle.fashare_comm.specs.Laws.{length-dm, DM-MOST, dm-most}
 
 -- ---- the fault of one dm, which begins at a
 module _ (f : Frame) (m : List ℕ) (q k a : ℕ) (at : a ≡ itemAt Dms m q) where
@@ -48,15 +48,11 @@ module _ (f : Frame) (m : List ℕ) (q k a : ℕ) (at : a ≡ itemAt Dms m q) wh
 
 -- ---- no number wraps
 module _ (q n len : ℕ) (h : q < STRINGS) (v : n ≤ 8) (e : len ≡ dmLen n) where
-  pub place-most : q * (8 + len) ≤ STRINGS * 121
-  place-most = mul-le-mul (let w : q ≤ STRINGS = omega arith in w) (let w : 8 + len ≤ 121 = omega (arith, dm-most n v) in w)
+  pub place-most : q * (8 + len) ≤ STRINGS * (8 + DM-MOST)
+  place-most = mul-le-mul (let w : q ≤ STRINGS = omega arith in w) (let w : 8 + len ≤ 8 + DM-MOST = omega (arith, dm-most n v) in w)
 
-  pub row-most : q * len ≤ STRINGS * 113
-  row-most = mul-le-mul (let w : q ≤ STRINGS = omega arith in w) (let w : len ≤ 113 = omega (arith, dm-most n v) in w)
-
-pub msgs-most : (t n len : ℕ) → t < n - 1 → n ≤ 8 → len ≡ dmLen n → t * (8 + STRINGS * (8 + len)) ≤ 8 * 4848
-msgs-most t n len h v e =
-    mul-le-mul (let w : t ≤ 8 = omega arith in w) (let w : 8 + STRINGS * (8 + len) ≤ 4848 = omega (arith, dm-most n v) in w)
+  pub row-most : q * len ≤ STRINGS * DM-MOST
+  row-most = mul-le-mul (let w : q ≤ STRINGS = omega arith in w) (let w : len ≤ DM-MOST = omega (arith, dm-most n v) in w)
 
 -- ---- dm q, of the length that is due, copied: the bytes from `from` to `to`
 pub dues-copy : (n : ℕ) (m : List ℕ) → Dues n m → (q from to c : ℕ) (x : List ℕ) → q < STRINGS → from ≡ 16 + q * (8 + dmLen n)
@@ -72,11 +68,15 @@ dues-copy n m d q from to c x h e ht hc hx =
 pub length-dmItem : (f : Frame) (recs : List ℕ) (q : ℕ) → length (dmItem (dm f recs q)) ≡ 8 + dmLen (f .n)
 length-dmItem f recs q = Coded.length-dm (dm f recs q) ∙ ap (λ n. 8 + n) (length-dm f recs q)
 
-pub length-verMsg : (f : Frame) (recs : List ℕ) → length (verMsg f recs) ≡ 8 + STRINGS * (8 + dmLen (f .n))
+-- the bytes of a message: a count, and dms each behind its length
+abbrev pub verLen : ℕ → ℕ
+verLen n = 8 + STRINGS * (8 + dmLen n)
+
+pub length-verMsg : (f : Frame) (recs : List ℕ) → length (verMsg f recs) ≡ verLen (f .n)
 unfolding verMsg
 length-verMsg f recs = length-encode (8 + dmLen (f .n)) STRINGS _ (λ q h. length-dmItem f recs q)
 
-pub ver-len : (n l : ℕ) → msgLen n l 10 ≡ 8 + STRINGS * (8 + dmLen n)
+pub ver-len : (n l : ℕ) → msgLen n l FASHARE-VER ≡ verLen n
 unfolding msgLen listLen kindOf countDue
 ver-len n l = refl
 

@@ -6,18 +6,18 @@ ghost use Prim.Native.Nat.{ℕ, _+_, _-_, _*_, _<_, _≤_};
 ghost use lib.ListN.{length};
 ghost use Rattle.message.specs.Format.{formOf};
 ghost use Rattle.encode.specs.Encode.{dmItem};
-ghost use Rattle.plan.specs.Plan.{dmLen, msgLen};
+ghost use Rattle.plan.specs.Plan.{FASHARE-VER, dmLen, msgLen};
 ghost use Rattle.engine.specs.Step.{byParty};
 ghost use Rattle.engine.specs.Area.{toOthers};
 ghost use Rattle.rounds.specs.Area as Area;
 ghost use Rattle.rounds.specs.Mail.{letter};
 ghost use Rattle.rounds.specs.EchoLaws.{Received};
 ghost use Rattle.rounds.specs.FaultLaws.{Finds, faultAt};
-ghost use Rattle.rounds.specs.SentLaws.{rowIn};
+ghost use Rattle.rounds.specs.Loops.{rowOf};
 ghost use Rattle.rounds.specs.DmLaws.{Dues, Checked};
 ghost use Rattle.rounds.specs.Fashare as Fashare;
 ghost use Rattle.area.specs.Given.{Work};
-ghost use Rattle.fashare_comm.specs.Given.{Given};
+ghost use Rattle.fashare_comm.specs.Given.{AllRecords};
 use engine::Frame;
 use fashare_comm::STRINGS;
 use message::Kind;
@@ -117,7 +117,7 @@ fn copy_dms(out: &mut [u8], m: &[u8], n: usize)
 fn keep_row(row: &mut [u8], incoming: &[u8], mail: Mail, f: Frame, k: usize)
     requires { ⌜ (k < f .n) × (length (now row) ≡ Fashare.STRINGS * dmLen (f .n)) ⌝ }
     requires { ⌜ Checked f (now incoming) mail ⌝ }
-    ensures { λ _. ⌜ now (row .exit) ≡ rowIn (f .i) (Fashare.STRINGS * dmLen (f .n))
+    ensures { λ _. ⌜ now (row .exit) ≡ rowOf (f .i) (Fashare.STRINGS * dmLen (f .n))
         (λ k. Fashare.dmsOf (f .n) (letter (now (incoming .entry)) mail k)) k ⌝ }
 {
     let n = f.n;
@@ -154,7 +154,7 @@ pub fn keep(work: &mut [u8], incoming: &[u8], mail: Mail, f: Frame)
 // dm q as an item of the message: its length, then its bytes.
 fn put_dm(out: &mut [u8], recs: &[u8], f: Frame, q: usize)
     requires { ⌜ length (now out) ≡ 8 + dmLen (f .n) ⌝ }
-    requires { ⌜ (q < Fashare.STRINGS) × Given f (now recs) ⌝ }
+    requires { ⌜ (q < Fashare.STRINGS) × AllRecords f (now recs) ⌝ }
     ensures { λ _. ⌜ now (out .exit) ≡ dmItem (Fashare.dm f (now (recs .entry)) q) ⌝ }
 {
     let n = f.n;
@@ -167,7 +167,7 @@ fn put_dm(out: &mut [u8], recs: &[u8], f: Frame, q: usize)
 // The message, which is the same to all.
 fn write_msg(out: &mut [u8], recs: &[u8], f: Frame)
     requires { ⌜ length (now out) ≡ 8 + Fashare.STRINGS * (8 + dmLen (f .n)) ⌝ }
-    requires { ⌜ Given f (now recs) ⌝ }
+    requires { ⌜ AllRecords f (now recs) ⌝ }
     ensures { λ _. ⌜ now (out .exit) ≡ Fashare.verMsg f (now (recs .entry)) ⌝ }
 {
     let n = f.n;
@@ -185,7 +185,7 @@ fn write_msg(out: &mut [u8], recs: &[u8], f: Frame)
 // "then dm": to every other party.
 pub fn write(out: &mut [u8], work: &[u8], f: Frame)
     requires { ⌜ Work f (now work) ⌝ }
-    requires { ⌜ length (now out) ≡ (f .n - 1) * msgLen (f .n) (f .l) 10 ⌝ }
+    requires { ⌜ length (now out) ≡ (f .n - 1) * msgLen (f .n) (f .l) FASHARE-VER ⌝ }
     ensures { λ _. ⌜ now (out .exit) ≡ toOthers (f .n) (f .i) (λ _. Fashare.verMsg f (Area.at f Area.BITS (now (work .entry)))) ⌝ }
 {
     let n = f.n;

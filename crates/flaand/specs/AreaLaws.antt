@@ -2,32 +2,24 @@
 use mathlib.Core.Path.{_≡_, sym, ap, ap₂, _∙_}
 use mathlib.Core.Logic.{_≢_}
 use mathlib.Core.List.{List}
-use Prim.Native.Nat.{ℕ, _*_, _<_}
+use Prim.Native.Nat.{ℕ, _*_}
 use native.Mathlib.Omega.{arith}
-use lib.ListN.{length, replicate, length-replicate}
-use Rattle.lists.specs.Pick.{pick}
-use Rattle.lists.specs.Over.{tab, length-cat, length-tab}
-use Rattle.algebra.specs.Group.{num}
+use lib.ListN.{length}
+use Rattle.lists.specs.Over.{length-tab}
 use Rattle.block.specs.Block.{blockAt}
 use Rattle.plan.specs.Plan.{leaky}
 use Rattle.engine.specs.declared.Frame.{Frame}
-use Rattle.engine.specs.Step.{other}
-use Rattle.engine.specs.StepLaws.{other-cases}
-use Rattle.rounds.specs.Area as Area
-use Rattle.rounds.specs.Area.{DELTA, BITS, LEAKY, ZS, ES, HS, sizeOf, at, keep}
-use Rattle.rounds.specs.Flaand.{eTold, eRows, hs}
+use Rattle.rounds.specs.Area.{DELTA, BITS, LEAKY, ZS, ES, HS, at, keep}
+use Rattle.rounds.specs.Loops.{length-rows}
+use Rattle.rounds.specs.Flaand.{eRows, hs}
 use Rattle.rounds.specs.Table.{delta}
 use Rattle.area.specs.Given.{Work}
 use Rattle.area.specs.GivenLaws.{at-other}
 use Rattle.area.specs.Sizes.{size-es}
 
 length-es : (f : Frame) (m : ℕ → List ℕ) → length (eRows f m) ≡ f .n * leaky (f .l)
-unfolding eRows Area.rows
-length-es f m =
-    let g : ℕ → List ℕ = λ j. tab (leaky (f .l)) (λ t. num (eTold m j t)) in
-    length-cat (f .n) (leaky (f .l)) (λ k. pick (other f k) (g k) (replicate (leaky (f .l)) 0)) (λ k lk.
-    other-cases f k (λ b. length (pick b (g k) (replicate (leaky (f .l)) 0)) ≡ leaky (f .l))
-    (λ l′ ne. length-tab (leaky (f .l)) _) (length-replicate {A = ℕ} (leaky (f .l)) 0))
+unfolding eRows
+length-es f m = length-rows f (leaky (f .l)) _ (λ k h. length-tab (leaky (f .l)) _)
 
 module _ {f : Frame} {w : List ℕ} (h : Work f w) (m : ℕ → List ℕ) where
   abbrev after : List ℕ

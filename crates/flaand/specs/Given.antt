@@ -10,7 +10,7 @@ use Rattle.rounds.specs.Area.{leakyLen}
 use Rattle.area.specs.Given.{Ranged}
 
 -- the records, and the rows that `fhaand` kept of each position
-pub record Kept (f : Frame) (recs rows zs : List ℕ) : Type 0 where
+pub record HalfAnds (f : Frame) (recs rows zs : List ℕ) : Type 0 where
   pub ranges : Ranged f
   pub records : length recs ≡ bitsCount (f .l) * recordLen (f .n)
   pub leakies : length rows ≡ leaky (f .l) * leakyLen (f .n)

@@ -17,9 +17,9 @@ use Rattle.area.specs.Given.{Work}
 use Rattle.area.specs.GivenLaws.{lent-length}
 use Rattle.area.specs.Sizes.{size-bits, size-leaky, size-zs}
 use Rattle.area.specs.Positions.{x-in, r-in, entry-in}
-use Rattle.flaand.specs.Given.{Kept}
+use Rattle.flaand.specs.Given.{HalfAnds}
 
-module _ {f : Frame} {recs rows zs : List ℕ} (q : Kept f recs rows zs) (t : ℕ) (h : t < leaky (f .l)) where
+module _ {f : Frame} {recs rows zs : List ℕ} (q : HalfAnds f recs rows zs) (t : ℕ) (h : t < leaky (f .l)) where
   pub x-at-in : t * recordLen (f .n) + recordLen (f .n) ≤ length recs
   x-at-in = x-in f recs (q .records) t h
 
@@ -37,7 +37,7 @@ module _ {f : Frame} {recs rows zs : List ℕ} (q : Kept f recs rows zs) (t : �
   z-in = omega (arith, in-chunks t (leaky (f .l)) 17 h, q .bits)
 
 -- the sections of a work area
-pub kept-secs : {f : Frame} {w : List ℕ} → Work f w → (x y z : List ℕ) → x ≡ at f BITS w → y ≡ at f LEAKY w → z ≡ at f ZS w → Kept f x y z
+pub kept-secs : {f : Frame} {w : List ℕ} → Work f w → (x y z : List ℕ) → x ≡ at f BITS w → y ≡ at f LEAKY w → z ≡ at f ZS w → HalfAnds f x y z
 kept-secs {f} h x y z ex ey ez = record {
   ranges = h .ranges;
   records = lent-length h BITS _ x (omega arith) (size-bits f) ex;

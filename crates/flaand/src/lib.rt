@@ -11,7 +11,7 @@ ghost use Rattle.block.specs.Group.{blocks};
 ghost use Rattle.share.specs.Record.{recordLen, macAt, keyAt};
 ghost use Rattle.encode.specs.Encode.{bitBlock};
 ghost use Rattle.plan.specs.Plan as Plan;
-ghost use Rattle.plan.specs.Plan.{InRange, msgLen};
+ghost use Rattle.plan.specs.Plan.{FLAAND, InRange, msgLen};
 ghost use Rattle.engine.specs.Area.{toOthers};
 ghost use Rattle.rounds.specs.Area.{BITS, LEAKY, ZS, ES, HS, leakyLen, at, keep};
 ghost use Rattle.rounds.specs.Loops.{rowOf};
@@ -20,7 +20,7 @@ ghost use Rattle.rounds.specs.Haand as R;
 ghost use Rattle.rounds.specs.Flaand as F;
 ghost use Rattle.rounds.specs.Table as Table;
 ghost use Rattle.area.specs.Given.{Ranged, Work, Place};
-ghost use Rattle.flaand.specs.Given.{Kept};
+ghost use Rattle.flaand.specs.Given.{HalfAnds};
 ghost use Rattle.flaand.specs.HLaws.{zTerm, hashesAt, maskedAt};
 use area::Span;
 use area::Z_LEN;
@@ -29,11 +29,16 @@ use engine::Frame;
 use rounds::Mail;
 use share::Delta;
 
+// The bytes before the first item of a message, and of an item: a bit and a Block.
+const COUNT: usize = 8;
+
+const ITEM: usize = 17;
+
 // ---- e and u are sent, the others' e are kept
 
 // e at position t.
 fn e_at(recs: &[u8], zs: &[u8], rows: &[u8], f: Frame, t: usize) -> bool
-    requires { ⌜ (Kept f (now recs) (now rows) (now zs)) × (t < Plan.leaky (f .l)) ⌝ }
+    requires { ⌜ (HalfAnds f (now recs) (now rows) (now zs)) × (t < Plan.leaky (f .l)) ⌝ }
     ensures { λ r. ⌜ r ≡ F.e f (now (recs .entry)) (now (zs .entry)) t ⌝ }
 {
     block::bit(zs, t * Z_LEN) ^ share::bit_at(recs, area::r_at(f, t))
@@ -42,7 +47,7 @@ fn e_at(recs: &[u8], zs: &[u8], rows: &[u8], f: Frame, t: usize) -> bool
 // The item for party k at position t: u stands in the row of LEAKY.
 fn put_item(out: &mut [u8], recs: &[u8], rows: &[u8], zs: &[u8], f: Frame, k: usize, t: usize)
     requires { ⌜ (length (now out) ≡ 17) × (k < f .n) ⌝ }
-    requires { ⌜ (Kept f (now recs) (now rows) (now zs)) × (t < Plan.leaky (f .l)) ⌝ }
+    requires { ⌜ (HalfAnds f (now recs) (now rows) (now zs)) × (t < Plan.leaky (f .l)) ⌝ }
     ensures { λ _. ⌜ now (out .exit) ≡ bitBlock (F.e f (now (recs .entry)) (now (zs .entry)) t)
         (R.uAt f (now (rows .entry)) k t) ⌝ }
 {
@@ -54,16 +59,16 @@ fn put_item(out: &mut [u8], recs: &[u8], rows: &[u8], zs: &[u8], f: Frame, k: us
 // The message to party k.
 fn put_message(out: &mut [u8], recs: &[u8], rows: &[u8], zs: &[u8], f: Frame, k: usize)
     requires { ⌜ (length (now out) ≡ 8 + Plan.leaky (f .l) * 17) × (k < f .n) ⌝ }
-    requires { ⌜ Kept f (now recs) (now rows) (now zs) ⌝ }
+    requires { ⌜ HalfAnds f (now recs) (now rows) (now zs) ⌝ }
     ensures { λ _. ⌜ now (out .exit) ≡ F.flaandMsg f (now (recs .entry)) (now (rows .entry)) (now (zs .entry)) k ⌝ }
 {
     let l = f.l;
     let count = plan::leaky(l);
-    encode::put_count(&mut out[0..8], count);
+    encode::put_count(&mut out[0..COUNT], count);
     let mut t = 0;
     while t < count {
-        let a = 8 + t * 17;
-        let e = a + 17;
+        let a = COUNT + t * ITEM;
+        let e = a + ITEM;
         put_item(&mut out[a..e], recs, rows, zs, f, k, t);
         t += 1;
     }
@@ -72,14 +77,14 @@ fn put_message(out: &mut [u8], recs: &[u8], rows: &[u8], zs: &[u8], f: Frame, k:
 // The messages to all others.
 fn write_all(out: &mut [u8], recs: &[u8], rows: &[u8], zs: &[u8], f: Frame)
     requires { ⌜ length (now out) ≡ (f .n - 1) * (8 + Plan.leaky (f .l) * 17) ⌝ }
-    requires { ⌜ Kept f (now recs) (now rows) (now zs) ⌝ }
+    requires { ⌜ HalfAnds f (now recs) (now rows) (now zs) ⌝ }
     ensures { λ _. ⌜ now (out .exit) ≡ toOthers (f .n) (f .i)
         (F.flaandMsg f (now (recs .entry)) (now (rows .entry)) (now (zs .entry))) ⌝ }
 {
     let n = f.n;
     let i = f.i;
     let l = f.l;
-    let len = 8 + plan::leaky(l) * 17;
+    let len = COUNT + plan::leaky(l) * ITEM;
     let last = n - 1;
     let mut q = 0;
     while q < last {
@@ -97,7 +102,7 @@ fn put_es(row: &mut [u8], m: &[u8])
 {
     let mut t = 0;
     while t < row.len() {
-        row[t] = block::bit_byte(block::bit(m, 8 + t * 17));
+        row[t] = block::bit_byte(block::bit(m, COUNT + t * ITEM));
         t += 1;
     }
 }
@@ -171,7 +176,7 @@ fn z_term(
         return Block::zero();
     }
     let m = rounds::letter(incoming, mail, k);
-    let e = block::bit(m, 8 + t * 17);
+    let e = block::bit(m, COUNT + t * ITEM);
     term(recs, at, k, delta, e)
 }
 
@@ -213,7 +218,7 @@ fn u_told(incoming: &[u8], mail: Mail, f: Frame, k: usize, t: usize) -> Block
         return Block::zero();
     }
     let m = rounds::letter(incoming, mail, k);
-    block::load(m, 8 + t * 17 + 1)
+    block::load(m, COUNT + t * ITEM + 1)
 }
 
 // The sum of the others' u.
@@ -235,7 +240,7 @@ fn u_sum(incoming: &[u8], mail: Mail, f: Frame, t: usize) -> Block
 
 // The sums of G over the x keys and over the x MACs.
 fn hashes(recs: &[u8], rows: &[u8], zs: &[u8], f: Frame, t: usize) -> Block
-    requires { ⌜ (Kept f (now recs) (now rows) (now zs)) × (t < Plan.leaky (f .l)) ⌝ }
+    requires { ⌜ (HalfAnds f (now recs) (now rows) (now zs)) × (t < Plan.leaky (f .l)) ⌝ }
     ensures { λ r. ⌜ r ≡ hashesAt f (now (rows .entry)) (now (zs .entry)) t ⌝ }
 {
     let key_hash = block::load(rows, area::leaky_at(f, t) + 16);
@@ -277,7 +282,7 @@ fn h(
     f: Frame,
     t: usize,
 ) -> Block
-    requires { ⌜ (Kept f (now recs) (now rows) (now zs)) × (t < Plan.leaky (f .l)) ⌝ }
+    requires { ⌜ (HalfAnds f (now recs) (now rows) (now zs)) × (t < Plan.leaky (f .l)) ⌝ }
     requires { ⌜ Arrived f (8 + Plan.leaky (f .l) * 17) (now incoming) mail ⌝ }
     ensures { λ r. ⌜ r ≡ F.h f (delta .0) (now (recs .entry)) (now (rows .entry)) (now (zs .entry))
         (letter (now (incoming .entry)) mail) t ⌝ }
@@ -376,7 +381,7 @@ pub fn keep(work: &mut [u8], incoming: &[u8], mail: Mail, f: Frame)
 // The messages.
 pub fn write(out: &mut [u8], work: &[u8], f: Frame)
     requires { ⌜ Work f (now work) ⌝ }
-    requires { ⌜ length (now out) ≡ (f .n - 1) * msgLen (f .n) (f .l) 15 ⌝ }
+    requires { ⌜ length (now out) ≡ (f .n - 1) * msgLen (f .n) (f .l) FLAAND ⌝ }
     ensures { λ _. ⌜ now (out .exit) ≡ toOthers (f .n) (f .i)
         (F.flaandMsg f (at f BITS (now (work .entry))) (at f LEAKY (now (work .entry))) (at f ZS (now (work .entry)))) ⌝ }
 {

@@ -4,7 +4,7 @@
 ghost use mathlib.Core.Path.{_≡_};
 ghost use Prim.Native.Nat.{_+_, _-_, _*_, _<_};
 ghost use lib.ListN.{length, take, drop};
-ghost use Rattle.plan.specs.Plan.{leaky, msgLen};
+ghost use Rattle.plan.specs.Plan.{FLAAND-COMM, leaky, msgLen};
 ghost use Rattle.engine.specs.Area.{toOthers};
 ghost use Rattle.rounds.specs.Area.{HS, H-COMMS, at, keep};
 ghost use Rattle.rounds.specs.Loops.{rowOf};
@@ -16,6 +16,11 @@ use blake3_lanes::LANES;
 use engine::Frame;
 use rounds::Mail;
 
+// The bytes of a commitment, and those before the first one of a message.
+const COMM: usize = 32;
+
+const COUNT: usize = 8;
+
 // The own commitments: each h is hashed once, a window of them at a time. They stand in the own row of H-COMMS.
 pub fn hold(work: &mut [u8], f: Frame)
     requires { ⌜ Work f (now work) ⌝ }
@@ -26,7 +31,7 @@ pub fn hold(work: &mut [u8], f: Frame)
     let hs = area::section_at(f, area::HS);
     let comms = area::section_at(f, area::H_COMMS);
     let count = plan::leaky(f.l);
-    let row = comms + i * (count * 32);
+    let row = comms + i * (count * COMM);
     let mut blocks = [0u8; LANES * 16];
     let mut t = 0;
     while t < count {
@@ -35,8 +40,8 @@ pub fn hold(work: &mut [u8], f: Frame)
         let from = hs + t * 16;
         let to = from + len;
         fill::copy(&mut blocks[0..len], &work[from..to]);
-        let a = row + t * 32;
-        let e = a + k * 32;
+        let a = row + t * COMM;
+        let e = a + k * COMM;
         blake3_lanes::hash_blocks(&mut work[a..e], &blocks[0..len], k);
         t += k;
     }
@@ -45,7 +50,7 @@ pub fn hold(work: &mut [u8], f: Frame)
 // The same message to all others, from the own row that `hold` kept.
 pub fn write(out: &mut [u8], work: &[u8], f: Frame)
     requires { ⌜ Work f (now work) ⌝ }
-    requires { ⌜ length (now out) ≡ (f .n - 1) * msgLen (f .n) (f .l) 17 ⌝ }
+    requires { ⌜ length (now out) ≡ (f .n - 1) * msgLen (f .n) (f .l) FLAAND-COMM ⌝ }
     requires { ⌜ CommsKept f (now work) ⌝ }
     ensures { λ _. ⌜ now (out .exit) ≡ toOthers (f .n) (f .i) (λ _. F.commMsg f (at f HS (now (work .entry)))) ⌝ }
 {
@@ -53,7 +58,7 @@ pub fn write(out: &mut [u8], work: &[u8], f: Frame)
     let i = f.i;
     let rows = area::section(work, f, area::H_COMMS);
     let count = plan::leaky(f.l);
-    let len = count * 32;
+    let len = count * COMM;
     let a = i * len;
     let e = a + len;
     rounds::write_same(out, count, &rows[a..e], n);
@@ -72,7 +77,7 @@ fn keep_row(row: &mut [u8], incoming: &[u8], mail: Mail, f: Frame, k: usize)
         return;
     }
     let m = rounds::letter(incoming, mail, k);
-    fill::copy(row, &m[8..]);
+    fill::copy(row, &m[COUNT..]);
 }
 
 // The commitments of all others.
@@ -83,7 +88,7 @@ pub fn keep(work: &mut [u8], incoming: &[u8], mail: Mail, f: Frame)
 {
     let n = f.n;
     let rows = area::section_at(f, area::H_COMMS);
-    let len = plan::leaky(f.l) * 32;
+    let len = plan::leaky(f.l) * COMM;
     let mut k = 0;
     while k < n {
         let a = rows + k * len;

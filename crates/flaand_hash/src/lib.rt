@@ -9,7 +9,7 @@ ghost use Rattle.algebra.specs.Group.{sel};
 ghost use Rattle.algebra.specs.Sum.{neq, others};
 ghost use Rattle.block.specs.Group.{blocks};
 ghost use Rattle.blake3_lanes.specs.Lanes.{LANES, hashAt};
-ghost use Rattle.plan.specs.Plan.{InRange, leaky, msgLen};
+ghost use Rattle.plan.specs.Plan.{FLAAND-HASH, InRange, leaky, msgLen};
 ghost use Rattle.engine.specs.Area.{toOthers};
 ghost use Rattle.rounds.specs.Area.{HS, H-COMMS, at};
 ghost use Rattle.rounds.specs.Mail.{letter, Arrived};
@@ -26,7 +26,7 @@ use rounds::Mail;
 // The same message to all others, from HS.
 pub fn write(out: &mut [u8], work: &[u8], f: Frame)
     requires { ⌜ Work f (now work) ⌝ }
-    requires { ⌜ length (now out) ≡ (f .n - 1) * msgLen (f .n) (f .l) 19 ⌝ }
+    requires { ⌜ length (now out) ≡ (f .n - 1) * msgLen (f .n) (f .l) FLAAND-HASH ⌝ }
     ensures { λ _. ⌜ now (out .exit) ≡ toOthers (f .n) (f .i) (λ _. F.hashMsg f (at f HS (now (work .entry)))) ⌝ }
 {
     let n = f.n;

@@ -11,11 +11,11 @@ use Rattle.block.specs.declared.Block.{Block}
 use Rattle.block.specs.Block.{le8}
 use Rattle.block.specs.Group.{blocks}
 use Rattle.encode.specs.Encode.{encode, twoBits}
+use Rattle.encode.specs.Coded.{length-encode}
 use Rattle.plan.specs.Plan.{leaky}
 use Rattle.engine.specs.declared.Frame.{Frame}
 use Rattle.engine.specs.Area.{toOthers, toOthers-ext}
 use Rattle.rounds.specs.Area.{leakyLen}
-use Rattle.rounds.specs.Loops.{length-encode}
 use Rattle.rounds.specs.Haand.{x, y, H, mask, h0, h1, haandMsg, leakyRows}
 use Rattle.rounds.specs.HaandLaws.{first-byte, second-byte}
 
@@ -42,7 +42,7 @@ length-item f rows masks recs j t = refl
 pub length-message : (f : Frame) (rows masks recs : List ℕ) (j : ℕ)
     → length (message f rows masks recs j) ≡ 8 + leaky (f .l) * 2
 unfolding message
-length-message f rows masks recs j = length-encode (leaky (f .l)) 2 (item f rows masks recs j) (λ t h. length-item f rows masks recs j t)
+length-message f rows masks recs j = length-encode 2 (leaky (f .l)) (item f rows masks recs j) (λ t h. length-item f rows masks recs j t)
 
 module _ (f : Frame) (delta : Block) (rows masks recs : List ℕ) (e : rows ≡ leakyRows f delta recs) where
   item-is : (j t : ℕ) → j < f .n → f .i ≢ j → t < leaky (f .l) → item f rows masks recs j t ≡ twoBits (h0 f masks recs j t)

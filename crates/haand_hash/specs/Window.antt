@@ -31,6 +31,12 @@ pub record Positions (f : Frame) (t m : ℕ) (recs : List ℕ) : Type 0 where
   pub records : length recs ≡ bitsCount (f .l) * recordLen (f .n)
   pub below : t + m ≤ leaky (f .l)
 
+-- one position, and the records
+pub record Asked (f : Frame) (t : ℕ) (recs : List ℕ) : Type 0 where
+  pub ranges : Ranged f
+  pub records : length recs ≡ bitsCount (f .l) * recordLen (f .n)
+  pub below : t < leaky (f .l)
+
 -- the hashes of g k, for each party k but i
 abbrev pub hashes : Frame → (ℕ → Block) → List ℕ
 hashes f g = toOthers (f .n) (f .i) (λ k. hash (bytesOf (g k)))

@@ -7,7 +7,7 @@ use Prim.Native.Nat.{ℕ, zero, suc, _+_, _-_, _*_, _/_, _<_, _≤_}
 use native.Mathlib.Nat.{zero-add, add-zero, mul-assoc, mul-comm, add-mul, zero-mul, lt-div-mul-add}
 use native.Mathlib.Omega.{arith}
 use lib.ListN.{length, getD, take, drop}
-use lib.Seq.{take-at, getD-take, getD-drop}
+use lib.Seq.{take-at, take-all, getD-take, getD-drop}
 use lib.Dec.{ltb}
 use borrow.Author.Tests.{ltb-true, ltb-false}
 use Rattle.lists.specs.Pick.{pick}
@@ -200,3 +200,10 @@ module _ (f : Frame) (m : ℕ) (g : ℕ → ℕ → Block) (s : List ℕ) (small
         (λ p q lp lq.
         let is = lane-is f m g s small e p q lp lq in
         second (p * (f .n - 1) + q) (in-half p q lp lq) (rw is (small p (nth (f .i) q))) ∙ ap (λ (b : Block). blocks .op b d) is)
+
+-- the rows of a window that were made in front of a buffer and copied from there
+pub window-copied : (m k size : ℕ) (y x r rows : List ℕ) → y ≡ take m (take k (x ++ r)) → x ≡ rows → length rows ≡ size → m ≡ size → k
+    ≡ size → y ≡ rows
+window-copied m k size y x r rows hy hx hl hm hk =
+    hy ∙ ap₂ (λ a b. take a (take b (x ++ r))) hm hk ∙ ap (λ (z : List ℕ). take size (take size (z ++ r))) hx
+    ∙ ap (take size) (take-at rows r size hl) ∙ take-all size rows (omega arith)

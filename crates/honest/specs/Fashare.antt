@@ -34,10 +34,9 @@ use Rattle.encode.specs.Encode.{threeHashes, dmItem}
 use Rattle.encode.specs.Coded.{length-threeHashes, coded-threeHashes, length-encode, length-dm, coded-dm, coded-block, num-le}
 use Rattle.encode.specs.RoundTrip.{Trip, trip-whole, even-item}
 use Rattle.plan.specs.Plan.{kindOf, countDue, listLen, msgLen, leaky, bitsCount, dmLen}
-use Rattle.plan.specs.Plan as Plan
 use Rattle.engine.specs.declared.Frame.{Frame}
 use Rattle.engine.specs.StepLaws.{by-none}
-use Rattle.engine.specs.Area.{mem, get-get}
+use Rattle.engine.specs.Area.{mem, get-get, nth}
 use Rattle.engine.specs.Sheet.{staysTest}
 use Rattle.engine.specs.Order.{echoIn}
 use Rattle.engine.specs.Honest.{before, due, plainAfter}
@@ -82,8 +81,8 @@ module _ (f : Frame) (delta : Block) (recs : List ℕ) where
 length-own-dm : (f : Frame) (recs : List ℕ) (q : ℕ) → length (dm f recs q) ≡ dmLen (f .n)
 unfolding dm dmLen
 length-own-dm f recs q =
-    let e : length (cat (f .n - 1) (λ p. bytesOf (own f recs q .mac (Plan.other (f .i) p)))) ≡ (f .n - 1) * 16 =
-    length-cat (f .n - 1) 16 (λ p. bytesOf (own f recs q .mac (Plan.other (f .i) p))) (λ p l. length-bytesOf _) in
+    let e : length (cat (f .n - 1) (λ p. bytesOf (own f recs q .mac (nth (f .i) p)))) ≡ (f .n - 1) * 16 =
+    length-cat (f .n - 1) 16 (λ p. bytesOf (own f recs q .mac (nth (f .i) p))) (λ p l. length-bytesOf _) in
     omega arith
 
 -- what is read of a list of dms: the length and the bytes of dm t
@@ -153,8 +152,8 @@ module _ (n j k : ℕ) (lj : j < n) (lk : k < n) (ne : j ≢ k) where
       go true e = omega (arith, ltb-true j k e)
       go false e = omega (arith, ltb-false j k e)
 
-  slot-is : Plan.other j slot ≡ k
-  unfolding Plan.other
+  slot-is : nth j slot ≡ k
+  unfolding nth
   slot-is = go (ltb j k) refl
     where
       go : (b : Bool) → ltb j k ≡ b → pick (ltb (pick b (k - 1) k) j) (pick b (k - 1) k) (pick b (k - 1) k + 1) ≡ k
@@ -166,7 +165,7 @@ own-mac : (f : Frame) (recs : List ℕ) (q k : ℕ) → f .i < f .n → k < f .n
     → blockAt (dm f recs q) (dmMac (f .i) k) ≡ own f recs q .mac k
 unfolding dm dmMac chunk
 own-mac f recs q k li lk ne small =
-    let g : ℕ → List ℕ = λ p. bytesOf (own f recs q .mac (Plan.other (f .i) p)) in
+    let g : ℕ → List ℕ = λ p. bytesOf (own f recs q .mac (nth (f .i) p)) in
     let p : ℕ = slot (f .n) (f .i) k li lk ne in
     block-here _ (1 + 16 * p) (own f recs q .mac k)
     (ap (λ a. take 16 (drop a (num (own f recs q .bit) ∷ cat (f .n - 1) g))) (let e : 1 + 16 * p ≡ suc (p * 16) = omega arith in e)

@@ -72,20 +72,20 @@ module _ (a : Args) where
         never f = let z : _≡_ {A = ℕ} 0 1 = cc in omega arith
 
     -- what is refused, and that nothing is changed
-    record Kept (code party : ℕ) : Type 0 where
+    record Unchanged (code party : ℕ) : Type 0 where
       there : reason a ≢ 0
       code-is : code ≡ reason a
       work-is : w ≡ a .work
       out-is : o ≡ a .out
 
-    refused-some : (code party : ℕ) → v ≡ Refused code party → Kept code party
+    refused-some : (code party : ℕ) → v ≡ Refused code party → Unchanged code party
     refused-some code party ev =
-        zero? (reason a) (Kept code party) some (λ z. absurd (never (ap (λ (x : Outcome). x .reply) e ∙ spec-takes z .0)))
+        zero? (reason a) (Unchanged code party) some (λ z. absurd (never (ap (λ (x : Outcome). x .reply) e ∙ spec-takes z .0)))
       where
         never : v ≡ Accepted → ⊥
         never f = let z : _≡_ {A = ℕ} 0 1 = cc in omega arith
 
-        some : reason a ≢ 0 → Kept code party
+        some : reason a ≢ 0 → Unchanged code party
         some ne =
             let q = e ∙ spec-refuses ne in
             let r : v ≡ Refused (reason a) (a .party .i) = ap (λ (x : Outcome). x .reply) q in

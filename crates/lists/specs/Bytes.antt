@@ -6,8 +6,7 @@ use native.Mathlib.Omega.{arith}
 use lib.ListN.{getD, take, drop, set, replicate}
 use lib.Seq.{getD-drop}
 use Rattle.lists.specs.Over.{tab, cat}
-use Rattle.lists.specs.Sect.{get, put}
-use Rattle.lists.specs.Rows.{chunk}
+use Rattle.lists.specs.Sect.{get}
 
 abbrev pub Bytes : List ℕ → Type 0
 Bytes s = (i : ℕ) → getD s i 0 < 256

@@ -2,14 +2,16 @@
 use mathlib.Core.Path.{_≡_, refl, sym, ap, ap₂, _∙_, subst}
 use mathlib.Core.Bool.{Bool, true, false}
 use mathlib.Core.List.{List, [], _∷_, _++_, append-nil}
-use Prim.Native.Nat.{ℕ, zero, suc, _+_, _*_, _<_, _≤_, min}
+use Prim.Native.Nat.{ℕ, zero, suc, _+_, _-_, _*_, _<_, _≤_, min}
 use native.Mathlib.Nat.{le-refl, suc-mul, zero-mul}
 use native.Mathlib.Omega.{arith}
 use lib.ListN.{length, getD, take, drop, length-append, length-take, length-drop}
 use lib.Seq.{take-at, drop-at, take-append-le, drop-append-le, take-add, getD-take, getD-drop}
 use lib.Dec.{ltb}
 use borrow.Author.Tests.{ltb-true, ltb-false}
-use Rattle.lists.specs.Over.{tab, cat, length-cat, in-chunks}
+use borrow.Rule.Slice.PartMut.{putMid}
+use Rattle.lists.specs.Over.{tab, cat, length-cat, in-chunks, next-chunk, length-take-drop, Written, written-zero, written-turn}
+use Rattle.lists.specs.Over.{written-end}
 
 module _ {A : Type 0} where
   -- row k of m elements
@@ -79,3 +81,38 @@ module _ {A : Type 0} where
   unfolding tab
   tab-ext zero f g h = refl
   tab-ext (suc n) f g h = ap₂ (λ (x : List A) y. x ++ (y ∷ [])) (tab-ext n f g (λ i l. h i (omega arith))) (h n (le-refl (suc n)))
+
+-- ---- rows of m elements, lent and written one after another
+module _ {A : Type 0} where
+  -- row k, lent as `&x[k * m .. k * m + m]`
+  pub length-row : (m k : ℕ) (x : List A) → k * m + m ≤ length x → length (take (k * m + m - k * m) (drop (k * m) x)) ≡ m
+  length-row m k x h = length-take-drop (k * m) (k * m + m) x ∙ omega arith
+
+  pub row-part : (m k : ℕ) (x : List A) → take (k * m + m - k * m) (drop (k * m) x) ≡ chunk m k x
+  unfolding chunk
+  row-part m k x = ap (λ j. take j (drop (k * m) x)) (let e : k * m + m - k * m ≡ m = omega arith in e)
+
+module _ {A : Type 0} (g : ℕ → List A) where
+  pub even-zero : (m : ℕ) (l : List A) → Written g 0 (0 * m) l l
+  even-zero m l = rw (zero-mul m) (written-zero g l)
+
+  module _ (c m : ℕ) (l : List A) (size : length l ≡ c * m) where
+    pub even-in : (q : ℕ) → q < c → q * m + m ≤ length l
+    even-in q h = omega (arith, in-chunks q c m h)
+
+    -- one more row, through the part of d from q * m to e
+    pub even-put : (q e : ℕ) (d x : List A) → q < c → Written g q (q * m) l d → length (g q) ≡ m → x ≡ g q → e ≡ q * m + m
+        → Written g (q + 1) ((q + 1) * m) l (putMid (q * m) (e - q * m) d x)
+    even-put q e d x h w long hx he =
+        written-turn g q (q * m) e ((q + 1) * m) l d x w hx (ap (λ k. q * m + k) long ∙ sym he) (omega (arith, even-in q h))
+        (he ∙ sym (next-chunk q m))
+
+    -- the same, where x is as long as what was lent
+    pub even-turn : (q : ℕ) (d x : List A) → q < c → Written g q (q * m) l d → x ≡ g q
+        → length x ≡ length (take (q * m + m - q * m) (drop (q * m) d))
+        → Written g (q + 1) ((q + 1) * m) l (putMid (q * m) (q * m + m - q * m) d x)
+    even-turn q d x h w e k =
+        even-put q (q * m + m) d x h w (sym (ap length e) ∙ k ∙ length-row m q d (omega (arith, w .same, even-in q h))) e refl
+
+    pub even-end : (q : ℕ) (d : List A) → Written g q (q * m) l d → q ≡ c → d ≡ cat c g
+    even-end q d w e = written-end g q c (q * m) l d w e (rw (size, e) (omega arith))

@@ -12,7 +12,7 @@ use lib.Seq.{getD-drop}
 use lib.Dec.{ltb, leb, eqb}
 use borrow.Author.Tests.{lt-ltb, le-ltb, le-leb, lt-leb, eq-eqb, ne-eqb, ltb-true, ltb-false, leb-true, leb-false, eqb-true, eqb-false}
 use Rattle.lists.specs.Pick.{pick, pick-then}
-use Rattle.lists.specs.All.{all-of, of-all, all-false, true-false, and-first, and-second}
+use Rattle.lists.specs.All.{all-of, of-all, all-false, and-first, and-second}
 use Rattle.block.specs.Block.{wordAt}
 use Rattle.block.specs.Trip.{word-drop}
 use Rattle.message.specs.declared.Kind.{Kind}
@@ -287,9 +287,6 @@ module _ (K : Kind) (m : List ℕ) where
   pub list-none : decodes K m ≡ false → listLen K m ≡ 0
   unfolding listLen
   list-none e = ap (λ (b : Bool). pick b (itemAt K m (countOf m)) 0) e
-
-  pub list-pos : decodes K m ≡ true → 8 ≤ listLen K m
-  list-pos e = omega (arith, list-some e, at-ge (countOf m) (decoded e .item))
 
   pub list-le : listLen K m ≤ length m
   list-le = go (decodes K m) refl

@@ -3,25 +3,24 @@ use mathlib.Core.Path.{_≡_, refl, sym, ap, ap₂, _∙_, subst}
 use mathlib.Core.Bool.{Bool, true, false, _&&_}
 use mathlib.Core.List.{List}
 use mathlib.Core.Logic.{_⊎_, inl, inr}
-use Prim.Native.Nat.{ℕ, zero, suc, _+_, _-_, _*_, _<_, _≤_, min}
+use Prim.Native.Nat.{ℕ, zero, suc, _+_, _-_, _*_, _<_, _≤_}
 use native.Mathlib.Nat.{add-zero}
 use native.Mathlib.Omega.{arith}
-use lib.ListN.{length, getD, take, drop, length-take, length-drop, List·getD-eq-default}
-use lib.Seq.{getD-take, getD-drop, length-take-le, take-take, drop-drop}
+use lib.ListN.{length, getD, take, drop, length-take, List·getD-eq-default}
+use lib.Seq.{getD-take}
 use lib.Dec.{ltb, leb, eqb}
-use borrow.Author.Tests.{lt-ltb, le-leb, eq-eqb, ltb-true, ltb-false}
-use Rattle.lists.specs.Pick.{pick}
+use borrow.Author.Tests.{lt-ltb, le-leb, ltb-true, ltb-false}
 use Rattle.lists.specs.Sect.{drop-take}
-use Rattle.lists.specs.All.{all-of, of-all, all-ext}
+use Rattle.lists.specs.All.{all-ext}
 use Rattle.block.specs.Block.{wordAt}
-use Rattle.block.specs.Trip.{word-take, word-drop}
+use Rattle.block.specs.Trip.{word-take}
 use Rattle.message.specs.declared.Kind.{Kind}
 use Rattle.message.specs.declared.Kind.the-variants.{Items, Dms, Dvalues, Options}
-use Rattle.message.specs.Format.{bools, vecLen, bothLen, itemLen, itemAt, countOf, decodes, listLen, listOf, innerDue, innersDue}
+use Rattle.message.specs.Format.{bools, vecLen, itemLen, itemAt, countOf, listLen, listOf, innerDue, innersDue}
 use Rattle.message.specs.Format.{formOf}
 use Rattle.message.specs.FormatLaws.{bools-of, of-bools, vec-some, vec-held, items-some, items-held, bucket-some, bucket-held}
-use Rattle.message.specs.FormatLaws.{bucket-bytes, word-at, entry-held, item-le, Decoded, decoded, decodes-of, at-zero, at-le}
-use Rattle.message.specs.FormatLaws.{list-some, list-le, formed, form-of}
+use Rattle.message.specs.FormatLaws.{bucket-bytes, entry-held, Decoded, decoded, decodes-of, at-zero}
+use Rattle.message.specs.FormatLaws.{list-some, formed, form-of}
 
 -- ---- one item
 module _ (j : ℕ) (s : List ℕ) where

@@ -1,12 +1,13 @@
-// Messages read: bincode legacy lists (document 01, "Messages"), where they lie in the incoming buffer. One reader for every kind of list, and one
-// walk over a message: it answers 13, 6 or nothing wrong, and how long the list is; `part` hands back the part of the buffer that holds it. The
-// crate encode writes them. From src/channel.rs (list checks) and src/utils/serde.rs of polytune.
+// Messages read: bincode legacy lists (document 01, "Messages"), where they lie in the incoming buffer. One reader for every kind of list,
+// and one walk over a message: it answers 13, 6 or nothing wrong, and how long the list is; `part` hands back the part of the buffer that
+// holds it. The crate encode writes them. From src/channel.rs (list checks) and src/utils/serde.rs of polytune.
 ghost use mathlib.Core.Path.{_≡_};
 ghost use mathlib.Core.Bool.{true, _&&_};
 ghost use Prim.Native.Nat.{ℕ, _+_, _<_, _≤_, min};
 ghost use lib.ListN.{length, drop};
 ghost use lib.Dec.{eqb};
 ghost use Rattle.lists.specs.Pick.{pick};
+ghost use Rattle.lists.specs.Sect.{get};
 ghost use Rattle.message.specs.Format as F;
 ghost use Rattle.message.specs.Read as R;
 
@@ -165,8 +166,8 @@ fn inner_due(kind: Kind, s: &[u8], at: usize) -> bool
     }
 }
 
-// What is read of a message: 13 if it doesn't decode, 6 if a count isn't the one due, else 0; and the bytes of the list that it begins with, its
-// count included, 0 if it doesn't decode.
+// What is read of a message: 13 if it doesn't decode, 6 if a count isn't the one due, else 0; and the bytes of the list that it begins
+// with, its count included, 0 if it doesn't decode.
 pub struct Reading {
     pub code: u8,
     pub used: usize,
@@ -222,7 +223,7 @@ pub fn inside(total: usize, start: usize, len: usize) -> bool
 // The part of the incoming buffer that holds a message.
 pub fn part(incoming: &[u8], start: usize, len: usize) -> &[u8]
     requires { ⌜ R.inside (length (now incoming)) start len ≡ true ⌝ }
-    ensures { λ r. ⌜ now r ≡ R.partOf start len (now (incoming .entry)) ⌝ }
+    ensures { λ r. ⌜ now r ≡ get start len (now (incoming .entry)) ⌝ }
 {
     let end = start + len;
     &incoming[start..end]

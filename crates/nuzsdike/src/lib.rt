@@ -1,11 +1,12 @@
-// The interface for C: include/nuzsdike.h. Numbers and slices only; a session is four numbers in a lent buffer, an answer is one number. The calls
-// promise what `opening`, `session` and `combine` promise, refused calls included; the rest tells a host the lengths of what it lends.
+// The interface for C: include/nuzsdike.h. Numbers and slices only; a session is four numbers in a lent buffer, an answer is one number.
+// The calls promise what `opening`, `session` and `combine` promise, refused calls included; the rest tells a host the lengths of what it
+// lends.
 ghost use mathlib.Core.Path.{_≡_};
 ghost use Rattle.plan.specs.Plan.{within, outLen, bitsLen, sharesLen, masksLen, pairsLen, rDue, permDue};
 ghost use Rattle.engine.specs.Step.{frame};
 ghost use Rattle.rounds.specs.Area.{workLen};
 ghost use Rattle.rounds.specs.Combine as Combine;
-ghost use Rattle.opening.specs.Given.{args};
+ghost use Rattle.inputs.specs.Given.{args};
 ghost use Rattle.admit.specs.Admit.{given};
 ghost use Rattle.interface.specs.Interface.{exported, openC, roundC, combined, combineC, dueOf};
 ghost use Rattle.interface.specs.Interface.{roundAfter, messageLen, nameByte, recordBytes, bucketOf, jointAt, pairwiseAt};
@@ -42,7 +43,7 @@ pub extern "C" fn nuzsdike_open(
             i: own,
             l: l as usize,
         };
-        let code = opening::lengths_fault(f, bits.len(), alpha.len(), beta.len(), false);
+        let code = inputs::lengths_fault(f, bits.len(), alpha.len(), beta.len(), false);
         return interface::packed(code, own);
     }
     let a = opening::open(

@@ -20,8 +20,8 @@ use Rattle.rounds.specs.Toss as Toss
 use Rattle.rounds.specs.Opening.{Args, section, area, spec}
 use Rattle.area.specs.Given.{Work}
 use Rattle.area.specs.GivenLaws.{section-inside}
-use Rattle.opening.specs.Given.{EMPTY, cleared, withSeeds, withLists, Due, lens, found}
-use Rattle.opening.specs.OpeningLaws.{accepts}
+use Rattle.inputs.specs.Given.{EMPTY, cleared, withSeeds, withLists, Due, lens, found}
+use Rattle.inputs.specs.OpeningLaws.{accepts}
 
 -- ---- any sections
 module _ (size : ℕ → ℕ) (g : ℕ → List ℕ) where

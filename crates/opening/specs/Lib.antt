@@ -1,3 +1,1 @@
-pub mod Given
-pub mod OpeningLaws
 pub mod FilledLaws

@@ -1,4 +1,5 @@
--- What a permutation is good for: its entries are below, differ, and every number below its length occurs. Then the check in stretches, and the turn of the loop that marks.
+-- What a permutation is good for: its entries are below, differ, and every number below its length occurs. Then the check in stretches, and
+-- the turn of the loop that marks.
 use mathlib.Core.Path.{_≡_, refl, sym, ap, ap₂, _∙_, subst}
 use mathlib.Core.Logic.{_≢_}
 use mathlib.Core.Bool.{Bool, true, false, not, _&&_}

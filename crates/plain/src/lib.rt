@@ -1,6 +1,6 @@
-// The plain rounds, all but the echoes (crates/rounds, Table): `judge` is the content check of the messages received and `keep` what stays of them;
-// `hold` is what is kept when messages are made, and `write` makes them. The round's number is public and chooses; the rounds' own crates
-// do the work. Own messages are never read.
+// The plain rounds, all but the echoes (crates/rounds, Table): `judge` is the content check of the messages received and `keep` what stays
+// of them; `hold` is what is kept when messages are made, and `write` makes them. The round's number is public and chooses; the rounds' own
+// crates do the work. Own messages are never read.
 ghost use mathlib.Core.Path.{_≡_};
 ghost use mathlib.Core.Bool.{true};
 ghost use Prim.Native.Nat.{_-_, _*_, _≤_};
@@ -26,14 +26,14 @@ pub fn judge(work: &[u8], incoming: &[u8], mail: Mail, f: Frame, k: usize) -> Fa
     ensures { λ r. ⌜ Finds (r .code) (r .party) (Table.judge k f (now (work .entry)) (mask f (letter (now (incoming .entry)) mail))) ⌝ }
 {
     match k {
-        3 => toss::judge(work, area::COMMS, incoming, mail, f),
-        5 => toss::judge(work, area::PAIR_COMMS, incoming, mail, f),
-        6 => fabitn::judge(work, incoming, mail, f),
-        10 => fashare_ver::judge(incoming, mail, f),
-        12 => fashare_dibi::judge(work, incoming, mail, f),
-        19 => flaand_hash::judge(work, incoming, mail, f),
-        21 => dvalue::judge(work, incoming, mail, f),
-        22 => faand::judge(work, incoming, mail, f),
+        plan::RNG_VER => toss_recv::judge(work, area::COMMS, incoming, mail, f),
+        plan::PAIR_VER => toss_recv::judge(work, area::PAIR_COMMS, incoming, mail, f),
+        plan::FABITN => fabitn_recv::judge(work, incoming, mail, f),
+        plan::FASHARE_VER => fashare_ver::judge(incoming, mail, f),
+        plan::FASHARE_DIBI => fashare_dibi::judge(work, incoming, mail, f),
+        plan::FLAAND_HASH => flaand_hash::judge(work, incoming, mail, f),
+        plan::DVALUE => dvalue_recv::judge(work, incoming, mail, f),
+        plan::FAAND => faand_recv::judge(work, incoming, mail, f),
         _ => Fault { code: 0, party: 0 },
     }
 }
@@ -46,16 +46,16 @@ pub fn keep(work: &mut [u8], incoming: &[u8], mail: Mail, f: Frame, k: usize)
     ensures { λ _. ⌜ now (work .exit) ≡ Table.kept k f (now (work .entry)) (mask f (letter (now (incoming .entry)) mail)) ⌝ }
 {
     match k {
-        1 => toss::keep_told(work, area::COMMS, incoming, mail, f),
-        3 => toss::keep_joint(work, incoming, mail, f),
-        4 => toss::keep_told(work, area::PAIR_COMMS, incoming, mail, f),
-        5 => toss::keep_pairwise(work, incoming, mail, f),
-        8 => fashare_comm::keep(work, incoming, mail, f),
-        10 => fashare_ver::keep(work, incoming, mail, f),
-        14 => haand_recv::keep(work, incoming, mail, f),
-        15 => flaand::keep(work, incoming, mail, f),
-        17 => flaand_comm::keep(work, incoming, mail, f),
-        21 => dvalue::keep(work, incoming, mail, f),
+        plan::RNG_COMM => toss_recv::keep_told(work, area::COMMS, incoming, mail, f),
+        plan::RNG_VER => toss_recv::keep_joint(work, incoming, mail, f),
+        plan::PAIR_COMM => toss_recv::keep_told(work, area::PAIR_COMMS, incoming, mail, f),
+        plan::PAIR_VER => toss_recv::keep_pairwise(work, incoming, mail, f),
+        plan::FASHARE_COMM => fashare_comm::keep(work, incoming, mail, f),
+        plan::FASHARE_VER => fashare_ver::keep(work, incoming, mail, f),
+        plan::HAAND => haand_recv::keep(work, incoming, mail, f),
+        plan::FLAAND => flaand::keep(work, incoming, mail, f),
+        plan::FLAAND_COMM => flaand_comm::keep(work, incoming, mail, f),
+        plan::DVALUE => dvalue_recv::keep(work, incoming, mail, f),
         _ => {}
     }
 }
@@ -67,11 +67,11 @@ pub fn hold(work: &mut [u8], r: &[u8], perm: &[u32], f: Frame, k: usize)
     ensures { λ _. ⌜ now (work .exit) ≡ Table.held k f (record { r = now (r .entry); perm = now (perm .entry) }) (now (work .entry)) ⌝ }
 {
     match k {
-        6 => fabitn::hold(work, r, f),
-        14 => haand::hold(work, f),
-        17 => flaand_comm::hold(work, f),
-        21 => buckets::hold(work, perm, f),
-        22 => triples::hold(work, f),
+        plan::FABITN => fabitn::hold(work, r, f),
+        plan::HAAND => haand_rows::hold(work, f),
+        plan::FLAAND_COMM => flaand_comm::hold(work, f),
+        plan::DVALUE => buckets::hold(work, perm, f),
+        plan::FAAND => triples::hold(work, f),
         _ => {}
     }
 }
@@ -86,20 +86,20 @@ pub fn write(out: &mut [u8], work: &[u8], r: &[u8], perm: &[u32], f: Frame, k: u
         (Table.written k f (record { r = now (r .entry); perm = now (perm .entry) }) (now (work .entry))) ⌝ }
 {
     match k {
-        1 => toss::write_commitments(out, work, f),
-        3 => toss::write_seed(out, work, f),
-        4 => toss::write_pair_commitments(out, work, f),
-        5 => toss::write_pair_seeds(out, work, f),
-        6 => fabitn::write(out, work, r, f),
-        8 => fashare_comm::write(out, work, f),
-        10 => fashare_ver::write(out, work, f),
-        12 => fashare_dibi::write(out, work, f),
-        14 => haand::write(out, work, f),
-        15 => flaand::write(out, work, f),
-        17 => flaand_comm::write(out, work, f),
-        19 => flaand_hash::write(out, work, f),
-        21 => dvalue::write(out, work, f),
-        22 => faand::write(out, work, f),
+        plan::RNG_COMM => toss::write_commitments(out, work, f),
+        plan::RNG_VER => toss::write_seed(out, work, f),
+        plan::PAIR_COMM => toss::write_pair_commitments(out, work, f),
+        plan::PAIR_VER => toss::write_pair_seeds(out, work, f),
+        plan::FABITN => fabitn::write(out, work, r, f),
+        plan::FASHARE_COMM => fashare_comm::write(out, work, f),
+        plan::FASHARE_VER => fashare_ver::write(out, work, f),
+        plan::FASHARE_DIBI => fashare_dibi::write(out, work, f),
+        plan::HAAND => haand::write(out, work, f),
+        plan::FLAAND => flaand::write(out, work, f),
+        plan::FLAAND_COMM => flaand_comm::write(out, work, f),
+        plan::FLAAND_HASH => flaand_hash::write(out, work, f),
+        plan::DVALUE => dvalue::write(out, work, f),
+        plan::FAAND => faand::write(out, work, f),
         _ => {}
     }
 }

@@ -3,7 +3,7 @@
 use Prim.Native.Nat.{ℕ, zero, suc, _+_, _-_, _*_, _/_, _≤_}
 use mathlib.Core.Bool.{Bool, true, false, _&&_, _||_}
 use mathlib.Core.List.{List, [], _∷_}
-use lib.Dec.{ltb, leb, eqb}
+use lib.Dec.{leb, eqb}
 use Rattle.lists.specs.Pick.{pick}
 use Rattle.message.specs.declared.Kind.{Kind}
 use Rattle.message.specs.declared.Kind.the-variants.{Items, Dms, Dvalues, Options}
@@ -12,8 +12,51 @@ use Rattle.engine.specs.Order.{Order, echoIn, roundIn, nextIn}
 
 -- ---- the order of the rounds
 
+-- "Rounds, in order": all but the echoes by name
+abbrev pub RNG-COMM : ℕ
+RNG-COMM = 1
+
+abbrev pub RNG-VER : ℕ
+RNG-VER = 3
+
+abbrev pub PAIR-COMM : ℕ
+PAIR-COMM = 4
+
+abbrev pub PAIR-VER : ℕ
+PAIR-VER = 5
+
+abbrev pub FABITN : ℕ
+FABITN = 6
+
+abbrev pub FASHARE-COMM : ℕ
+FASHARE-COMM = 8
+
+abbrev pub FASHARE-VER : ℕ
+FASHARE-VER = 10
+
+abbrev pub FASHARE-DIBI : ℕ
+FASHARE-DIBI = 12
+
+abbrev pub HAAND : ℕ
+HAAND = 14
+
+abbrev pub FLAAND : ℕ
+FLAAND = 15
+
+abbrev pub FLAAND-COMM : ℕ
+FLAAND-COMM = 17
+
+abbrev pub FLAAND-HASH : ℕ
+FLAAND-HASH = 19
+
+abbrev pub DVALUE : ℕ
+DVALUE = 21
+
+abbrev pub FAAND : ℕ
+FAAND = 22
+
 abbrev pub theRounds : Order
-theRounds = record { last = 22; echoes = 2 ∷ 7 ∷ 9 ∷ 11 ∷ 13 ∷ 16 ∷ 18 ∷ 20 ∷ [] }
+theRounds = record { last = FAAND; echoes = 2 ∷ 7 ∷ 9 ∷ 11 ∷ 13 ∷ 16 ∷ 18 ∷ 20 ∷ [] }
 
 abbrev pub echo? : ℕ → Bool
 echo? k = echoIn theRounds k
@@ -34,10 +77,6 @@ order false = 1 ∷ 2 ∷ 3 ∷ 4 ∷ 5 ∷ 6 ∷ 7 ∷ 8 ∷ 9 ∷ 10 ∷ 11 �
 -- the round whose messages the call for round k writes (k = 0: opening), 0 for the last and for what is no round
 unfoldable pub writes : ℕ → ℕ → ℕ
 writes n k = pick (eqb k 0 || isRound n k) (nextRound n k) 0
-
--- the q-th party but i
-unfoldable pub other : ℕ → ℕ → ℕ
-other i q = pick (ltb q i) q (q + 1)
 
 -- ---- counts
 
@@ -66,26 +105,26 @@ rLen l = 120 * (16 * rBlocks l)
 -- Blocks (12, 19), two bits (14), a bucket's d values and MACs (21), two bits and two Blocks (22); an echo's are options of a Block
 unfoldable pub kindOf : ℕ → ℕ → Kind
 kindOf l k =
-    pick (eqb k 1 || eqb k 4 || eqb k 17) (Items 32 0)
-    (pick (eqb k 3 || eqb k 5) (Items 1 0)
-    (pick (eqb k 6 || eqb k 15) (Items 17 1)
-    (pick (eqb k 8) (Items 96 0)
-    (pick (eqb k 10) Dms
-    (pick (eqb k 12 || eqb k 19) (Items 16 0)
-    (pick (eqb k 14) (Items 2 2)
-    (pick (eqb k 21) (Dvalues (bucketSize l - 1))
-    (pick (eqb k 22) (Items 34 2)
+    pick (eqb k RNG-COMM || eqb k PAIR-COMM || eqb k FLAAND-COMM) (Items 32 0)
+    (pick (eqb k RNG-VER || eqb k PAIR-VER) (Items 1 0)
+    (pick (eqb k FABITN || eqb k FLAAND) (Items 17 1)
+    (pick (eqb k FASHARE-COMM) (Items 96 0)
+    (pick (eqb k FASHARE-VER) Dms
+    (pick (eqb k FASHARE-DIBI || eqb k FLAAND-HASH) (Items 16 0)
+    (pick (eqb k HAAND) (Items 2 2)
+    (pick (eqb k DVALUE) (Dvalues (bucketSize l - 1))
+    (pick (eqb k FAAND) (Items 34 2)
     Options))))))))
 
 -- how many items are due; an echo's are n
 unfoldable pub countDue : ℕ → ℕ → ℕ → ℕ
 countDue n l k =
-    pick (eqb k 1 || eqb k 4) 1
-    (pick (eqb k 3 || eqb k 5) 32
-    (pick (eqb k 6) 120
-    (pick (eqb k 8 || eqb k 10 || eqb k 12) 40
-    (pick (eqb k 14 || eqb k 15 || eqb k 17 || eqb k 19) (leaky l)
-    (pick (eqb k 21 || eqb k 22) l
+    pick (eqb k RNG-COMM || eqb k PAIR-COMM) 1
+    (pick (eqb k RNG-VER || eqb k PAIR-VER) 32
+    (pick (eqb k FABITN) 120
+    (pick (eqb k FASHARE-COMM || eqb k FASHARE-VER || eqb k FASHARE-DIBI) 40
+    (pick (eqb k HAAND || eqb k FLAAND || eqb k FLAAND-COMM || eqb k FLAAND-HASH) (leaky l)
+    (pick (eqb k DVALUE || eqb k FAAND) l
     n)))))
 
 -- "dm = own bit byte, then MACs by party, own left out"
@@ -144,17 +183,17 @@ pairsLen n = pick (parties? n) (32 * n) 0
 -- results"
 unfoldable pub outLen : ℕ → ℕ → ℕ → ℕ
 outLen n l k =
-    pick (eqb k 22) (sharesLen n l)
+    pick (eqb k FAAND) (sharesLen n l)
     (pick (eqb (writes n k) 0) 0
     (within n l ((n - 1) * msgLen n l (writes n k))))
 
 -- "The r Blocks are lent with the call that writes `fabitn`, the permutation (32-bit numbers) with the one that writes `dvalue`; both are
 -- empty otherwise": the bytes of r, and the numbers of the permutation
 unfoldable pub rDue : ℕ → ℕ → ℕ → ℕ
-rDue n l k = pick (eqb (writes n k) 6) (within n l (rLen l)) 0
+rDue n l k = pick (eqb (writes n k) FABITN) (within n l (rLen l)) 0
 
 unfoldable pub permDue : ℕ → ℕ → ℕ → ℕ
-permDue n l k = pick (eqb (writes n k) 21) (within n l (leaky l)) 0
+permDue n l k = pick (eqb (writes n k) DVALUE) (within n l (leaky l)) 0
 
 -- what one box sends to one other in the rounds up to k, and to all others in a session
 unfoldable pub sentUpTo : ℕ → ℕ → ℕ → ℕ
@@ -162,4 +201,4 @@ sentUpTo n l zero = 0
 sentUpTo n l (suc k) = sentUpTo n l k + pick (isRound n (suc k)) (msgLen n l (suc k)) 0
 
 unfoldable pub sent : ℕ → ℕ → ℕ
-sent n l = within n l ((n - 1) * sentUpTo n l 22)
+sent n l = within n l ((n - 1) * sentUpTo n l FAAND)

@@ -8,7 +8,7 @@ use native.Mathlib.Numerals.{add-one}
 use native.Mathlib.Omega.{arith}
 use lib.ListN.{length, getD}
 use lib.Dec.{ltb, leb, eqb}
-use borrow.Author.Tests.{ltb-true, ltb-false, leb-true, le-ltb, le-leb, lt-leb, eqb-true, eqb-false, ne-eqb}
+use borrow.Author.Tests.{ltb-true, ltb-false, leb-true, le-leb, lt-leb, eqb-true, eqb-false, ne-eqb}
 use Rattle.lists.specs.Pick.{pick}
 use Rattle.lists.specs.All.{allOf, of-all, true-false, and-first, and-second}
 use Rattle.message.specs.declared.Kind.{Kind}
@@ -16,7 +16,7 @@ use Rattle.message.specs.declared.Kind.the-variants.{Items, Dms, Dvalues, Optio
 use Rattle.share.specs.Record.{recordLen}
 use Rattle.engine.specs.Area.{mem}
 use Rattle.engine.specs.Order.{echoIn, roundIn, nextIn}
-use Rattle.plan.specs.Plan.{theRounds, echo?, isRound, nextRound, order, writes, other, bucketSize, leaky, bitsCount, rBlocks, rLen}
+use Rattle.plan.specs.Plan.{theRounds, echo?, isRound, nextRound, order, writes, bucketSize, leaky, bitsCount, rBlocks, rLen}
 use Rattle.plan.specs.Plan.{kindOf, countDue, dmLen, listLen, Listed, msgLen, parties?, inRange, InRange, bitsLen, sharesLen}
 use Rattle.plan.specs.Plan.{masksLen, pairsLen, outLen, rDue, permDue, sentUpTo}
 
@@ -181,9 +181,6 @@ bits-most l h = omega (arith, leaky-most l h)
 pub r-blocks-most : (l : ℕ) → l ≤ 300000 → rBlocks l ≤ 40000
 unfolding rBlocks
 r-blocks-most l h = omega (arith, bits-most l h)
-
-pub record-most : (n : ℕ) → n ≤ 8 → recordLen n ≤ 512
-record-most n h = omega arith
 
 pick-most : (b : Bool) (x : ℕ) {m : ℕ} → x ≤ m → pick b x 0 ≤ m
 pick-most true x h = h
@@ -369,34 +366,3 @@ module _ (n l k s : ℕ) (h : s ≡ sentUpTo n l k) where
   pub sent-without : isRound n (k + 1) ≡ false → s ≡ sentUpTo n l (k + 1)
   unfolding sentUpTo
   sent-without r = rw (h, add-one k, subst (λ j. isRound n j ≡ false) (add-one k) r) (sym (add-zero (sentUpTo n l k)))
-
--- ---- the other parties: other i goes through all of n but i, each once
-other-by : {C : Type 0} (i q : ℕ) → (q < i → other i q ≡ q → C) → (i ≤ q → other i q ≡ q + 1 → C) → C
-unfolding other
-other-by {C} i q low high = go (ltb q i) refl
-  where
-    go : (b : Bool) → ltb q i ≡ b → C
-    go true e = low (ltb-true q i e) (ap (λ b. pick b q (q + 1)) e)
-    go false e = high (ltb-false q i e) (ap (λ b. pick b q (q + 1)) e)
-
-pub other-skips : (i q : ℕ) → other i q ≢ i
-other-skips i q = other-by i q (λ h e. omega arith) (λ h e. omega arith)
-
-pub other-below : (n i q : ℕ) → q < n - 1 → other i q < n
-other-below n i q l = other-by i q (λ h e. omega arith) (λ h e. omega arith)
-
-pub other-once : (i p q : ℕ) → other i p ≡ other i q → p ≡ q
-other-once i p q x =
-    other-by i p
-    (λ h e. other-by i q (λ h2 e2. omega arith) (λ h2 e2. omega arith))
-    (λ h e. other-by i q (λ h2 e2. omega arith) (λ h2 e2. omega arith))
-
-pub other-onto : (n i j : ℕ) → i < n → j < n → j ≢ i → (q : ℕ) × (q < n - 1) × (other i q ≡ j)
-unfolding other
-other-onto n i j li lj ne = go (ltb j i) refl
-  where
-    go : (b : Bool) → ltb j i ≡ b → (q : ℕ) × (q < n - 1) × (other i q ≡ j)
-    go true e = (j, omega (arith, ltb-true j i e), ap (λ b. pick b j (j + 1)) e)
-    go false e =
-        let h : i ≤ j - 1 = omega (arith, ltb-false j i e) in
-        (j - 1, omega arith, rw (le-ltb (j - 1) i h) (omega (arith, ltb-false j i e)))

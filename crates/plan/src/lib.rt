@@ -4,10 +4,44 @@
 // What a host may call takes any numbers; the others ask for those that opening lets through.
 ghost use mathlib.Core.Path.{_≡_};
 ghost use Prim.Native.Nat.{ℕ, _+_, _*_, _<_, _≤_};
+ghost use mathlib.Core.List.{[]};
+ghost use lib.ListN.{getD};
+ghost use Rattle.engine.specs.Area.{nth};
 ghost use Rattle.plan.specs.Plan as S;
-ghost use Rattle.plan.specs.Plan.{echo?, isRound, nextRound, bucketSize, bitsCount, rBlocks, rLen, kindOf, countDue, dmLen, listLen, msgLen, parties?, inRange, InRange, Listed, bitsLen, sharesLen, masksLen, pairsLen, outLen, rDue, permDue, sentUpTo};
-ghost use Rattle.plan.specs.Names.{roundName};
+ghost use Rattle.plan.specs.Plan.{echo?, isRound, nextRound, bucketSize, bitsCount, rBlocks, rLen, kindOf, countDue, dmLen, listLen};
+ghost use Rattle.plan.specs.Plan.{msgLen, parties?, inRange, InRange, Listed, bitsLen, sharesLen, masksLen, pairsLen, outLen, rDue};
+ghost use Rattle.plan.specs.Plan.{permDue, sentUpTo};
+ghost use Rattle.plan.specs.Names.{names, roundName};
 use message::Kind;
+
+// The rounds by name, all but the echoes.
+pub const RNG_COMM: usize = 1;
+
+pub const RNG_VER: usize = 3;
+
+pub const PAIR_COMM: usize = 4;
+
+pub const PAIR_VER: usize = 5;
+
+pub const FABITN: usize = 6;
+
+pub const FASHARE_COMM: usize = 8;
+
+pub const FASHARE_VER: usize = 10;
+
+pub const FASHARE_DIBI: usize = 12;
+
+pub const HAAND: usize = 14;
+
+pub const FLAAND: usize = 15;
+
+pub const FLAAND_COMM: usize = 17;
+
+pub const FLAAND_HASH: usize = 19;
+
+pub const DVALUE: usize = 21;
+
+pub const FAAND: usize = 22;
 
 // Whether round k is an echo, of the round before it.
 pub fn is_echo(k: usize) -> bool
@@ -20,14 +54,14 @@ pub fn is_echo(k: usize) -> bool
 pub fn is_round(n: usize, k: usize) -> bool
     ensures { λ r. ⌜ r ≡ isRound n k ⌝ }
 {
-    (1 <= k) & (k <= 22) & !((n == 2) & is_echo(k))
+    (1 <= k) & (k <= FAAND) & !((n == 2) & is_echo(k))
 }
 
 // The round after k, 1 after opening (k = 0), 0 after the last.
 pub fn next_round(n: usize, k: usize) -> usize
     ensures { λ r. ⌜ r ≡ nextRound n k ⌝ }
 {
-    if 22 <= k {
+    if FAAND <= k {
         return 0;
     }
     if (n == 2) & is_echo(k + 1) {
@@ -51,7 +85,7 @@ pub fn writes(n: usize, k: usize) -> usize
 // The q-th party but i.
 pub fn other(i: usize, q: usize) -> usize
     requires { ⌜ q < 8 ⌝ }
-    ensures { λ r. ⌜ r ≡ S.other i q ⌝ }
+    ensures { λ r. ⌜ r ≡ nth i q ⌝ }
 {
     if q < i { q } else { q + 1 }
 }
@@ -106,15 +140,15 @@ pub fn kind_of(l: usize, k: usize) -> Kind
     ensures { λ r. ⌜ r ≡ kindOf l k ⌝ }
 {
     match k {
-        1 | 4 | 17 => Kind::Items(32, 0),
-        3 | 5 => Kind::Items(1, 0),
-        6 | 15 => Kind::Items(17, 1),
-        8 => Kind::Items(96, 0),
-        10 => Kind::Dms,
-        12 | 19 => Kind::Items(16, 0),
-        14 => Kind::Items(2, 2),
-        21 => Kind::Dvalues(bucket_size(l) - 1),
-        22 => Kind::Items(34, 2),
+        RNG_COMM | PAIR_COMM | FLAAND_COMM => Kind::Items(32, 0),
+        RNG_VER | PAIR_VER => Kind::Items(1, 0),
+        FABITN | FLAAND => Kind::Items(17, 1),
+        FASHARE_COMM => Kind::Items(96, 0),
+        FASHARE_VER => Kind::Dms,
+        FASHARE_DIBI | FLAAND_HASH => Kind::Items(16, 0),
+        HAAND => Kind::Items(2, 2),
+        DVALUE => Kind::Dvalues(bucket_size(l) - 1),
+        FAAND => Kind::Items(34, 2),
         _ => Kind::Options,
     }
 }
@@ -125,14 +159,14 @@ pub fn count_due(n: usize, l: usize, k: usize) -> usize
     ensures { λ r. ⌜ r ≡ countDue n l k ⌝ }
 {
     match k {
-        1 | 4 => 1,
-        3 | 5 => 32,
-        6 => 120,
-        8 | 10 | 12 => 40,
-        14 | 17 | 19 => leaky(l),
-        15 => leaky(l),
-        21 => l,
-        22 => l,
+        RNG_COMM | PAIR_COMM => 1,
+        RNG_VER | PAIR_VER => 32,
+        FABITN => 120,
+        FASHARE_COMM | FASHARE_VER | FASHARE_DIBI => 40,
+        HAAND | FLAAND_COMM | FLAAND_HASH => leaky(l),
+        FLAAND => leaky(l),
+        DVALUE => l,
+        FAAND => l,
         _ => n,
     }
 }
@@ -220,7 +254,7 @@ pub fn pairs_len(n: usize) -> usize
 pub fn out_len(n: usize, l: usize, k: usize) -> usize
     ensures { λ r. ⌜ r ≡ outLen n l k ⌝ }
 {
-    if k == 22 {
+    if k == FAAND {
         return shares_len(n, l);
     }
     let next = writes(n, k);
@@ -238,7 +272,7 @@ pub fn out_len(n: usize, l: usize, k: usize) -> usize
 pub fn r_due(n: usize, l: usize, k: usize) -> usize
     ensures { λ r. ⌜ r ≡ rDue n l k ⌝ }
 {
-    if writes(n, k) != 6 {
+    if writes(n, k) != FABITN {
         return 0;
     }
     if in_range(n, l) { r_len(l) } else { 0 }
@@ -248,7 +282,7 @@ pub fn r_due(n: usize, l: usize, k: usize) -> usize
 pub fn perm_due(n: usize, l: usize, k: usize) -> usize
     ensures { λ r. ⌜ r ≡ permDue n l k ⌝ }
 {
-    if writes(n, k) != 21 {
+    if writes(n, k) != DVALUE {
         return 0;
     }
     if in_range(n, l) { leaky(l) } else { 0 }
@@ -261,7 +295,7 @@ fn sent_to_one(n: usize, l: usize) -> usize
 {
     let mut sum = 0;
     let mut k = 0;
-    while k < 22 {
+    while k < FAAND {
         if is_round(n, k + 1) {
             sum += msg_len(n, l, k + 1);
         }
@@ -308,9 +342,17 @@ const NAMES: [[u8; 16]; 23] = [
     *b"faand\0\0\0\0\0\0\0\0\0\0\0",
 ];
 
+// The name at place k: the table stands in one place.
+fn name_at(k: usize) -> [u8; 16]
+    requires { ⌜ k ≤ 22 ⌝ }
+    ensures { λ r. ⌜ r ≡ getD names k [] ⌝ }
+{
+    NAMES[k]
+}
+
 // The name of round k.
 pub fn round_name(k: usize) -> [u8; 16]
     ensures { λ r. ⌜ r ≡ roundName k ⌝ }
 {
-    if k <= 22 { NAMES[k] } else { NAMES[0] }
+    if k <= FAAND { name_at(k) } else { name_at(0) }
 }

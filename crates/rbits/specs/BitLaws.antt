@@ -1,4 +1,5 @@
--- Sums of bits: the bits of 64 records as the digits of a word, masked by words of the strings, added digit by digit, and the digits summed at the end.
+-- Sums of bits: the bits of 64 records as the digits of a word, masked by words of the strings, added digit by digit, and the digits summed
+-- at the end.
 use mathlib.Core.Path.{_≡_, refl, sym, ap, ap₂, _∙_}
 use mathlib.Core.Bool.{Bool, true, false}
 use mathlib.Core.List.{List}

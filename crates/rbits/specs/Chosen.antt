@@ -1,4 +1,5 @@
--- The sums of `fabitn` (document 01, "What each round means"): the r strings choose records, and bits or Blocks of the chosen records are added.
+-- The sums of `fabitn` (document 01, "What each round means"): the r strings choose records, and bits or Blocks of the chosen records are
+-- added.
 use Prim.Native.Nat.{ℕ, _+_, _*_, _/_, _%_, _^_, _≤_}
 use mathlib.Core.Path.{_≡_}
 use mathlib.Core.Bool.{Bool}
@@ -31,7 +32,8 @@ wordsOf n f = cat n (λ j. f j .0 ∷ f j .1 ∷ [])
 abbrev pub pairAt : List ℕ → ℕ → Block
 pairAt a j = record { 0 = getD a (j * 2) 0; 1 = getD a (j * 2 + 1) 0 }
 
--- what the code asks of its arguments: whole records and 120 whole strings are lent, each of whole words and long enough for `count` elements
+-- what the code asks of its arguments: whole records and 120 whole strings are lent, each of whole words and long enough for `count`
+-- elements
 pub record Lent (s : List ℕ) (stride count : ℕ) (r : List ℕ) (row : ℕ) : Type 0 where
   pub records : count * stride ≤ length s
   pub strings : 120 * row ≤ length r

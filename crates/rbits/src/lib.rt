@@ -1,8 +1,7 @@
-// The random sums of `fabitn`, from `chunked_update_with_rbits` of src/mpc/faand.rs: for each of 120 strings r the XOR of the chosen bits, and of
-// the chosen MACs or keys. All strings are done in one pass over the records, 64 records at a time: one word of each string.
-// Four records have 16 sums, kept in a table, low and high word side by side; four digits of a string's word, by shift and mask,
-// say which of the 16 it takes.
-// r is public, so it may be an index. Bits, MACs and keys are secret, and decide no branch and no index.
+// The random sums of `fabitn`, from `chunked_update_with_rbits` of src/mpc/faand.rs: for each of 120 strings r the XOR of the chosen bits,
+// and of the chosen MACs or keys. All strings are done in one pass over the records, 64 records at a time: one word of each string. Four
+// records have 16 sums, kept in a table, low and high word side by side; four digits of a string's word, by shift and mask, say which of
+// the 16 it takes. r is public, so it may be an index. Bits, MACs and keys are secret, and decide no branch and no index.
 ghost use mathlib.Core.Path.{_≡_};
 ghost use Prim.Native.Nat.{_+_, _*_, _^_, _≤_, _<_};
 ghost use lib.ListN.{length, getD};
@@ -67,7 +66,7 @@ fn put_table(out: &mut [u64], a: Block, b: Block, c: Block, d: Block)
 }
 
 // The tables of the 64 records from `first` on.
-fn fill(out: &mut [u64], s: &[u8], stride: usize, at: usize, count: usize, first: usize)
+pub fn fill(out: &mut [u64], s: &[u8], stride: usize, at: usize, count: usize, first: usize)
     requires { ⌜ length (now out) ≡ 512 ⌝ }
     requires { ⌜ (at + 16 ≤ stride) × (count * stride ≤ length (now s)) ⌝ }
     requires { ⌜ first + 64 < 2 ^ 64 ⌝ }
@@ -90,7 +89,7 @@ fn fill(out: &mut [u64], s: &[u8], stride: usize, at: usize, count: usize, first
 }
 
 // Word g of each string.
-fn r_words(out: &mut [u64], r: &[u8], row: usize, g: usize)
+pub fn r_words(out: &mut [u64], r: &[u8], row: usize, g: usize)
     requires { ⌜ length (now out) ≡ 120 ⌝ }
     requires { ⌜ (120 * row ≤ length (now r)) × (g * 8 + 8 ≤ row) ⌝ }
     ensures { λ _. ⌜ now (out .exit) ≡ rWords (now (r .entry)) row g ⌝ }
@@ -139,7 +138,7 @@ fn add_chosen(acc: &mut [u64], tab: &[u64; 512], ws: &[u64; 120])
 
 // Adds the first entry, which is the sum of nothing. For LLVM alone: two words at the start of both arrays are one of 16 bytes, so that it
 // lays them on a multiple of 16, and `choose` takes each entry by one instruction.
-fn add_nothing(acc: &mut [u64], tab: &[u64; 512])
+pub fn add_nothing(acc: &mut [u64], tab: &[u64; 512])
     requires { ⌜ length (now acc) ≡ 240 ⌝ }
     requires { ⌜ (getD (now tab) 0 0 ≡ 0) × (getD (now tab) 1 0 ≡ 0) ⌝ }
     ensures { λ _. ⌜ now (acc .exit) ≡ now (acc .entry) ⌝ }

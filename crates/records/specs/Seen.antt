@@ -15,6 +15,7 @@ use Rattle.algebra.specs.Group.{XorGroup}
 use Rattle.block.specs.Block.{blockAt, eqBlock}
 use Rattle.block.specs.Group.{blocks, block-eq}
 use Rattle.block.specs.Trip.{block-below}
+use Rattle.share.specs.Layout.{ENTRY, key-behind}
 use Rattle.share.specs.Record.{recordLen, macOff, keyOff, macAt, keyAt, recordsFault}
 use Rattle.share.specs.RecordLaws.{Valid, valid-faults}
 
@@ -31,7 +32,7 @@ ored e s at = tab 32 (λ k. bitOr (getD e k 0) (getD s (at + k) 0))
 -- `bits` and `e` have seen party i's first t records
 pub record Seen (n i : ℕ) (s : List ℕ) (t bits : ℕ) (e : List ℕ) : Type 0 where
   pub bit : (j : ℕ) → j < t → getD s (j * recordLen n) 0 ≤ bits
-  pub own : (j : ℕ) → j < t → (k : ℕ) → k < 32 → getD s (j * recordLen n + macOff i + k) 0 ≤ getD e k 0
+  pub own : (j : ℕ) → j < t → (k : ℕ) → k < ENTRY → getD s (j * recordLen n + macOff i + k) 0 ≤ getD e k 0
 
 -- what was seen is as a record's has to be
 unfoldable pub passes : ℕ → List ℕ → Bool
@@ -46,7 +47,7 @@ module _ (n i : ℕ) (s : List ℕ) where
   unfolding ored
   seen-turn t bits at e e′ h q w = record { bit = λ j l. bit j (ltb j t) refl l; own = λ j l k m. own j (ltb j t) refl l k m }
     where
-      byte : (k : ℕ) → k < 32 → getD e′ k 0 ≡ bitOr (getD e k 0) (getD s (at + macOff i + k) 0)
+      byte : (k : ℕ) → k < ENTRY → getD e′ k 0 ≡ bitOr (getD e k 0) (getD s (at + macOff i + k) 0)
       byte k m = ap (λ (x : List ℕ). getD x k 0) w ∙ getD-tab 32 k (λ k. bitOr (getD e k 0) (getD s (at + macOff i + k) 0)) 0 m
 
       last : (j : ℕ) → ltb j t ≡ false → j < t + 1 → at ≡ j * recordLen n
@@ -56,7 +57,7 @@ module _ (n i : ℕ) (s : List ℕ) where
       bit j true g l = omega (arith, h .bit j (ltb-true j t g), or-l bits (getD s at 0))
       bit j false g l = rw (sym (last j g l)) (or-r bits (getD s at 0))
 
-      own : (j : ℕ) (b : Bool) → ltb j t ≡ b → j < t + 1 → (k : ℕ) → k < 32 → getD s (j * recordLen n + macOff i + k) 0 ≤ getD e′ k 0
+      own : (j : ℕ) (b : Bool) → ltb j t ≡ b → j < t + 1 → (k : ℕ) → k < ENTRY → getD s (j * recordLen n + macOff i + k) 0 ≤ getD e′ k 0
       own j true g l k m = omega (arith, h .own j (ltb-true j t g) k m, byte k m, or-l (getD e k 0) (getD s (at + macOff i + k) 0))
       own j false g l k m = rw (sym (last j g l)) (omega (arith, byte k m, or-r (getD e k 0) (getD s (at + macOff i + k) 0)))
 
@@ -75,7 +76,7 @@ module _ (n i : ℕ) (s : List ℕ) where
                 m;
             key = block-below s e (t * recordLen n + keyOff i) 16
                 (λ k w. subst (λ x. getD s x 0 ≤ getD e (16 + k) 0)
-                (let q : t * recordLen n + macOff i + (16 + k) ≡ t * recordLen n + keyOff i + k = omega arith in q)
+                (let q : t * recordLen n + macOff i + (16 + k) ≡ t * recordLen n + keyOff i + k = omega (arith, key-behind i) in q)
                 (h .own t l (16 + k) (omega arith)))
                 y;
           })

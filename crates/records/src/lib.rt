@@ -1,12 +1,14 @@
-// The check of lent share records (refusals 1 and 4): a bit byte above 1, an own entry that isn't zero. Bits, MACs and keys decide no branch
-// before all records are seen.
+// The check of lent share records (refusals 1 and 4): a bit byte above 1, an own entry that isn't zero. Bits, MACs and keys decide no
+// branch before all records are seen.
 ghost use mathlib.Core.Path.{_≡_};
 ghost use mathlib.Core.Bool.{true};
 ghost use Prim.Native.Nat.{_+_, _*_, _<_, _≤_};
 ghost use lib.ListN.{length};
+ghost use Rattle.share.specs.Layout.{ENTRY};
 ghost use Rattle.share.specs.Record.{recordLen, ownZero, recordFault, recordsFault};
 ghost use Rattle.records.specs.Seen.{ored};
 use block::Block;
+use share::ENTRY;
 
 // Whether party i's own entry is zero: all of it is looked at.
 fn own_zero(s: &[u8], at: usize, i: usize) -> bool
@@ -29,13 +31,13 @@ fn record_fault(s: &[u8], at: usize, i: usize) -> u8
     if own_zero(s, at, i) { 0 } else { 4 }
 }
 
-// ORs the 32 bytes of an entry into e, byte by byte: the compiler takes sixteen at a time.
+// ORs the bytes of an entry into e, byte by byte: the compiler takes sixteen at a time.
 fn or_entry(e: &mut [u8], s: &[u8], at: usize)
-    requires { ⌜ (length (now e) ≡ 32) × (at + 32 ≤ length (now s)) ⌝ }
+    requires { ⌜ (length (now e) ≡ ENTRY) × (at + ENTRY ≤ length (now s)) ⌝ }
     ensures { λ _. ⌜ now (e .exit) ≡ ored (now (e .entry)) (now (s .entry)) at ⌝ }
 {
     let mut k = 0;
-    while k < 32 {
+    while k < ENTRY {
         e[k] = e[k] | s[at + k];
         k += 1;
     }
@@ -50,7 +52,7 @@ fn none_faulty(s: &[u8], n: usize, i: usize, count: usize) -> bool
     let len = share::record_len(n);
     let own = share::mac_off(i);
     let mut bits = 0u8;
-    let mut e = [0u8; 32];
+    let mut e = [0u8; ENTRY];
     let mut t = 0;
     while t < count {
         let at = t * len;

@@ -1,5 +1,5 @@
--- The work area (docs/WORK_AREA.md): sections one after another, each written once in a session but for the last two, the echoes', and the own row of
--- H-COMMS, where the own commitments wait. Rows are by party; the own row of what is received is zero.
+-- The work area (docs/WORK_AREA.md): sections one after another, each written once in a session but for the last two, the echoes', and the
+-- own row of H-COMMS, where the own commitments wait. Rows are by party; the own row of what is received is zero.
 use Prim.Native.Nat.{ℕ, zero, suc, _+_, _-_, _*_}
 use mathlib.Core.List.{List, [], _∷_}
 use lib.ListN.{getD, replicate}

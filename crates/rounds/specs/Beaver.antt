@@ -1,5 +1,6 @@
--- `beaver_aand` (document 01, "What each round means"; Pragmatic MPC, section 3.4): the triples a, b, c become the ANDs of alpha and beta. Round 22.
--- recs, alpha and beta are lists of records, triples the rows of a and c, perm the permutation in bytes, `m k` the message of party k.
+-- `beaver_aand` (document 01, "What each round means"; Pragmatic MPC, section 3.4): the triples a, b, c become the ANDs of alpha and beta.
+-- Round 22. recs, alpha and beta are lists of records, triples the rows of a and c, perm the permutation in bytes, `m k` the message of
+-- party k.
 use mathlib.Core.Bool.{Bool, _&&_}
 use mathlib.Core.List.{List}
 use Prim.Native.Nat.{ℕ, _+_, _*_}

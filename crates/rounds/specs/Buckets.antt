@@ -1,5 +1,5 @@
--- `faand` (document 01, "What each round means"; WRK17b, Pi_aAND): buckets of leaky ANDs, combined. Round 21. `recs` is the list of records,
--- zs the rows with the own bits z, es the others' e, perm the permutation in bytes, `m k` the message of party k.
+-- `faand` (document 01, "What each round means"; WRK17b, Pi_aAND): buckets of leaky ANDs, combined. Round 21. `recs` is the list of
+-- records, zs the rows with the own bits z, es the others' e, perm the permutation in bytes, `m k` the message of party k.
 use mathlib.Core.Bool.{Bool}
 use mathlib.Core.List.{List, [], _∷_, _++_}
 use Prim.Native.Nat.{ℕ, zero, suc, _+_, _-_, _*_, _/_, _%_}
@@ -45,8 +45,8 @@ word4 s at = ((getD s (at + 3) 0 * 256 + getD s (at + 2) 0) * 256 + getD s (at +
 unfoldable pub permBytes : Frame → List ℕ → List ℕ
 permBytes f p = cat (leaky (f .l)) (λ t. le4 (getD p t 0))
 
--- "Bucket j takes entries j·b onward of the permutation": its entry e. The numbers of a permutation are below l·b already; the remainder is for a
--- work area that holds anything else, so that no entry points outside the runs.
+-- "Bucket j takes entries j·b onward of the permutation": its entry e. The numbers of a permutation are below l·b already; the remainder is
+-- for a work area that holds anything else, so that no entry points outside the runs.
 unfoldable pub entry : Frame → List ℕ → ℕ → ℕ → ℕ
 entry f perm j e = word4 perm ((j * bucketSize (f .l) + e) * 4) % leaky (f .l)
 

@@ -1,5 +1,5 @@
--- Combining as a call by itself (document 01, "The call"): "it takes n, i, a count, that many triples of x, y, z records and the d bytes, and writes
--- three records". What it refuses, and what it leaves.
+-- Combining as a call by itself (document 01, "The call"): "it takes n, i, a count, that many triples of x, y, z records and the d bytes,
+-- and writes three records". What it refuses, and what it leaves.
 use mathlib.Core.Bool.{_&&_}
 use mathlib.Core.List.{List, _++_}
 use Prim.Native.Nat.{ℕ, _+_, _-_, _*_}
@@ -42,7 +42,8 @@ bytesFault a =
     orFault (recordsFault (a .n) (a .i) (a .triples) (3 * a .count))
     (pick (allOf (a .count - 1) (λ e. leb (getD (a .d) e 0) 1)) 0 1)
 
--- "Combining alone: 15, 5, 16, 6 for records, or d bytes not one below the bucket, 17 for the output, then lent bytes": the first that it has, or 0
+-- "Combining alone: 15, 5, 16, 6 for records, or d bytes not one below the bucket, 17 for the output, then lent bytes": the first that it
+-- has, or 0
 unfoldable pub reason : Args → ℕ
 reason a =
     pick (leb 2 (a .n) && leb (a .n) 8 && ltb (a .i) (a .n))

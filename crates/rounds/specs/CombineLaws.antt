@@ -1,6 +1,6 @@
 -- Combining alone by the case it falls into.
-use mathlib.Core.Path.{_≡_, refl, sym, ap, _∙_}
-use mathlib.Core.Bool.{Bool, true, false, _&&_}
+use mathlib.Core.Path.{_≡_, refl, _∙_}
+use mathlib.Core.Bool.{Bool, _&&_}
 use mathlib.Core.Logic.{_≢_}
 use mathlib.Core.List.{List}
 use Prim.Native.Nat.{ℕ, suc, _-_, _*_, _<_, _≤_}
@@ -9,7 +9,7 @@ use lib.ListN.{length, getD}
 use lib.Dec.{ltb, leb, eqb}
 use borrow.Author.Tests.{lt-ltb, le-leb, eq-eqb, ne-eqb, eqb-true, eqb-false, leb-true, ltb-true}
 use Rattle.lists.specs.Pick.{pick, pick-then, pick-else}
-use Rattle.lists.specs.All.{allOf, true-false, and-first, and-second}
+use Rattle.lists.specs.All.{allOf, and-first, and-second}
 use Rattle.share.specs.Record.{recordLen, recordsFault}
 use Rattle.engine.specs.Step.{Accepted, Refused}
 use Rattle.rounds.specs.Opening.{orFault}

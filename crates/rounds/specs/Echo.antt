@@ -1,7 +1,7 @@
 -- Echo (document 01, "What each round means"; `broadcast_verification`): everybody tells everybody the hash of each list that it got.
 use mathlib.Core.Bool.{Bool, _&&_, _||_}
 use mathlib.Core.List.{List, [], _∷_}
-use Prim.Native.Nat.{ℕ, zero, suc, _+_, _-_, _*_}
+use Prim.Native.Nat.{ℕ, _+_, _-_, _*_}
 use lib.ListN.{getD, take, drop}
 use lib.Dec.{eqb}
 use Rattle.lists.specs.Pick.{pick}
@@ -13,14 +13,14 @@ use Rattle.blake3.specs.Firsts.{firsts}
 use Rattle.message.specs.declared.Kind.the-variants.{Options}
 use Rattle.message.specs.Format.{listOf, itemAt, formOf}
 use Rattle.encode.specs.Encode.{encode}
-use Rattle.plan.specs.Plan.{msgLen}
+use Rattle.plan.specs.Plan.{FABITN, FLAAND, msgLen}
 use Rattle.engine.specs.Step.{scan}
 use Rattle.engine.specs.Plain.{Echo}
 
--- "`hash_vec` (first 16 bytes of BLAKE3 of the encoded list, count included)". "In 7 and 16 the list hashed is that of the first elements, the
--- bits, alone": rounds 6 and 15 have a bit and a Block, 17 bytes.
+-- "`hash_vec` (first 16 bytes of BLAKE3 of the encoded list, count included)". "In 7 and 16 the list hashed is that of the first elements,
+-- the bits, alone": rounds 6 and 15 have a bit and a Block, 17 bytes.
 unfoldable pub hashVec : ℕ → List ℕ → List ℕ
-hashVec k list = take 16 (hash (pick (eqb k 6 || eqb k 15) (firsts 17 list) list))
+hashVec k list = take 16 (hash (pick (eqb k FABITN || eqb k FLAAND) (firsts 17 list) list))
 
 -- "a list of n options, absent for the box itself and for the receiver"; row k of `rows` is the hash of k's list
 unfoldable pub echoMsg : ℕ → ℕ → List ℕ → ℕ → List ℕ

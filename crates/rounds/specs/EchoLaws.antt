@@ -25,17 +25,16 @@ use Rattle.blake3.specs.Firsts.{firsts}
 use Rattle.blake3.specs.ByteLaws.{length-bytes, bytes-bytes}
 use Rattle.message.specs.declared.Kind.{Kind}
 use Rattle.message.specs.declared.Kind.the-variants.{Options}
-use Rattle.message.specs.Format.{listOf, listLen, itemLen, itemAt, decodes, formOf}
-use Rattle.message.specs.FormatLaws.{list-pos, list-le, formed-item, Entry, entry-held}
+use Rattle.message.specs.Format.{listLen, itemLen, itemAt, formOf}
+use Rattle.message.specs.FormatLaws.{formed-item, Entry, entry-held}
 use Rattle.encode.specs.Encode.{noneItem, someItem}
 use Rattle.plan.specs.Plan as Plan
 use Rattle.plan.specs.Plan.{kindOf, countDue, msgLen}
 use Rattle.engine.specs.declared.Frame.{Frame}
 use Rattle.engine.specs.Step.{frame, scan}
-use Rattle.engine.specs.StepLaws.{scan-first}
+use Rattle.engine.specs.StepLaws.{other-neq, scan-first}
 use Rattle.engine.specs.Plain.{rowsOf}
 use Rattle.rounds.specs.Mail.{Mail, letter, Arrived}
-use Rattle.rounds.specs.RowsLaws.{other-neq}
 use Rattle.rounds.specs.Echo.{hashVec, entryFault, echoFault}
 
 -- what a call has made sure of before it looks at the content: every other party's message lies inside, and is a list of the right form
@@ -65,7 +64,7 @@ zero-bytes = refl
 
 pub hash-rows : (n l i : ℕ) (g : ℕ → List ℕ) → cat n (λ j. pick (neq i j) (g j) (replicate 16 0)) ≡ rowsOf (frame n l i) g
 unfolding rowsOf
-hash-rows n l i g = cat-ext n _ _ (λ j h. ap (λ b. pick b (g j) (replicate 16 0)) (sym (other-neq n l i j h)))
+hash-rows n l i g = cat-ext n _ _ (λ j h. ap (λ b. pick b (g j) (replicate 16 0)) (sym (other-neq (frame n l i) j h)))
 
 -- ---- entries
 -- 16 for a party below m: an entry that is there is 16 bytes longer than one that is absent

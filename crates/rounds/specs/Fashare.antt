@@ -20,9 +20,9 @@ use Rattle.message.specs.declared.Kind.the-variants.{Dms}
 use Rattle.message.specs.Format.{itemAt}
 use Rattle.encode.specs.Encode.{encode, dmItem}
 use Rattle.plan.specs.Plan.{leaky, dmLen}
-use Rattle.plan.specs.Plan as Plan
 use Rattle.engine.specs.declared.Frame.{Frame}
 use Rattle.engine.specs.Step.{Fault, byParty}
+use Rattle.engine.specs.Area.{nth}
 use Rattle.rounds.specs.Area.{rows, firstOf}
 
 abbrev pub STRINGS : ℕ
@@ -50,7 +50,7 @@ own f recs q = shareAt recs (recordAt f q)
 
 -- "dm = own bit byte, then MACs by party, own left out"
 unfoldable pub dm : Frame → List ℕ → ℕ → List ℕ
-dm f recs q = num (own f recs q .bit) ∷ cat (f .n - 1) (λ p. bytesOf (own f recs q .mac (Plan.other (f .i) p)))
+dm f recs q = num (own f recs q .bit) ∷ cat (f .n - 1) (λ p. bytesOf (own f recs q .mac (nth (f .i) p)))
 
 -- where party j's dm has its MAC for k: "party 2's MAC for 3 starts at byte 33, for 1 at 17"
 unfoldable pub dmMac : ℕ → ℕ → ℕ

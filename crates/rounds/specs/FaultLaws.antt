@@ -1,10 +1,9 @@
 -- What a content check answers: a number and a party. A loop that stops at the first fault, party by party or item by item, finds what
 -- `byParty` and `firstOf` say.
-use mathlib.Core.Path.{_≡_, refl, sym, ap, ap₂, _∙_, subst}
+use mathlib.Core.Path.{_≡_, refl, sym, ap, _∙_, subst}
 use mathlib.Core.Bool.{Bool, true, false}
 use mathlib.Core.Logic.{_≢_}
 use Prim.Native.Nat.{ℕ, zero, suc, _+_, _<_}
-use native.Mathlib.Nat.{le-refl}
 use native.Mathlib.Numerals.{add-one}
 use native.Mathlib.Omega.{arith}
 use lib.Dec.{ltb}
@@ -12,10 +11,9 @@ use borrow.Author.Tests.{ltb-true, ltb-false}
 use Rattle.lists.specs.Pick.{pick}
 use Rattle.algebra.specs.Sum.{neq, neq-true}
 use Rattle.engine.specs.Step.{Fault, frame, orElse, scan, byParty}
-use Rattle.engine.specs.StepLaws.{or-none, or-first, or-zero, last-or, scan-ext, scan-first}
+use Rattle.engine.specs.StepLaws.{other-neq, or-none, or-first, or-zero, last-or, scan-ext, scan-first}
 use Rattle.rounds.specs.Area.{firstOf}
 use Rattle.rounds.specs.MailLaws.{neq-same}
-use Rattle.rounds.specs.RowsLaws.{other-neq}
 
 -- the number is the definition's, and so is the party where there is a fault
 pub record Finds (code party : ℕ) (e : Fault) : Type 0 where
@@ -36,7 +34,7 @@ fault-other i k x c ne e = e ∙ ap (λ b. pick b (c k) 0) (sym (neq-true i k (�
 module _ (n i : ℕ) (c : ℕ → ℕ) where
   by-scan : (l : ℕ) → byParty (frame n l i) c ≡ scan n (faultAt i c)
   unfolding byParty
-  by-scan l = scan-ext n _ _ (λ k h. ap (λ b. pick b (c k) 0) (other-neq n l i k h))
+  by-scan l = scan-ext n _ _ (λ k h. ap (λ b. pick b (c k) 0) (other-neq (frame n l i) k h))
 
   pub clean-zero : scan 0 (faultAt i c) .code ≡ 0
   unfolding scan

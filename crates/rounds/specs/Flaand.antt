@@ -1,5 +1,5 @@
--- `flaand` (document 01, "What each round means"; WRK17b, Pi_LaAND): the leaky AND and its check. Rounds 15, 17 and 19. `recs` is the list of
--- records, leaky and zs the rows that `fhaand` kept, `m k` the message of party k.
+-- `flaand` (document 01, "What each round means"; WRK17b, Pi_LaAND): the leaky AND and its check. Rounds 15, 17 and 19. `recs` is the list
+-- of records, leaky and zs the rows that `fhaand` kept, `m k` the message of party k.
 use mathlib.Core.Bool.{Bool}
 use mathlib.Core.List.{List}
 use Prim.Native.Nat.{ℕ, _+_, _*_}

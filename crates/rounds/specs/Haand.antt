@@ -1,5 +1,5 @@
--- `fhaand` (document 01, "What each round means"; WRK17b, Pi_HaAND): the half AND. Round 14. `recs` is the list of records, `m k` the message of
--- party k. What `flaand` needs of the same hashes is computed here, so that none is computed twice.
+-- `fhaand` (document 01, "What each round means"; WRK17b, Pi_HaAND): the half AND. Round 14. `recs` is the list of records, `m k` the
+-- message of party k. What `flaand` needs of the same hashes is computed here, so that none is computed twice.
 use mathlib.Core.Bool.{Bool, cond}
 use mathlib.Core.List.{List, [], _∷_, _++_}
 use Prim.Native.Nat.{ℕ, _+_, _*_}

@@ -1,5 +1,5 @@
 -- What the rows of LEAKY hold, read back.
-use mathlib.Core.Path.{_≡_, refl, sym, ap, ap₂, _∙_}
+use mathlib.Core.Path.{_≡_, sym, ap, ap₂, _∙_}
 use mathlib.Core.Logic.{_≢_}
 use mathlib.Core.List.{List, [], _∷_, _++_}
 use Prim.Native.Nat.{ℕ, suc, _+_, _*_, _<_, _≤_}
@@ -7,7 +7,7 @@ use native.Mathlib.Omega.{arith}
 use lib.ListN.{length, getD, length-append}
 use lib.Seq.{getD-append-add}
 use Rattle.lists.specs.Over.{cat, in-chunks}
-use Rattle.lists.specs.Rows.{chunk, chunk-cat, getD-chunk}
+use Rattle.lists.specs.Rows.{chunk-cat, getD-chunk}
 use Rattle.algebra.specs.Group.{XorGroup, num}
 use Rattle.algebra.specs.Sum.{others}
 use Rattle.block.specs.declared.Block.{Block}
@@ -64,7 +64,7 @@ module _ (f : Frame) (delta : Block) (recs : List ℕ) where
       ∙ ap (λ (s : List ℕ). getD s (j * 18 + q) 0) (sym (rows-of f 18 g))
       ∙ sym (getD-chunk 18 j (cat (f .n) (rowOf (f .i) 18 g)) q 0 lq)
       ∙ ap (λ (s : List ℕ). getD s q 0)
-      (chunk-cat 18 (f .n) (rowOf (f .i) 18 g) (λ k l. length-rowOf (f .i) 18 g k (length-leakyEntry t k)) j lj ∙ row-other (f .i) 18 g j ne)
+      (chunk-cat 18 (f .n) (rowOf (f .i) 18 g) (λ k l. length-rowOf (f .i) 18 g k (λ ne. length-leakyEntry t k)) j lj ∙ row-other (f .i) 18 g j ne)
 
   -- the two bits H
   module _ (t j p : ℕ) (lt : t < leaky (f .l)) (lj : j < f .n) (ne : f .i ≢ j) where

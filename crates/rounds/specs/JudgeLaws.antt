@@ -1,4 +1,5 @@
--- A content check finds one of its round's numbers, and names a party of the session: so what waits for an echo is found again, and fits two bytes.
+-- A content check finds one of its round's numbers, and names a party of the session: so what waits for an echo is found again, and fits
+-- two bytes.
 use mathlib.Core.Path.{_≡_, refl}
 use mathlib.Core.Bool.{Bool, true, false, _&&_, _||_}
 use mathlib.Core.Logic.{_≢_}

@@ -12,13 +12,9 @@ pub mod Mail
 pub mod Table
 pub mod Opening
 pub mod OpeningLaws
-pub mod OthersLaws
-pub mod RowsLaws
 pub mod FaultLaws
 pub mod TossLaws
 pub mod MailLaws
-pub mod AreaLaws
-pub mod SentLaws
 pub mod HaandLaws
 pub mod Loops
 pub mod Combine

@@ -1,32 +1,25 @@
--- Loops in the code of the rounds, turn by turn: sums over the other parties, a row for each party, a message to each other party, and a section of
--- the work area that is written row by row while other sections are read.
+-- Loops in the code of the rounds, turn by turn: sums over the other parties, a row for each party, a message to each other party, and a
+-- section of the work area that is written row by row while other sections are read.
 use mathlib.Core.Path.{_≡_, refl, sym, ap, ap₂, _∙_, subst}
-use mathlib.Core.Bool.{Bool, true, false, _&&_}
+use mathlib.Core.Bool.{Bool, true, false}
 use mathlib.Core.Logic.{_≢_}
 use mathlib.Core.List.{List, _++_}
 use Prim.Native.Nat.{ℕ, _+_, _-_, _*_, _<_, _≤_}
-use native.Mathlib.Nat.{add-zero, zero-mul}
+use native.Mathlib.Nat.{add-zero}
 use native.Mathlib.Numerals.{add-one}
 use native.Mathlib.Omega.{arith}
 use lib.ListN.{length, take, drop, replicate, length-append, length-replicate, take-append-drop}
-use lib.Dec.{ltb}
-use borrow.Author.Tests.{lt-ltb}
 use borrow.Rule.Slice.PartMut.{putMid}
 use Rattle.lists.specs.Pick.{pick}
-use Rattle.lists.specs.Over.{cat, cat-add, length-cat, over-put, length-over, over-full, in-chunks, next-chunk, Written, written-zero}
-use Rattle.lists.specs.Over.{written-turn, written-end}
-use Rattle.lists.specs.Rows.{cat-ext}
+use Rattle.lists.specs.Over.{cat, cat-add, length-cat, over-put, length-over, over-full, in-chunks, Written}
+use Rattle.lists.specs.Rows.{cat-ext, even-zero, even-put, even-turn, even-end}
 use Rattle.lists.specs.Sect.{length-get}
 use Rattle.algebra.specs.Group.{XorGroup, sel}
-use Rattle.algebra.specs.Sum.{neq, neq-self, neq-true, sum, others}
-use Rattle.block.specs.Block.{le8}
-use Rattle.block.specs.Trip.{length-le8}
-use Rattle.encode.specs.Encode.{encode}
-use Rattle.plan.specs.Plan as Plan
-use Rattle.plan.specs.PlanLaws.{other-below}
+use Rattle.algebra.specs.Sum.{neq, neq-self, neq-true, sum, others, Same, apart, apart?}
 use Rattle.engine.specs.declared.Frame.{Frame}
-use Rattle.engine.specs.Step.{other}
-use Rattle.engine.specs.Area.{off, sec, putSec, nth, toOthers, length-sec, length-putSec, sec-same, sec-other, putSec-twice, put-sec}
+use Rattle.engine.specs.StepLaws.{other-neq}
+use Rattle.engine.specs.Area.{off, sec, putSec, nth, nth-below, toOthers, length-sec, length-putSec, sec-same, sec-other, putSec-twice}
+use Rattle.engine.specs.Area.{put-sec}
 use Rattle.rounds.specs.Area.{rows}
 
 -- ---- sums over all parties but one
@@ -44,24 +37,20 @@ unfoldable pub rowOf : ℕ → ℕ → (ℕ → List ℕ) → ℕ → List ℕ
 rowOf i m g k = pick (neq i k) (g k) (replicate m 0)
 
 pub rows-of : (f : Frame) (m : ℕ) (g : ℕ → List ℕ) → cat (f .n) (rowOf (f .i) m g) ≡ rows f m g
-unfolding rows rowOf other
-rows-of f m g = cat-ext (f .n) _ _ (λ k l. ap (λ b. pick b (g k) (replicate m 0)) (at (neq (f .i) k) (ltb k (f .n)) (lt-ltb k (f .n) l)))
-  where
-    at : (a b : Bool) → b ≡ true → a ≡ (a && b)
-    at true b e = sym e
-    at false b e = refl
+unfolding rows rowOf
+rows-of f m g = cat-ext (f .n) _ _ (λ k l. ap (λ b. pick b (g k) (replicate m 0)) (sym (other-neq f k l)))
 
-pub length-rowOf : (i m : ℕ) (g : ℕ → List ℕ) (k : ℕ) → length (g k) ≡ m → length (rowOf i m g k) ≡ m
+pub length-rowOf : (i m : ℕ) (g : ℕ → List ℕ) (k : ℕ) → (i ≢ k → length (g k) ≡ m) → length (rowOf i m g k) ≡ m
 unfolding rowOf
-length-rowOf i m g k h = go (neq i k)
+length-rowOf i m g k h = go (neq i k) (apart? i k)
   where
-    go : (b : Bool) → length (pick b (g k) (replicate m 0)) ≡ m
-    go true = h
-    go false = length-replicate m 0
+    go : (b : Bool) → Same i k b → length (pick b (g k) (replicate m 0)) ≡ m
+    go true (apart ne) = h ne
+    go false s = length-replicate m 0
 
 pub length-rows : (f : Frame) (m : ℕ) (g : ℕ → List ℕ) → ((k : ℕ) → k < f .n → length (g k) ≡ m) → length (rows f m g) ≡ f .n * m
 length-rows f m g h =
-    ap length (sym (rows-of f m g)) ∙ length-cat (f .n) m (rowOf (f .i) m g) (λ k l. length-rowOf (f .i) m g k (h k l))
+    ap length (sym (rows-of f m g)) ∙ length-cat (f .n) m (rowOf (f .i) m g) (λ k l. length-rowOf (f .i) m g k (λ ne. h k l))
 
 pub neq-own : (i k : ℕ) → i ≡ k → neq i k ≡ false
 neq-own i k e = ap (neq i) (sym e) ∙ neq-self i
@@ -81,16 +70,6 @@ pub row-other : (i m : ℕ) (g : ℕ → List ℕ) (k : ℕ) → i ≢ k → row
 unfolding rowOf
 row-other i m g k e = ap (λ b. pick b (g k) (replicate m 0)) (neq-true i k e)
 
--- ---- a list of c items of one length
-pub length-encode : (c size : ℕ) (g : ℕ → List ℕ) → ((t : ℕ) → t < c → length (g t) ≡ size) → length (encode c g) ≡ 8 + c * size
-unfolding encode
-length-encode c size g h = length-append (le8 c) (cat c g) ∙ ap₂ _+_ (length-le8 c) (length-cat c size g h)
-
--- ---- the q-th party but i
-pub nth-other : (i q : ℕ) → Plan.other i q ≡ nth i q
-unfolding Plan.other nth
-nth-other i q = ap (λ k. pick (ltb q i) q k) (add-one q)
-
 -- ---- a message of m bytes to each other party, one after another; len is m as the code has it
 module _ (n i m : ℕ) (g : ℕ → List ℕ) where
   -- d is l with the messages of the first q in place of its first bytes
@@ -98,23 +77,29 @@ module _ (n i m : ℕ) (g : ℕ → List ℕ) where
   Sent q l d = Written (λ q. g (nth i q)) q (q * m) l d
 
   pub sent-none : (l : List ℕ) → Sent 0 l l
-  sent-none l = rw (zero-mul m) (written-zero _ l)
+  sent-none l = even-zero (λ q. g (nth i q)) m l
 
   module _ (len q : ℕ) (l d : List ℕ) (is : len ≡ m) (whole : length l ≡ (n - 1) * m) (w : Sent q l d) where
     pub sent-in : q < n - 1 → q * len + len ≤ length d
     sent-in h = omega (arith, in-chunks q (n - 1) m h, w .same, ap (λ k. q * k) is)
 
-    pub sent-turn : ((k : ℕ) → k < n → length (g k) ≡ m) → (k : ℕ) (x : List ℕ) → q < n - 1 → k ≡ Plan.other i q → x ≡ g k
+    pub sent-turn : ((k : ℕ) → k < n → length (g k) ≡ m) → (k : ℕ) (x : List ℕ) → q < n - 1 → k ≡ nth i q → x ≡ g k
         → Sent (q + 1) l (putMid (q * len) (q * len + len - q * len) d x)
     sent-turn long k x h hk hx =
         subst (λ z. Sent (q + 1) l (putMid (q * z) (q * z + z - q * z) d x)) (sym is)
-        (written-turn (λ q. g (nth i q)) q (q * m) (q * m + m) ((q + 1) * m) l d x w (hx ∙ ap g (hk ∙ nth-other i q))
-        (ap (λ k. q * m + k) (ap (λ k. length (g k)) (sym (nth-other i q)) ∙ long (Plan.other i q) (other-below n i q h)))
-        (omega (arith, in-chunks q (n - 1) m h)) (sym (next-chunk q m)))
+        (even-put (λ q. g (nth i q)) (n - 1) m l whole q (q * m + m) d x h w (long (nth i q) (nth-below n i q h)) (hx ∙ ap g hk) refl)
+
+    -- the same, where x is as long as what was lent
+    pub sent-back : (k : ℕ) (x : List ℕ) → q < n - 1 → k ≡ nth i q → x ≡ g k
+        → length x ≡ length (take (q * len + len - q * len) (drop (q * len) d))
+        → Sent (q + 1) l (putMid (q * len) (q * len + len - q * len) d x)
+    sent-back k x h hk hx hl =
+        subst (λ z. length x ≡ length (take (q * z + z - q * z) (drop (q * z) d)) → Sent (q + 1) l (putMid (q * z) (q * z + z - q * z) d x)) (sym is)
+        (even-turn (λ q. g (nth i q)) (n - 1) m l whole q d x h w (hx ∙ ap g hk)) hl
 
     pub sent-end : q ≡ n - 1 → d ≡ toOthers n i g
     unfolding toOthers
-    sent-end e = written-end _ q (n - 1) (q * m) l d w e (omega (arith, ap (λ k. k * m) e))
+    sent-end e = even-end (λ q. g (nth i q)) (n - 1) m l whole q d w e
 
 -- ---- a section, lent as `&w[a..e]`
 -- a part of m bytes, lent as `&mut w[p..e]`

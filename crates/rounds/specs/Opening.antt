@@ -61,7 +61,8 @@ bytesFault a =
     (orFault (recordsFault (a .party .n) (a .party .i) (a .beta) (a .party .l))
     (masksFault a)))
 
--- "15, 16, 3 for l = 0, 6, 17": the first that the numbers and the lengths give, or 0; the rest: whether all but the share lists is as long as it should
+-- "15, 16, 3 for l = 0, 6, 17": the first that the numbers and the lengths give, or 0; the rest: whether all but the share lists is as long
+-- as it should
 unfoldable pub lengthsFault : Frame → ℕ → ℕ → ℕ → Bool → ℕ
 lengthsFault f bits alpha beta rest =
     pick (leb 2 (f .n) && leb (f .n) 8 && ltb (f .i) (f .n))

@@ -11,7 +11,9 @@ use Rattle.block.specs.Block.{blockAt}
 use Rattle.share.specs.Record.{recordLen}
 use Rattle.permutation.specs.Permutation.{isPerm}
 use Rattle.message.specs.Format.{listOf, formOf}
-use Rattle.plan.specs.Plan.{theRounds, kindOf, countDue, msgLen, leaky, rLen}
+use Rattle.plan.specs.Plan.{RNG-COMM, RNG-VER, PAIR-COMM, PAIR-VER, FABITN, FASHARE-COMM, FASHARE-VER, FASHARE-DIBI, HAAND, FLAAND}
+use Rattle.plan.specs.Plan.{FLAAND-COMM, FLAAND-HASH}
+use Rattle.plan.specs.Plan.{DVALUE, FAAND, theRounds, kindOf, countDue, msgLen, leaky, rLen}
 use Rattle.engine.specs.declared.Frame.{Frame}
 use Rattle.engine.specs.Step.{Fault, none?, Loan}
 use Rattle.engine.specs.Plain.{Recv, Send, Table}
@@ -40,43 +42,43 @@ Keep = Frame → List ℕ → (ℕ → List ℕ) → List ℕ
 -- the content check
 unfoldable pub judge : ℕ → Judge
 judge k f w m =
-    pick (eqb k 3) (Toss.opening f (at f COMMS w) m)
-    (pick (eqb k 5) (Toss.opening f (at f PAIR-COMMS w) m)
-    (pick (eqb k 6) (Fabitn.abits f (delta f w) (at f KEY-SUMS w) m)
-    (pick (eqb k 10) (Fashare.dmFaults f m)
-    (pick (eqb k 12) (Fashare.dibiFaults f (at f BITS w) (at f SHARE-COMMS w) (at f DMS w) m)
-    (pick (eqb k 19) (Flaand.hFaults f (at f HS w) (at f H-COMMS w) m)
-    (pick (eqb k 21) (Buckets.dFaults f (delta f w) (at f BITS w) (at f PERM w) m)
-    (pick (eqb k 22) (Beaver.deFaults f (delta f w) (at f BITS w) (at f PERM w) (at f TRIPLES w) (at f ALPHA w) (at f BETA w) m)
+    pick (eqb k RNG-VER) (Toss.opening f (at f COMMS w) m)
+    (pick (eqb k PAIR-VER) (Toss.opening f (at f PAIR-COMMS w) m)
+    (pick (eqb k FABITN) (Fabitn.abits f (delta f w) (at f KEY-SUMS w) m)
+    (pick (eqb k FASHARE-VER) (Fashare.dmFaults f m)
+    (pick (eqb k FASHARE-DIBI) (Fashare.dibiFaults f (at f BITS w) (at f SHARE-COMMS w) (at f DMS w) m)
+    (pick (eqb k FLAAND-HASH) (Flaand.hFaults f (at f HS w) (at f H-COMMS w) m)
+    (pick (eqb k DVALUE) (Buckets.dFaults f (delta f w) (at f BITS w) (at f PERM w) m)
+    (pick (eqb k FAAND) (Beaver.deFaults f (delta f w) (at f BITS w) (at f PERM w) (at f TRIPLES w) (at f ALPHA w) (at f BETA w) m)
     none?)))))))
 
 -- what is kept of them
 unfoldable pub kept : ℕ → Keep
 kept k f w m =
-    pick (eqb k 1) (keep f COMMS (Toss.toldRows f m) w)
-    (pick (eqb k 3) (keep f JOINT (Toss.jointSeed f (at f SEED w) m) w)
-    (pick (eqb k 4) (keep f PAIR-COMMS (Toss.toldRows f m) w)
-    (pick (eqb k 5) (keep f PAIRWISE (Toss.pairwiseSeeds f (at f PAIRS w) m) w)
-    (pick (eqb k 8) (keep f SHARE-COMMS (Fashare.commRows f m) w)
-    (pick (eqb k 10) (keep f DMS (Fashare.dmRows f m) w)
-    (pick (eqb k 14) (keep f ZS (Haand.zRows f (at f MASKS w) (at f BITS w) m) w)
-    (pick (eqb k 15) (keep f HS (Flaand.hs f (delta f w) (at f BITS w) (at f LEAKY w) (at f ZS w) m)
+    pick (eqb k RNG-COMM) (keep f COMMS (Toss.toldRows f m) w)
+    (pick (eqb k RNG-VER) (keep f JOINT (Toss.jointSeed f (at f SEED w) m) w)
+    (pick (eqb k PAIR-COMM) (keep f PAIR-COMMS (Toss.toldRows f m) w)
+    (pick (eqb k PAIR-VER) (keep f PAIRWISE (Toss.pairwiseSeeds f (at f PAIRS w) m) w)
+    (pick (eqb k FASHARE-COMM) (keep f SHARE-COMMS (Fashare.commRows f m) w)
+    (pick (eqb k FASHARE-VER) (keep f DMS (Fashare.dmRows f m) w)
+    (pick (eqb k HAAND) (keep f ZS (Haand.zRows f (at f MASKS w) (at f BITS w) m) w)
+    (pick (eqb k FLAAND) (keep f HS (Flaand.hs f (delta f w) (at f BITS w) (at f LEAKY w) (at f ZS w) m)
     (keep f ES (Flaand.eRows f m) w))
-    (pick (eqb k 17) (keep f H-COMMS (Flaand.commRows f m) w)
-    (pick (eqb k 21) (keep f DS (Buckets.ds f (at f BITS w) (at f PERM w) m) w)
+    (pick (eqb k FLAAND-COMM) (keep f H-COMMS (Flaand.commRows f m) w)
+    (pick (eqb k DVALUE) (keep f DS (Buckets.ds f (at f BITS w) (at f PERM w) m) w)
     w)))))))))
 
 -- the numbers that the content check can find
 unfoldable pub faults : ℕ → List ℕ
 faults k =
-    pick (eqb k 3) (2 ∷ [])
-    (pick (eqb k 5) (2 ∷ [])
-    (pick (eqb k 6) (8 ∷ [])
-    (pick (eqb k 10) (4 ∷ 1 ∷ [])
-    (pick (eqb k 12) (2 ∷ 9 ∷ [])
-    (pick (eqb k 19) (2 ∷ 10 ∷ [])
-    (pick (eqb k 21) (11 ∷ [])
-    (pick (eqb k 22) (12 ∷ [])
+    pick (eqb k RNG-VER) (2 ∷ [])
+    (pick (eqb k PAIR-VER) (2 ∷ [])
+    (pick (eqb k FABITN) (8 ∷ [])
+    (pick (eqb k FASHARE-VER) (4 ∷ 1 ∷ [])
+    (pick (eqb k FASHARE-DIBI) (2 ∷ 9 ∷ [])
+    (pick (eqb k FLAAND-HASH) (2 ∷ 10 ∷ [])
+    (pick (eqb k DVALUE) (11 ∷ [])
+    (pick (eqb k FAAND) (12 ∷ [])
     [])))))))
 
 abbrev pub recv : ℕ → Recv
@@ -98,37 +100,37 @@ noLoan q = pick (eqb (length (q .r)) 0 && eqb (length (q .perm)) 0) 0 17
 -- `dvalue`. k is what the call writes: a round, an echo too, or 0 for the results
 unfoldable pub lent : ℕ → ℕ → ℕ → Loan → ℕ
 lent k n l q =
-    pick (eqb k 6) (pick (eqb (length (q .r)) (rLen l) && eqb (length (q .perm)) 0) 0 17)
-    (pick (eqb k 21) (pick (eqb (length (q .r)) 0 && eqb (length (q .perm)) (leaky l)) (pick (isPerm (q .perm)) 0 18) 17)
+    pick (eqb k FABITN) (pick (eqb (length (q .r)) (rLen l) && eqb (length (q .perm)) 0) 0 17)
+    (pick (eqb k DVALUE) (pick (eqb (length (q .r)) 0 && eqb (length (q .perm)) (leaky l)) (pick (isPerm (q .perm)) 0 18) 17)
     (noLoan q))
 
 -- what is kept when they are made
 unfoldable pub held : ℕ → Frame → Loan → List ℕ → List ℕ
 held k f q w =
-    pick (eqb k 6) (keep f KEY-SUMS (Fabitn.keySums f (q .r) (at f BITS w)) w)
-    (pick (eqb k 14) (keep f LEAKY (Haand.leakyRows f (delta f w) (at f BITS w)) w)
-    (pick (eqb k 17) (keep f H-COMMS (Flaand.ownComms f (at f HS w) (at f H-COMMS w)) w)
-    (pick (eqb k 21) (keep f PERM (Buckets.permBytes f (q .perm)) w)
-    (pick (eqb k 22) (keep f TRIPLES (Buckets.tripleRows f (delta f w) (at f BITS w) (at f ZS w) (at f ES w) (at f PERM w) (at f DS w)) w)
+    pick (eqb k FABITN) (keep f KEY-SUMS (Fabitn.keySums f (q .r) (at f BITS w)) w)
+    (pick (eqb k HAAND) (keep f LEAKY (Haand.leakyRows f (delta f w) (at f BITS w)) w)
+    (pick (eqb k FLAAND-COMM) (keep f H-COMMS (Flaand.ownComms f (at f HS w) (at f H-COMMS w)) w)
+    (pick (eqb k DVALUE) (keep f PERM (Buckets.permBytes f (q .perm)) w)
+    (pick (eqb k FAAND) (keep f TRIPLES (Buckets.tripleRows f (delta f w) (at f BITS w) (at f ZS w) (at f ES w) (at f PERM w) (at f DS w)) w)
     w))))
 
 -- the message of round k to party r
 unfoldable pub written : ℕ → Frame → Loan → List ℕ → ℕ → List ℕ
 written k f q w r =
-    pick (eqb k 1) (Toss.commMsg (at f SEED w) (f .i))
-    (pick (eqb k 3) (Toss.verMsg (at f SEED w))
-    (pick (eqb k 4) (Toss.commMsg (chunk 32 r (at f PAIRS w)) (f .i))
-    (pick (eqb k 5) (Toss.verMsg (chunk 32 r (at f PAIRS w)))
-    (pick (eqb k 6) (Fabitn.abitMsg f (q .r) (at f BITS w) r)
-    (pick (eqb k 8) (Fashare.commMsg f (delta f w) (at f BITS w))
-    (pick (eqb k 10) (Fashare.verMsg f (at f BITS w))
-    (pick (eqb k 12) (Fashare.dibiMsg f (delta f w) (at f BITS w) (at f DMS w))
-    (pick (eqb k 14) (Haand.haandMsg f (delta f w) (at f MASKS w) (at f BITS w) r)
-    (pick (eqb k 15) (Flaand.flaandMsg f (at f BITS w) (at f LEAKY w) (at f ZS w) r)
-    (pick (eqb k 17) (Flaand.commMsg f (at f HS w))
-    (pick (eqb k 19) (Flaand.hashMsg f (at f HS w))
-    (pick (eqb k 21) (Buckets.dvalueMsg f (at f BITS w) (at f PERM w) r)
-    (pick (eqb k 22) (Beaver.faandMsg f (at f BITS w) (at f PERM w) (at f TRIPLES w) (at f ALPHA w) (at f BETA w) r)
+    pick (eqb k RNG-COMM) (Toss.commMsg (at f SEED w) (f .i))
+    (pick (eqb k RNG-VER) (Toss.verMsg (at f SEED w))
+    (pick (eqb k PAIR-COMM) (Toss.commMsg (chunk 32 r (at f PAIRS w)) (f .i))
+    (pick (eqb k PAIR-VER) (Toss.verMsg (chunk 32 r (at f PAIRS w)))
+    (pick (eqb k FABITN) (Fabitn.abitMsg f (q .r) (at f BITS w) r)
+    (pick (eqb k FASHARE-COMM) (Fashare.commMsg f (delta f w) (at f BITS w))
+    (pick (eqb k FASHARE-VER) (Fashare.verMsg f (at f BITS w))
+    (pick (eqb k FASHARE-DIBI) (Fashare.dibiMsg f (delta f w) (at f BITS w) (at f DMS w))
+    (pick (eqb k HAAND) (Haand.haandMsg f (delta f w) (at f MASKS w) (at f BITS w) r)
+    (pick (eqb k FLAAND) (Flaand.flaandMsg f (at f BITS w) (at f LEAKY w) (at f ZS w) r)
+    (pick (eqb k FLAAND-COMM) (Flaand.commMsg f (at f HS w))
+    (pick (eqb k FLAAND-HASH) (Flaand.hashMsg f (at f HS w))
+    (pick (eqb k DVALUE) (Buckets.dvalueMsg f (at f BITS w) (at f PERM w) r)
+    (pick (eqb k FAAND) (Beaver.faandMsg f (at f BITS w) (at f PERM w) (at f TRIPLES w) (at f ALPHA w) (at f BETA w) r)
     [])))))))))))))
 
 abbrev pub send : ℕ → Send

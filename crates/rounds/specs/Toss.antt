@@ -1,5 +1,5 @@
--- Tosses (document 01, "What each round means"; `shared_rng`, `shared_rng_pairwise`): rounds 1 and 3 toss the joint seed, 4 and 5 the pairwise ones.
--- `m k` is the message of party k.
+-- Tosses (document 01, "What each round means"; `shared_rng`, `shared_rng_pairwise`): rounds 1 and 3 toss the joint seed, 4 and 5 the
+-- pairwise ones. `m k` is the message of party k.
 use mathlib.Core.List.{List, [], _∷_, _++_}
 use Prim.Native.Nat.{ℕ, _+_, _*_, _/_, _%_}
 use lib.ListN.{getD, take, drop}

@@ -5,12 +5,12 @@ use mathlib.Core.List.{List, [], _∷_, _++_, append-assoc}
 use Prim.Native.Nat.{ℕ, _+_, _-_, _*_, _<_, _≤_}
 use native.Mathlib.Numerals.{add-one}
 use native.Mathlib.Omega.{arith}
-use lib.ListN.{length, getD, take, drop, set, replicate, length-append, length-drop, getD-replicate}
+use lib.ListN.{length, getD, drop, set, replicate, length-append, length-drop, getD-replicate}
 use lib.Seq.{set-at, length-take-le, ext-getD}
 use lib.Bits.{bitXor, xor-zero-r}
 use borrow.Rule.Slice.PartMut.{putMid}
 use Rattle.lists.specs.Pick.{pick}
-use Rattle.lists.specs.Over.{cat, tab, length-tab, getD-tab, length-take-drop}
+use Rattle.lists.specs.Over.{tab, length-tab, getD-tab}
 use Rattle.lists.specs.Rows.{chunk}
 use Rattle.lists.specs.Sect.{get}
 use Rattle.lists.specs.Same.{same?, same-true, same-false}
@@ -25,10 +25,8 @@ use Rattle.encode.specs.Encode.{encode, dmItem}
 use Rattle.encode.specs.Coded.{length-encode}
 use Rattle.encode.specs.Fields.{encode-bytes}
 use Rattle.engine.specs.Step.{frame}
-use Rattle.engine.specs.Area.{off, sec}
-use Rattle.rounds.specs.Area.{PAIRS, PAIRWISE, sizes, sizeOf, workLen, at}
-use Rattle.rounds.specs.Toss.{commitment, commMsg, verMsg, told, jointSeed, pairwiseSeeds}
-use Rattle.rounds.specs.RowsLaws.{rows-cat, Laid, laid-before}
+use Rattle.rounds.specs.Area.{PAIRS, PAIRWISE}
+use Rattle.rounds.specs.Toss.{commitment, commMsg, verMsg, told, jointSeed}
 
 -- ---- messages
 -- 34 zeros, the seed copied over their front, and the two bytes of a number stored behind it
@@ -127,45 +125,3 @@ module _ (i : ℕ) (seed : List ℕ) (m : ℕ → List ℕ) where
     where
       f : ℕ → ℕ
       f t = bitXor (getD seed t 0) (sum numbers n (part t))
-
--- ---- the pairwise seeds
--- row k: zero for the own number
-abbrev pub pairRow : ℕ → List ℕ → (ℕ → List ℕ) → ℕ → List ℕ
-pairRow i pairs m k = pick (neq i k) (xorInplace (chunk 32 k pairs) (told (m k))) (replicate 32 0)
-
-pub pair-rows : (n l i : ℕ) (pairs : List ℕ) (m : ℕ → List ℕ) → cat n (pairRow i pairs m) ≡ pairwiseSeeds (frame n l i) pairs m
-unfolding pairwiseSeeds
-pair-rows n l i pairs m = rows-cat n l i 32 (λ k. xorInplace (chunk 32 k pairs) (told (m k)))
-
--- where the seeds are and where they go, in the work area
-module _ (n l i : ℕ) where
-  pub pairs-size : sizeOf (frame n l i) PAIRS ≡ 32 * n
-  unfolding sizeOf sizes
-  pairs-size = refl
-
-  pub pairwise-size : n * 32 ≡ sizeOf (frame n l i) PAIRWISE
-  unfolding sizeOf sizes
-  pairwise-size = refl
-
-  pub pairs-before : off (sizeOf (frame n l i)) PAIRS + 32 * n ≤ off (sizeOf (frame n l i)) PAIRWISE
-  unfolding off sizeOf sizes
-  pairs-before = omega arith
-
-  pub pairwise-inside : off (sizeOf (frame n l i)) PAIRWISE + n * 32 ≤ workLen (frame n l i)
-  unfolding off sizeOf sizes workLen
-  pairwise-inside = omega arith
-
-  -- the seeds are read while the rows are written
-  module _ (p e o k : ℕ) (g : ℕ → List ℕ) (w v : List ℕ) (hp : p ≡ off (sizeOf (frame n l i)) PAIRS) (he : e ≡ p + 32 * n)
-      (ho : o ≡ off (sizeOf (frame n l i)) PAIRWISE) (d : Laid g 32 o k w v) where
-    pub pairs-there : take (e - p) (drop p v) ≡ at (frame n l i) PAIRS w
-    unfolding at sec
-    pairs-there =
-        let q : e - p ≡ 32 * n = omega arith in
-        ap (λ j. take j (drop p v)) q ∙ laid-before g 32 o w k v d p (32 * n) (omega (arith, pairs-before))
-        ∙ ap₂ (λ a j. take j (drop a w)) hp (sym pairs-size)
-
-    pub length-pairs : length w ≡ workLen (frame n l i) → length (take (e - p) (drop p v)) ≡ 32 * n
-    length-pairs h =
-        let q : e ≤ length v = omega (arith, pairs-before, pairwise-inside, d .same) in
-        length-take-drop p e v ∙ omega arith

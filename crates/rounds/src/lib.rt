@@ -1,5 +1,5 @@
-// What the rounds of a session are: the definitions in specs/ (document 01, "What each round means"), cited by every crate above. Here: what
-// those crates share.
+// What the rounds of a session are: the definitions in specs/ (document 01, "What each round means"), cited by every crate above. Here:
+// what those crates share.
 ghost use mathlib.Core.Path.{_≡_};
 ghost use mathlib.Core.List.{_++_};
 ghost use Prim.Native.Nat.{ℕ, _+_, _-_, _*_, _<_, _≤_};

@@ -10,7 +10,7 @@ use lib.Dec.{eqb}
 use Rattle.lists.specs.Pick.{pick}
 use Rattle.engine.specs.declared.Frame.{Frame}
 use Rattle.engine.specs.Step.{Fault}
-use Rattle.engine.specs.Plain.{waits, kept, held, digests, hashes}
+use Rattle.engine.specs.Plain.{waits, ifClean, forEcho, digests, hashes}
 use Rattle.engine.specs.PlainLaws.{length-rows}
 use Rattle.engine.specs.Area.{putSec, length-putSec, sec-same, sec-other}
 use Rattle.rounds.specs.Area.{PENDING, HASHES, SECTIONS, sizes, sizeOf, workLen, keep}
@@ -55,7 +55,7 @@ module _ (f : Frame) (k : ℕ) (m : ℕ → List ℕ) where
 
   -- what the two steps leave
   pub held-is : (w v : List ℕ) → v ≡ pick (eqb (Table.judge k f w m .code) 0) (Table.kept k f w m) w
-      → keep f PENDING (waits (Table.judge k f w m)) (keep f HASHES (digests table k f m) v) ≡ held table k f w m
-  unfolding held kept keep
+      → keep f PENDING (waits (Table.judge k f w m)) (keep f HASHES (digests table k f m) v) ≡ forEcho table k f w m
+  unfolding forEcho ifClean keep
   held-is w v e =
       ap (λ (y : List ℕ). putSec (sizeOf f) PENDING (waits (Table.judge k f w m)) (putSec (sizeOf f) HASHES (digests table k f m) y)) e

@@ -18,7 +18,7 @@ use Rattle.plan.specs.PlanLaws.{no-echo}
 use Rattle.engine.specs.declared.Frame.{Frame}
 use Rattle.engine.specs.Step.{none?, Loan, mask}
 use Rattle.engine.specs.Order.{echoIn, nextIn}
-use Rattle.engine.specs.Plain.{toEcho, lenOf, outLenOf, lentOf, checkOf, echoCheck, held, made, keepOf, writeOf, digests}
+use Rattle.engine.specs.Plain.{toEcho, lenOf, outLenOf, lentOf, checkOf, echoCheck, forEcho, made, keepOf, writeOf, digests}
 use Rattle.engine.specs.Area.{toOthers, mem}
 use Rattle.rounds.specs.declared.Mail.{Mail}
 use Rattle.rounds.specs.Echo.{echo, echoMsg}
@@ -121,7 +121,7 @@ module _ (f : Frame) (w : List ℕ) (m : ℕ → List ℕ) (k : ℕ) where
     unfolding keepOf
     keep-last e = rw (eq-eqb k 22 e) refl
 
-    pub keep-held : k ≢ 22 → toEcho table (eqb (f .n) 2) k ≡ true → keepOf table k f q w m ≡ held table k f w m
+    pub keep-held : k ≢ 22 → toEcho table (eqb (f .n) 2) k ≡ true → keepOf table k f q w m ≡ forEcho table k f w m
     unfolding keepOf
     keep-held ne t = rw (ne-eqb k 22 ne, t) refl
 

@@ -1,6 +1,6 @@
-// The round call (document 01, "The call"): it joins what the crates below do for each round. First what is refused and leaves all as it was (20, 19,
-// 17, 18), then the form of each message (14, 13, 6), then the content; an accepted call keeps what it received and writes the messages of the
-// next round, or the results. The definition is `roundSpec` of crate engine at the table of crate rounds.
+// The round call (document 01, "The call"): it joins what the crates below do for each round. First what is refused and leaves all as it
+// was (20, 19, 17, 18), then the form of each message (14, 13, 6), then the content; an accepted call keeps what it received and writes the
+// messages of the next round, or the results. The definition is `roundSpec` of crate engine at the table of crate rounds.
 ghost use mathlib.Core.Path.{_≡_};
 ghost use mathlib.Core.Bool.{true, false};
 ghost use mathlib.Core.List.{List, []};
@@ -11,7 +11,7 @@ ghost use Rattle.lists.specs.Pick.{pick};
 ghost use Rattle.share.specs.Record.{recordLen};
 ghost use Rattle.plan.specs.Plan.{echo?, kindOf, msgLen};
 ghost use Rattle.engine.specs.Step.{mask, replyOf, outcome, faultOf, roundSpec};
-ghost use Rattle.engine.specs.Plain.{protocolOf, ruleOf, toEcho, outLenOf, lentOf, digests, hashes, checkOf, held, made, keepOf, writeOf};
+ghost use Rattle.engine.specs.Plain.{protocolOf, ruleOf, toEcho, outLenOf, lentOf, digests, hashes, checkOf, forEcho, made, keepOf, writeOf};
 ghost use Rattle.engine.specs.Area.{toOthers};
 ghost use Rattle.rounds.specs.Mail.{letter};
 ghost use Rattle.rounds.specs.FaultLaws.{Finds};
@@ -21,16 +21,16 @@ ghost use Rattle.area.specs.Given.{Work};
 ghost use Rattle.admit.specs.Admit.{loan, given, mailOf};
 ghost use Rattle.plain.specs.Plain.{plain};
 ghost use Rattle.session.specs.Given.{Let, Admitted};
-use admit::Heard;
 use engine::Answer;
 use engine::Frame;
 use engine::Session;
 use engine::Verdict;
+use form::Heard;
 use rounds::Fault;
 use rounds::Mail;
 
 // The last round.
-const LAST: usize = 22;
+const LAST: usize = plan::FAAND;
 
 // Whether the call for round k writes an echo.
 fn to_echo(n: usize, k: usize) -> bool
@@ -70,7 +70,7 @@ fn keep_clean(work: &mut [u8], code: u8, incoming: &[u8], mail: Mail, f: Frame, 
 // After a call that writes an echo: what was received without a fault is kept, and the hashes and the fault for the echo.
 fn hold_echo(work: &mut [u8], incoming: &[u8], mail: Mail, f: Frame, k: usize)
     requires { ⌜ Let f k (now work) (now incoming) mail ⌝ }
-    ensures { λ _. ⌜ (now (work .exit) ≡ held table k f (now (work .entry)) (mask f (letter (now (incoming .entry)) mail)))
+    ensures { λ _. ⌜ (now (work .exit) ≡ forEcho table k f (now (work .entry)) (mask f (letter (now (incoming .entry)) mail)))
         × (hashes table f (now (work .exit)) ≡ digests table k f (mask f (letter (now (incoming .entry)) mail))) ⌝ }
 {
     let e = plain::judge(work, incoming, mail, f, k);
@@ -111,7 +111,7 @@ fn finish(w: &mut [u8], out: &mut [u8], incoming: &[u8], mail: Mail, f: Frame)
     ensures { λ _. ⌜ (now (w .exit) ≡ replicate (length (now (w .entry))) 0)
         × (now (out .exit) ≡ table .result f (now (w .entry)) (mask f (letter (now (incoming .entry)) mail))) ⌝ }
 {
-    faand::results(out, w, incoming, mail, f);
+    results::results(out, w, incoming, mail, f);
     fill::clear(w);
 }
 
@@ -162,7 +162,7 @@ fn fault(
         × (e .code ≡ 0 → e .mail ≡ mailOf f (kindOf (f .l) k)
         (given (now (incoming .entry)) (now (starts .entry)) (now (lens .entry)) (now (missing .entry)) [] [] [])) ⌝ }
 {
-    let h = admit::form(incoming, starts, lens, missing, f, k);
+    let h = form::form(incoming, starts, lens, missing, f, k);
     if h.code != 0 {
         return h;
     }
@@ -175,8 +175,8 @@ fn fault(
     }
 }
 
-// The call for round k of the session s, with the messages of the other parties: each in the incoming buffer from its start on, as long as told, or
-// marked missing. r and the permutation are empty but for the calls that write `fabitn` and `dvalue`.
+// The call for round k of the session s, with the messages of the other parties: each in the incoming buffer from its start on, as long as
+// told, or marked missing. r and the permutation are empty but for the calls that write `fabitn` and `dvalue`.
 pub fn round(
     s: Session,
     k: usize,

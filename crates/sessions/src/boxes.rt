@@ -1,4 +1,4 @@
-// The boxes of a session: opening, and the calls of a round, with what came for each.
+// The boxes of a session: opening, which is called round 0 here, and the round calls, with what came for each.
 ghost use Prim.Native.Nat.{_≤_};
 use crate::table::CLEAN;
 use crate::table::DUE;
@@ -11,17 +11,22 @@ use crate::table::ROUND;
 use crate::table::SENT;
 use crate::table::STRINGS;
 use crate::table::Table;
-use crate::table::WORK;
-use crate::table::WORK_LEN;
+use crate::table::ZERO;
 use engine::Answer;
 use engine::Frame;
 use engine::Session;
 use engine::Verdict;
 
+// The work areas, WORK_LEN bytes for each box.
+pub type Works = [u8; 130200];
+
+const WORK_LEN: usize = 43400;
+
 // What an outgoing buffer holds before a call.
 const MARK: u8 = 0x5a;
 
-// A session: how many boxes and results, and the bit that is flipped on the way: the lowest of a byte of the message of a round. No flip: round 0.
+// A session: how many boxes and results, and the bit that is flipped on the way: the lowest of a byte of the message of a round. No flip:
+// round 0.
 pub struct Play {
     pub n: usize,
     pub l: usize,
@@ -38,78 +43,43 @@ fn small(x: usize) -> u8 {
     if x < 256 { x as u8 } else { 255 }
 }
 
-fn code_of(v: Verdict) -> u8 {
-    match v {
-        Verdict::Accepted => 0,
-        Verdict::Refused(code, _) => code,
-    }
-}
-
-fn party_of(v: Verdict) -> u8 {
-    match v {
-        Verdict::Accepted => 0,
-        Verdict::Refused(_, party) => small(party),
-    }
-}
-
 // What box i answered in round k.
 fn note(t: &mut Table, a: Answer, i: usize, k: usize) {
     let room = crate::table::room(i);
     let s = a.session;
     let v = a.verdict;
     crate::table::put(t, room + DUE, small(s.due));
-    crate::table::put(t, room + NUMBER, code_of(v));
-    crate::table::put(t, room + PARTY, party_of(v));
     crate::table::put(t, room + ROUND, small(k));
-}
-
-// What a call left in the box's memory, and whether it is what a refusal leaves: zeros, and the buffer as it was.
-fn keep(t: &mut Table, i: usize, work: &[u8; 43400], w: usize, out: &[u8; 7696]) {
-    let room = crate::table::room(i);
-    let clean = crate::table::only(crate::table::part(work, 0, w), 0)
-        & crate::table::only(out, MARK);
-    crate::table::store(t, room + WORK, work);
-    crate::table::store(t, room + OUT, out);
-    crate::table::put(t, room + CLEAN, block::bit_byte(clean));
+    match v {
+        Verdict::Accepted => {
+            crate::table::put(t, room + NUMBER, 0);
+        }
+        Verdict::Refused(code, party) => {
+            crate::table::put(t, room + NUMBER, code);
+            crate::table::put(t, room + PARTY, small(party));
+        }
+    }
 }
 
 // ---- opening
 
 fn opened(t: &Table, n: usize, i: usize, l: usize, work: &mut [u8], out: &mut [u8]) -> Answer {
-    let at = crate::table::room(i);
+    let x = crate::table::part(t, crate::table::room(i), 19008);
     let shares = plan::shares_len(n, l);
     opening::open(
         n,
         i,
         l,
-        crate::table::part(t, at, 16),
-        crate::table::part(t, at + 16, 32),
-        crate::table::part(t, at + 48, plan::pairs_len(n)),
-        crate::table::part(t, at + 576, plan::bits_len(n, l)),
-        crate::table::part(t, at + 176, shares),
-        crate::table::part(t, at + 376, shares),
-        crate::table::part(t, at + 144, plan::masks_len(n, l)),
+        crate::table::part(x, 0, 16),
+        crate::table::part(x, 16, 32),
+        crate::table::part(x, 48, plan::pairs_len(n)),
+        crate::table::part(x, 576, plan::bits_len(n, l)),
+        crate::table::part(x, 176, shares),
+        crate::table::part(x, 376, shares),
+        crate::table::part(x, 144, plan::masks_len(n, l)),
         work,
         out,
     )
-}
-
-fn open(t: &mut Table, n: usize, i: usize, l: usize) {
-    let w = crate::table::least(area::work_len(n, l), WORK_LEN);
-    let o = crate::table::least(plan::out_len(n, l, 0), OUT_LEN);
-    let mut work = [0xa5u8; 43400];
-    let mut out = [0u8; 7696];
-    let a = opened(t, n, i, l, &mut work[0..w], &mut out[0..o]);
-    keep(t, i, &work, w, &out);
-    note(t, a, i, 0);
-}
-
-pub(crate) fn open_all(t: &mut Table, n: usize, l: usize) {
-    let mut i = 0;
-    while i < n {
-        open(t, n, i, l);
-        i += 1;
-    }
 }
 
 // ---- mail
@@ -133,7 +103,7 @@ pub(crate) fn sent_len(n: usize, l: usize, k: usize) -> usize
 
 // Where the message for box i starts in the table, of box j's, which have len bytes.
 fn letter(i: usize, j: usize, len: usize) -> usize
-    ensures { λ r. ⌜ r ≤ 233415 ⌝ }
+    ensures { λ r. ⌜ r ≤ 103218 ⌝ }
 {
     let sent = crate::table::room(j) + SENT;
     if (i == 0) | ((i == 1) & (j == 0)) {
@@ -200,12 +170,20 @@ fn indices(s: &[u32; 10], n: usize) -> &[u32] {
     &t[0..n]
 }
 
-// Box i's call for round k, messages of len bytes.
-fn called(t: &Table, s: Session, k: usize, len: usize, work: &mut [u8], out: &mut [u8]) -> Answer {
-    let party = s.party;
-    let n = party.n;
-    let i = party.i;
-    let l = party.l;
+fn called(
+    t: &Table,
+    n: usize,
+    i: usize,
+    l: usize,
+    k: usize,
+    work: &mut [u8],
+    out: &mut [u8],
+) -> Answer {
+    let s = Session {
+        party: Frame { n: n, i: i, l: l },
+        due: crate::table::noted(t, i, DUE),
+    };
+    let len = message_len(n, l, k);
     let starts = [letter(i, 0, len), letter(i, 1, len), letter(i, 2, len)];
     let lens = [len, len, len];
     let missing = [absent(t, 0, k), absent(t, 1, k), absent(t, 2, k)];
@@ -224,31 +202,50 @@ fn called(t: &Table, s: Session, k: usize, len: usize, work: &mut [u8], out: &mu
     )
 }
 
-// The same, on the box's memory; the answer goes to the log.
-fn call(t: &mut Table, n: usize, i: usize, l: usize, k: usize) {
-    let w = crate::table::least(area::work_len(n, l), WORK_LEN);
-    let o = crate::table::least(plan::out_len(n, l, k), OUT_LEN);
-    let mut work = [0u8; 43400];
-    let mut out = [MARK; 7696];
-    crate::table::load(&mut work, t, crate::table::room(i) + WORK);
-    let s = Session {
-        party: Frame { n: n, i: i, l: l },
-        due: crate::table::noted(t, i, DUE),
-    };
-    let a = called(
-        t,
-        s,
-        k,
-        message_len(n, l, k),
-        &mut work[0..w],
-        &mut out[0..o],
-    );
-    keep(t, i, &work, w, &out);
+// ---- the calls
+
+// Box i's call for round k.
+fn answer(
+    t: &Table,
+    n: usize,
+    i: usize,
+    l: usize,
+    k: usize,
+    work: &mut [u8],
+    out: &mut [u8],
+) -> Answer {
+    if k == 0 {
+        return opened(t, n, i, l, work, out);
+    }
+    called(t, n, i, l, k, work, out)
+}
+
+// The same; what it answered and left goes to the room.
+fn keep(t: &mut Table, n: usize, i: usize, l: usize, k: usize, work: &mut [u8], out: &mut [u8]) {
+    let a = answer(t, n, i, l, k, work, out);
     note(t, a, i, k);
+    let room = crate::table::room(i);
+    let zero = crate::table::only(work, 0);
+    let clean = zero & crate::table::only(out, MARK);
+    crate::table::put(t, room + ZERO, block::bit_byte(zero));
+    crate::table::put(t, room + CLEAN, block::bit_byte(clean));
+    crate::table::store(t, room + OUT, out);
+}
+
+// The same, with the box's part of the work areas and an outgoing buffer.
+fn call(t: &mut Table, works: &mut [u8], n: usize, i: usize, l: usize, k: usize) {
+    let o = crate::table::least(plan::out_len(n, l, k), OUT_LEN);
+    let a = WORK_LEN * crate::table::least(i, 2);
+    let e = a + crate::table::least(area::work_len(n, l), WORK_LEN);
+    if works.len() < e {
+        return;
+    }
+    let mut out = [MARK; 7696];
+    keep(t, n, i, l, k, &mut works[a..e], &mut out[0..o]);
 }
 
 // The same, unless the box refused before.
-fn call_open(t: &mut Table, p: Play, i: usize, k: usize) {
+fn call_open(t: &mut Table, works: &mut Works, p: Play, i: usize, k: usize) {
     if crate::table::noted(t, i, NUMBER) != 0 {
         return;
     }
@@ -256,16 +253,16 @@ fn call_open(t: &mut Table, p: Play, i: usize, k: usize) {
     let l = p.l;
     let len = message_len(n, l, k);
     flip(t, p, i, k, len);
-    call(t, n, i, l, k);
+    call(t, works, n, i, l, k);
     flip(t, p, i, k, len);
 }
 
 // The calls for round k of the boxes that did not refuse yet.
-pub(crate) fn call_all(t: &mut Table, p: Play, k: usize) {
+pub(crate) fn call_all(t: &mut Table, works: &mut Works, p: Play, k: usize) {
     let n = p.n;
     let mut i = 0;
     while i < n {
-        call_open(t, p, i, k);
+        call_open(t, works, p, i, k);
         i += 1;
     }
 }

@@ -1,5 +1,6 @@
-// Honest inputs: those of `oracle gen N L SEED` (oracle/src/session.rs), by the generator SplitMix64. A box's room starts with 19,008 bytes of them: its
-// delta at 0, its seed at 16, pair seeds at 48, masks at 144, alpha at 176, beta at 376, bits at 576.
+// Honest inputs: those of `oracle gen N L SEED` (oracle/src/session.rs), by the generator SplitMix64. A box's room starts with 19,008 bytes
+// of them: its delta at 0, its seed at 16, pair seeds at 48, masks at 144, alpha at 176, beta at 376, bits at 576.
+ghost use mathlib.Core.Path.{_≡_};
 ghost use Prim.Native.Nat.{_+_, _*_, _<_, _≤_};
 use crate::table::ORDER;
 use crate::table::STRINGS;
@@ -48,7 +49,7 @@ fn start(n: usize, l: usize, seed: u64) -> u64
 
 // Fills from the state x on, eight bytes to a word, and gives the state after it.
 fn fill(t: &mut Table, from: usize, len: usize, x: u64) -> u64
-    requires { ⌜ from + len ≤ 237265 ⌝ }
+    requires { ⌜ from + len ≤ 107068 ⌝ }
 {
     let mut y = x;
     let mut w = 0;
@@ -78,7 +79,7 @@ fn deltas(t: &mut Table, n: usize, x: u64) -> u64 {
 }
 
 fn to_bits(t: &mut Table, from: usize, len: usize)
-    requires { ⌜ from + len ≤ 237265 ⌝ }
+    requires { ⌜ from + len ≤ 107068 ⌝ }
 {
     let mut q = 0;
     while q < len {
@@ -89,7 +90,7 @@ fn to_bits(t: &mut Table, from: usize, len: usize)
 
 // The seeds and masks of the box whose room starts at `at`.
 fn seeds(t: &mut Table, at: usize, pairs: usize, masks: usize, x: u64) -> u64
-    requires { ⌜ (at ≤ 155610) × (pairs ≤ 96) × (masks ≤ 32) ⌝ }
+    requires { ⌜ (at ≤ 68812) × (pairs ≤ 96) × (masks ≤ 32) ⌝ }
 {
     let a = fill(t, at + 16, 32, x);
     let b = fill(t, at + 48, pairs, a);
@@ -114,13 +115,36 @@ fn seeds_of_all(t: &mut Table, n: usize, l: usize, x: u64) -> u64 {
 
 // 16 bytes: the sum of those at a and b.
 fn put_sum(t: &mut Table, to: usize, a: usize, b: usize)
-    requires { ⌜ (to + 16 ≤ 237265) × (a + 16 ≤ 237265) × (b + 16 ≤ 237265) ⌝ }
+    requires { ⌜ (to + 16 ≤ 107068) × (a + 16 ≤ 107068) × (b + 16 ≤ 107068) ⌝ }
 {
     let mut q = 0;
     while q < 16 {
         t[to + q] = t[a + q] ^ t[b + q];
         q += 1;
     }
+}
+
+// The bytes of a record among n boxes: the bit, and an entry for each.
+pub(crate) fn record_len(n: usize) -> usize
+    requires { ⌜ n ≤ 3 ⌝ }
+    ensures { λ r. ⌜ r ≡ 32 * n + 1 ⌝ }
+{
+    32 * n + 1
+}
+
+// Where the MAC for k starts in a record, and the key of k.
+pub(crate) fn mac_off(k: usize) -> usize
+    requires { ⌜ k < 3 ⌝ }
+    ensures { λ r. ⌜ r ≡ 32 * k + 1 ⌝ }
+{
+    record_len(k)
+}
+
+pub(crate) fn key_off(k: usize) -> usize
+    requires { ⌜ k < 3 ⌝ }
+    ensures { λ r. ⌜ r ≡ 32 * k + 17 ⌝ }
+{
+    mac_off(k) + 16
 }
 
 // The key that box k holds of box j's bit, and j's MAC for k, another box; their records start at `at`.
@@ -131,8 +155,8 @@ fn pair(t: &mut Table, at: usize, bit: u8, j: usize, k: usize, x: u64) -> u64
         return x;
     }
     let delta = crate::table::room(k);
-    let key = delta + at + 17 + 32 * j;
-    let mac = crate::table::room(j) + at + 1 + 32 * k;
+    let key = delta + at + key_off(j);
+    let mac = crate::table::room(j) + at + mac_off(k);
     let y = fill(t, key, 16, x);
     if bit == 1 {
         put_sum(t, mac, key, delta);
@@ -175,7 +199,7 @@ fn position(t: &mut Table, at: usize, n: usize, x: u64) -> u64
 fn shares(t: &mut Table, from: usize, end: usize, n: usize, x: u64) -> u64
     requires { ⌜ (from ≤ 19008) × (end ≤ 19008) × (n ≤ 3) ⌝ }
 {
-    let size = 32 * n + 1;
+    let size = record_len(n);
     let mut y = x;
     let mut at = from;
     while at < end {

@@ -1,8 +1,9 @@
-// Whole sessions in memory, of 2 and 3 boxes, through the public calls `opening::open` and `session::round`, round by round in lockstep: what each
-// box sent (its length, and the first bytes of its BLAKE3), what the results are worth, and how boxes refuse when a bit is flipped on the way.
-// The inputs are those of `oracle gen N L 32`, so the Rust of oracle/ can be held against every line.
+// Whole sessions in memory, of 2 and 3 boxes, through the public calls `opening::open` and `session::round`, round by round in lockstep:
+// what each box sent (its length, and the first bytes of its BLAKE3), what the results are worth, and how boxes refuse when a bit is
+// flipped on the way. The inputs are those of `oracle gen N L 32`, so the Rust of oracle/ can be held against every line.
 ghost use Prim.Native.Nat.{_*_, _≤_};
 use boxes::Play;
+use boxes::Works;
 use table::Table;
 
 mod boxes;
@@ -11,7 +12,7 @@ mod report;
 mod table;
 
 // Round k: what the boxes wrote is sent, and each is called. Answers how many bytes a box sent.
-fn turn(t: &mut Table, p: Play, k: usize) -> usize
+fn turn(t: &mut Table, works: &mut Works, p: Play, k: usize) -> usize
     ensures { λ r. ⌜ r ≤ 7696 ⌝ }
 {
     let n = p.n;
@@ -23,32 +24,32 @@ fn turn(t: &mut Table, p: Play, k: usize) -> usize
     if p.round == 0 {
         report::round(t, n, len, k);
     }
-    boxes::call_all(t, p, k);
+    boxes::call_all(t, works, p, k);
     len
 }
 
 // Rounds 1 to 22; what was written last are the results. Answers how many bytes a box sent in all.
-fn rounds(t: &mut Table, p: Play) -> usize {
+fn rounds(t: &mut Table, works: &mut Works, p: Play) -> usize {
     let mut sum = 0;
     let mut k = 1;
     while k < 23 {
-        sum += turn(t, p, k);
+        sum += turn(t, works, p, k);
         k += 1;
     }
     sum
 }
 
 // The end of a session: results, what a box sent, the work areas, how the boxes ended, and how they answer a call behind the last.
-fn finish(t: &mut Table, p: Play, sum: usize)
+fn finish(t: &mut Table, works: &mut Works, p: Play, sum: usize)
     requires { ⌜ p .n ≤ 3 ⌝ }
 {
     let n = p.n;
     let l = p.l;
     report::results(t, n, table::least(plan::shares_len(n, l), 200));
-    report::left(t, n, l, sum);
+    report::left(t, n, sum);
     report::ends(t, n);
     report::say(b"a call for round 22 behind it\n", [0, 0, 0, 0]);
-    boxes::call_all(t, p, 22);
+    boxes::call_all(t, works, p, 22);
     report::ends(t, n);
 }
 
@@ -56,12 +57,13 @@ fn finish(t: &mut Table, p: Play, sum: usize)
 fn run(p: Play)
     requires { ⌜ (p .n ≤ 3) × (p .l ≤ 2) ⌝ }
 {
-    let mut t = [0u8; 237265];
+    let mut t = [0u8; 107068];
+    let mut works = [0xa5u8; 130200];
     deal::inputs(&mut t, p.n, p.l);
-    boxes::open_all(&mut t, p.n, p.l);
-    let sum = rounds(&mut t, p);
+    boxes::call_all(&mut t, &mut works, p, 0);
+    let sum = rounds(&mut t, &mut works, p);
     if p.round == 0 {
-        finish(&mut t, p, sum);
+        finish(&mut t, &mut works, p, sum);
     } else {
         report::ends(&t, p.n);
     }

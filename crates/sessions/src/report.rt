@@ -6,8 +6,7 @@ use crate::table::OUT;
 use crate::table::PARTY;
 use crate::table::ROUND;
 use crate::table::Table;
-use crate::table::WORK;
-use crate::table::WORK_LEN;
+use crate::table::ZERO;
 use libc::STDOUT_FILENO;
 
 // ---- lines
@@ -74,7 +73,7 @@ fn digest(s: &[u8]) {
 
 // The digests of len bytes at `place` of each room.
 fn digests(t: &Table, place: usize, n: usize, len: usize)
-    requires { ⌜ place ≤ 77804 ⌝ }
+    requires { ⌜ place ≤ 34405 ⌝ }
 {
     let mut i = 0;
     while i < n {
@@ -95,7 +94,7 @@ pub(crate) fn round(t: &Table, n: usize, len: usize, k: usize) {
 
 // Whether 16 bytes are the sum of those at `key`, and those at `delta` where the bit is 1.
 fn is_mac(t: &Table, mac: usize, key: usize, delta: usize, bit: u8) -> bool
-    requires { ⌜ (mac + 16 ≤ 237265) × (key + 16 ≤ 237265) × (delta + 16 ≤ 237265) ⌝ }
+    requires { ⌜ (mac + 16 ≤ 107068) × (key + 16 ≤ 107068) × (delta + 16 ≤ 107068) ⌝ }
 {
     let mut good = true;
     let mut q = 0;
@@ -109,45 +108,35 @@ fn is_mac(t: &Table, mac: usize, key: usize, delta: usize, bit: u8) -> bool
 
 // Whether box j's MAC for k is k's key of j, plus k's delta where j's bit is 1; their records start at `at`.
 fn mac_holds(t: &Table, at: usize, j: usize, k: usize) -> bool
-    requires { ⌜ (j < 3) × (k < 3) × (at ≤ 70104) ⌝ }
+    requires { ⌜ (j < 3) × (k < 3) × (at ≤ 26704) ⌝ }
 {
-    if j == k {
-        return true;
-    }
     let a = crate::table::room(j) + at;
     let b = crate::table::room(k);
     let bit = crate::table::get(t, a);
-    is_mac(t, a + 1 + 32 * k, b + at + 17 + 32 * j, b, bit)
+    let mac = a + crate::deal::mac_off(k);
+    is_mac(t, mac, b + at + crate::deal::key_off(j), b, bit)
 }
 
-// At one position, for box j and all others.
-fn macs_hold(t: &Table, at: usize, j: usize, n: usize) -> bool
-    requires { ⌜ (j < 3) × (n ≤ 3) × (at ≤ 70104) ⌝ }
+// At one position, for each box and each other.
+fn macs_hold(t: &Table, at: usize, n: usize) -> bool
+    requires { ⌜ at ≤ 26704 ⌝ }
 {
     let mut good = true;
-    let mut k = 0;
-    while k < n {
-        good = good & mac_holds(t, at, j, k);
-        k += 1;
-    }
-    good
-}
-
-fn all_macs_hold(t: &Table, at: usize, n: usize) -> bool
-    requires { ⌜ (n ≤ 3) × (at ≤ 70104) ⌝ }
-{
-    let mut good = true;
-    let mut j = 0;
-    while j < n {
-        good = good & macs_hold(t, at, j, n);
-        j += 1;
+    let mut q = 0;
+    while q < 9 {
+        let j = q / 3;
+        let k = q % 3;
+        if (j < n) & (k < n) & (j != k) {
+            good = good & mac_holds(t, at, j, k);
+        }
+        q += 1;
     }
     good
 }
 
 // The XOR of the boxes' bytes at `at`.
 fn joint(t: &Table, at: usize, n: usize) -> u8
-    requires { ⌜ at ≤ 77804 ⌝ }
+    requires { ⌜ at ≤ 34405 ⌝ }
 {
     let mut sum = 0;
     let mut i = 0;
@@ -174,7 +163,7 @@ fn result(t: &Table, at: usize, n: usize)
     let beta = joint(t, 376 + at, n);
     let bit = joint(t, OUT + at, n);
     text(b"the MAC rule ");
-    right(all_macs_hold(t, OUT + at, n));
+    right(macs_hold(t, OUT + at, n));
     say(
         b", alpha # and beta # is #: the AND ",
         [alpha as usize, beta as usize, bit as usize, 0],
@@ -187,10 +176,11 @@ fn result(t: &Table, at: usize, n: usize)
 fn positions(t: &Table, n: usize, len: usize)
     requires { ⌜ (n ≤ 3) × (len ≤ 200) ⌝ }
 {
+    let size = crate::deal::record_len(n);
     let mut at = 0;
     while at < len {
         result(t, at, n);
-        at += 32 * n + 1;
+        at += size;
     }
 }
 
@@ -206,21 +196,19 @@ pub(crate) fn results(t: &Table, n: usize, len: usize)
 // ---- ends
 
 // Whether the work areas are zero.
-fn zeroed(t: &Table, n: usize, l: usize) -> bool {
-    let len = crate::table::least(area::work_len(n, l), WORK_LEN);
+fn zeroed(t: &Table, n: usize) -> bool {
     let mut good = true;
     let mut i = 0;
     while i < n {
-        let work = crate::table::part(t, crate::table::room(i) + WORK, len);
-        good = good & crate::table::only(work, 0);
+        good = good & (crate::table::noted(t, i, ZERO) == 1);
         i += 1;
     }
     good
 }
 
 // What a box sent in all, and the work areas.
-pub(crate) fn left(t: &Table, n: usize, l: usize, sum: usize) {
-    if zeroed(t, n, l) {
+pub(crate) fn left(t: &Table, n: usize, sum: usize) {
+    if zeroed(t, n) {
         say(
             b"a box sent # bytes; the work areas are zero\n",
             [sum, 0, 0, 0],

@@ -1,42 +1,41 @@
-// One table holds all that a session has, so that functions lend a single buffer on: a room for each of three boxes, then r and the permutation.
-// A room has the box's inputs, its work area, what it wrote, what it sent last, and its log; n is at most 3 and l at most 2.
+// One table holds all that a session has but its work areas, so that functions lend a single buffer on: a room for each of three boxes,
+// then r and the permutation. A room has the box's inputs, what it wrote, what it sent last, and its log; n is at most 3 and l at most 2.
 ghost use Prim.Native.Nat.{_+_, _≤_};
 
-pub type Table = [u8; 237265];
+pub type Table = [u8; 107068];
 
 // Where the parts of a room start.
-pub const WORK: usize = 19008;
+pub const OUT: usize = 19008;
 
-pub const OUT: usize = 62408;
+pub const SENT: usize = 26704;
 
-pub const SENT: usize = 70104;
+// The round that is due; of a refusal its number, party and round; whether the last call left zeros in the work area, and also the outgoing
+// buffer alone.
+pub const DUE: usize = 34400;
 
-// The round that is due; of a refusal its number, party and round, and whether it left zeros in the work area and the outgoing buffer alone.
-pub const DUE: usize = 77800;
+pub const NUMBER: usize = 34401;
 
-pub const NUMBER: usize = 77801;
+pub const PARTY: usize = 34402;
 
-pub const PARTY: usize = 77802;
+pub const ROUND: usize = 34403;
 
-pub const ROUND: usize = 77803;
+pub const ZERO: usize = 34404;
 
-pub const CLEAN: usize = 77804;
+pub const CLEAN: usize = 34405;
 
 // Behind the rooms.
-pub const STRINGS: usize = 233415;
+pub const STRINGS: usize = 103218;
 
-pub const ORDER: usize = 237255;
+pub const ORDER: usize = 107058;
 
 // What there is room for.
-pub const WORK_LEN: usize = 43400;
-
 pub const OUT_LEN: usize = 7696;
 
 // Where the room of box i starts.
 pub(crate) fn room(i: usize) -> usize
-    ensures { λ r. ⌜ r ≤ 155610 ⌝ }
+    ensures { λ r. ⌜ r ≤ 68812 ⌝ }
 {
-    if i < 3 { 77805 * i } else { 0 }
+    if i < 3 { 34406 * i } else { 0 }
 }
 
 pub(crate) fn least(a: usize, b: usize) -> usize
@@ -46,18 +45,18 @@ pub(crate) fn least(a: usize, b: usize) -> usize
 }
 
 pub(crate) fn get(t: &Table, at: usize) -> u8 {
-    if at < 237265 { t[at] } else { 0 }
+    if at < 107068 { t[at] } else { 0 }
 }
 
 pub(crate) fn put(t: &mut Table, at: usize, b: u8) {
-    if at < 237265 {
+    if at < 107068 {
         t[at] = b;
     }
 }
 
 // A number of box i's log.
 pub(crate) fn noted(t: &Table, i: usize, place: usize) -> usize
-    requires { ⌜ place ≤ 77804 ⌝ }
+    requires { ⌜ place ≤ 34405 ⌝ }
 {
     get(t, room(i) + place) as usize
 }
@@ -75,7 +74,7 @@ pub(crate) fn part(s: &[u8], at: usize, len: usize) -> &[u8] {
 }
 
 pub(crate) fn copy(t: &mut Table, to: usize, from: usize, len: usize)
-    requires { ⌜ (to + len ≤ 237265) × (from + len ≤ 237265) ⌝ }
+    requires { ⌜ (to + len ≤ 107068) × (from + len ≤ 107068) ⌝ }
 {
     let mut q = 0;
     while q < len {
@@ -84,19 +83,8 @@ pub(crate) fn copy(t: &mut Table, to: usize, from: usize, len: usize)
     }
 }
 
-// Out of the table, and into it.
-pub(crate) fn load(s: &mut [u8], t: &Table, from: usize)
-    requires { ⌜ from ≤ 237265 ⌝ }
-{
-    let mut q = 0;
-    while q < s.len() {
-        s[q] = get(t, from + q);
-        q += 1;
-    }
-}
-
 pub(crate) fn store(t: &mut Table, to: usize, s: &[u8])
-    requires { ⌜ to ≤ 237265 ⌝ }
+    requires { ⌜ to ≤ 107068 ⌝ }
 {
     let mut q = 0;
     while q < s.len() {

@@ -1,3 +1,4 @@
+pub mod Layout
 pub mod Record
 pub mod RecordLaws
 pub mod Share

@@ -1,5 +1,5 @@
--- A share record (document 01, "The call"): 1 + 32n bytes, the bit, then for each party k 16 bytes MAC and 16 bytes key. This file alone says
--- where things lie in a record; `at` is where the record starts in a list of bytes.
+-- Reading a share record (document 01, "The call"), and the check of lent ones; `at` is where the record starts in a list of bytes. Where
+-- things lie in it: Layout.antt.
 use Prim.Native.Nat.{ℕ, zero, suc, _+_, _*_}
 use mathlib.Core.Bool.{Bool, _&&_}
 use mathlib.Core.List.{List}
@@ -10,15 +10,7 @@ use Rattle.algebra.specs.Group.{XorGroup, odd}
 use Rattle.block.specs.declared.Block.{Block}
 use Rattle.block.specs.Block.{blockAt, eqBlock}
 use Rattle.block.specs.Group.{blocks}
-
-abbrev pub recordLen : ℕ → ℕ
-recordLen n = 1 + 32 * n
-
-abbrev pub macOff : ℕ → ℕ
-macOff k = 1 + 32 * k
-
-abbrev pub keyOff : ℕ → ℕ
-keyOff k = 17 + 32 * k
+pub use Rattle.share.specs.Layout.{recordLen, macOff, keyOff}
 
 -- the bit is the lowest digit of the first byte
 unfoldable pub bitAt : List ℕ → ℕ → Bool

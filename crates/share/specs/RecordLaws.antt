@@ -17,6 +17,7 @@ use Rattle.algebra.specs.Group.{XorGroup, odd}
 use Rattle.block.specs.Block.{blockAt, eqBlock}
 use Rattle.block.specs.Group.{blocks, block-eq, eq-block}
 use Rattle.block.specs.Trip.{Small, small-at, block-drop, block-take}
+use Rattle.share.specs.Layout.{record-some, entry-within, key-behind}
 use Rattle.share.specs.Record.{recordLen, macOff, keyOff, bitAt, macAt, keyAt, ownZero, recordFault, recordsFault}
 
 -- ---- what is read of bytes fits a Block
@@ -35,7 +36,7 @@ module _ (n at : ℕ) (s : List ℕ) where
   cut = take (recordLen n) (drop at s)
 
   pub byte-part : getD cut 0 0 ≡ getD s at 0
-  byte-part = getD-take (recordLen n) (drop at s) 0 0 (omega arith) ∙ getD-drop at s 0 0 ∙ ap (λ a. getD s a 0) (add-zero at)
+  byte-part = getD-take (recordLen n) (drop at s) 0 0 (record-some n) ∙ getD-drop at s 0 0 ∙ ap (λ a. getD s a 0) (add-zero at)
 
   pub bit-part : bitAt cut 0 ≡ bitAt s at
   unfolding bitAt
@@ -48,11 +49,11 @@ module _ (n at : ℕ) (s : List ℕ) where
 
   pub mac-part : (k : ℕ) → k < n → macAt cut 0 k ≡ macAt s at k
   unfolding macAt
-  mac-part k h = block-part (macOff k) (omega arith)
+  mac-part k h = block-part (macOff k) (omega (arith, entry-within n k h))
 
   pub key-part : (k : ℕ) → k < n → keyAt cut 0 k ≡ keyAt s at k
   unfolding keyAt
-  key-part k h = block-part (keyOff k) (omega arith)
+  key-part k h = block-part (keyOff k) (omega (arith, key-behind k, entry-within n k h))
 
 -- ---- the fault of one record
 module _ (i : ℕ) (s : List ℕ) (at : ℕ) where

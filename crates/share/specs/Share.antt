@@ -1,16 +1,17 @@
--- What a record holds: one party's share of a bit, with its MAC for each party and its key of each. Shares are an XOR group, so sums of records
--- are sums in it.
+-- What a record holds: one party's share of a bit, with its MAC for each party and its key of each. Shares are an XOR group, so sums of
+-- records are sums in it.
 use Prim.Native.Nat.{ℕ, _+_}
 use mathlib.Core.Bool.{Bool, false}
-use mathlib.Core.List.{List, _∷_, _++_}
+use mathlib.Core.List.{List, _++_}
 use lib.ListN.{replicate}
 use Rattle.lists.specs.Pick.{pick}
 use Rattle.lists.specs.Over.{cat}
-use Rattle.algebra.specs.Group.{XorGroup, bits, addb, num}
+use Rattle.algebra.specs.Group.{XorGroup, bits, addb}
 use Rattle.algebra.specs.Sum.{neq}
 use Rattle.block.specs.declared.Block.{Block}
 use Rattle.block.specs.Block.{bytesOf}
 use Rattle.block.specs.Group.{blocks}
+use Rattle.share.specs.Layout.{ENTRY, headOf}
 use Rattle.share.specs.Record.{bitAt, macAt, keyAt}
 
 pub record Share : Type 0 where
@@ -33,11 +34,11 @@ shares = record {
 
 -- the entry of party k in party i's record, with the MAC m and the key y; the own entry is zero
 unfoldable pub entryBytes : ℕ → ℕ → Block → Block → List ℕ
-entryBytes i k m y = pick (neq i k) (bytesOf m ++ bytesOf y) (replicate 32 0)
+entryBytes i k m y = pick (neq i k) (bytesOf m ++ bytesOf y) (replicate ENTRY 0)
 
 unfoldable pub entryOf : ℕ → Share → ℕ → List ℕ
 entryOf i x k = entryBytes i k (x .mac k) (x .key k)
 
 -- party i's record of x among n parties
 unfoldable pub recordOf : ℕ → ℕ → Share → List ℕ
-recordOf n i x = num (x .bit) ∷ cat n (entryOf i x)
+recordOf n i x = headOf (x .bit) ++ cat n (entryOf i x)

@@ -12,14 +12,16 @@ use Rattle.lists.specs.Pick.{pick}
 use Rattle.lists.specs.Over.{cat, length-cat}
 use Rattle.lists.specs.Sect.{get}
 use Rattle.lists.specs.Rows.{chunk, chunk-cat, cat-ext}
-use Rattle.lists.specs.Bytes.{Bytes, bytes-cons, bytes-append, bytes-cat, bytes-replicate}
+use Rattle.lists.specs.Bytes.{Bytes, bytes-append, bytes-cat, bytes-replicate}
 use Rattle.algebra.specs.Group.{XorGroup, bits, addb, sel, odd, num, odd-num}
-use Rattle.algebra.specs.Sum.{sum, neq, neq-self, neq-true, Same, same, apart, apart?}
+use Rattle.algebra.specs.Sum.{sum, neq, neq-true, Same, same, apart, apart?}
 use Rattle.block.specs.declared.Block.{Block}
-use Rattle.block.specs.Block.{blockAt, wordAt, bytesOf, le8, zeroOf}
+use Rattle.block.specs.Block.{blockAt, bytesOf, le8, zeroOf}
 use Rattle.block.specs.Group.{blocks}
 use Rattle.block.specs.Trip.{Small, small-xor, small-nil, length-bytesOf, bytes-bytesOf, block-bytesOf, block-at, block-drop, block-take}
 use Rattle.block.specs.Trip.{block-get, bytesOf-at}
+use Rattle.share.specs.Layout.{ENTRY, headOf, head-end, mac-behind, key-behind, record-ends, entry-within, record-some, bit-first}
+use Rattle.share.specs.Layout.{bytes-head}
 use Rattle.share.specs.Record.{recordLen, macOff, keyOff, bitAt, macAt, keyAt}
 use Rattle.share.specs.RecordLaws.{Valid, bit-part, mac-part, key-part, small-mac, small-key}
 use Rattle.share.specs.Share.{Share, shareAt, shares, entryBytes, entryOf, recordOf}
@@ -104,16 +106,16 @@ module _ (n : ℕ) where
 module _ (i k : ℕ) (m y : Block) where
   pub entry-other : i ≢ k → entryBytes i k m y ≡ bytesOf m ++ bytesOf y
   unfolding entryBytes
-  entry-other ne = ap (λ (b : Bool). pick b (bytesOf m ++ bytesOf y) (replicate 32 0)) (neq-true i k ne)
+  entry-other ne = ap (λ (b : Bool). pick b (bytesOf m ++ bytesOf y) (replicate ENTRY 0)) (neq-true i k ne)
 
-  length-pair : length (bytesOf m ++ bytesOf y) ≡ 32
+  length-pair : length (bytesOf m ++ bytesOf y) ≡ ENTRY
   length-pair = length-append (bytesOf m) (bytesOf y) ∙ ap₂ _+_ (length-bytesOf m) (length-bytesOf y)
 
-  pub length-entry : length (entryBytes i k m y) ≡ 32
+  pub length-entry : length (entryBytes i k m y) ≡ ENTRY
   unfolding entryBytes
   length-entry = go (neq i k)
     where
-      go : (b : Bool) → length (pick b (bytesOf m ++ bytesOf y) (replicate 32 0)) ≡ 32
+      go : (b : Bool) → length (pick b (bytesOf m ++ bytesOf y) (replicate ENTRY 0)) ≡ ENTRY
       go true = length-pair
       go false = refl
 
@@ -121,20 +123,16 @@ module _ (i k : ℕ) (m y : Block) where
   unfolding entryBytes
   bytes-entry = go (neq i k)
     where
-      go : (b : Bool) → Bytes (pick b (bytesOf m ++ bytesOf y) (replicate 32 0))
+      go : (b : Bool) → Bytes (pick b (bytesOf m ++ bytesOf y) (replicate ENTRY 0))
       go true = bytes-append (bytesOf m) (bytesOf y) (bytes-bytesOf m) (bytes-bytesOf y)
-      go false = bytes-replicate 32 0 (omega arith)
-
-pub entry-own : (i : ℕ) (m y : Block) → entryBytes i i m y ≡ replicate 32 0
-unfolding entryBytes
-entry-own i m y = ap (λ (b : Bool). pick b (bytesOf m ++ bytesOf y) (replicate 32 0)) (neq-self i)
+      go false = bytes-replicate ENTRY 0 (omega arith)
 
 -- an entry of two Blocks that are zero
-pub zero-pair : bytesOf (blocks .nil) ++ bytesOf (blocks .nil) ≡ replicate 32 0
+pub zero-pair : bytesOf (blocks .nil) ++ bytesOf (blocks .nil) ≡ replicate ENTRY 0
 unfolding bytesOf le8 blocks zeroOf
 zero-pair = refl
 
-pub length-entryOf : (i : ℕ) (x : Share) (k : ℕ) → length (entryOf i x k) ≡ 32
+pub length-entryOf : (i : ℕ) (x : Share) (k : ℕ) → length (entryOf i x k) ≡ ENTRY
 unfolding entryOf
 length-entryOf i x k = length-entry i k (x .mac k) (x .key k)
 
@@ -142,7 +140,8 @@ module _ (n i : ℕ) (x : Share) where
   pub length-recordOf : length (recordOf n i x) ≡ recordLen n
   unfolding recordOf
   length-recordOf =
-      ap suc (length-cat n 32 (entryOf i x) (λ k h. length-entryOf i x k)) ∙ (let e : suc (n * 32) ≡ recordLen n = omega arith in e)
+      length-append (headOf (x .bit)) (cat n (entryOf i x))
+      ∙ ap₂ _+_ (head-end (x .bit)) (length-cat n ENTRY (entryOf i x) (λ k h. length-entryOf i x k)) ∙ sym (record-ends n ∙ mac-behind n)
 
   num-byte : (b : Bool) → num b < 256
   num-byte false = omega arith
@@ -151,7 +150,7 @@ module _ (n i : ℕ) (x : Share) where
   pub bytes-recordOf : Bytes (recordOf n i x)
   unfolding recordOf entryOf
   bytes-recordOf =
-      bytes-cons (num (x .bit)) (cat n (entryOf i x)) (num-byte (x .bit))
+      bytes-append (headOf (x .bit)) (cat n (entryOf i x)) (bytes-head (x .bit) (num-byte (x .bit)))
       (bytes-cat n (entryOf i x) (λ k h. bytes-entry i k (x .mac k) (x .key k)))
 
 -- ---- two shares that party i's records among n parties do not tell apart
@@ -164,10 +163,10 @@ module _ (n i : ℕ) where
   pub agree-record : (x y : Share) → Agree n i x y → recordOf n i x ≡ recordOf n i y
   unfolding recordOf entryOf entryBytes
   agree-record x y h =
-      ap₂ (λ b (l : List ℕ). num b ∷ l) (h .bit) (cat-ext n (entryOf i x) (entryOf i y) (λ k l. go k l (neq i k) (apart? i k)))
+      ap₂ (λ b (l : List ℕ). headOf b ++ l) (h .bit) (cat-ext n (entryOf i x) (entryOf i y) (λ k l. go k l (neq i k) (apart? i k)))
     where
       go : (k : ℕ) → k < n → (b : Bool) → Same i k b
-          → pick b (bytesOf (x .mac k) ++ bytesOf (x .key k)) (replicate 32 0) ≡ pick b (bytesOf (y .mac k) ++ bytesOf (y .key k)) (replicate 32 0)
+          → pick b (bytesOf (x .mac k) ++ bytesOf (x .key k)) (replicate ENTRY 0) ≡ pick b (bytesOf (y .mac k) ++ bytesOf (y .key k)) (replicate ENTRY 0)
       go k l false e = refl
       go k l true (apart ne) = ap₂ (λ (m z : Block). bytesOf m ++ bytesOf z) (h .mac k l ne) (h .key k l ne)
 
@@ -208,9 +207,9 @@ module _ (n : ℕ) where
   pub alike-get : (s : List ℕ) (o m at : ℕ) → at + recordLen n ≤ m → Alike n (shareAt s (o + at)) (shareAt (get o m s) at)
   unfolding shareAt bitAt macAt keyAt
   alike-get s o m at h = record {
-    bit = ap odd (sym (getD-take m (drop o s) at 0 (omega arith) ∙ getD-drop o s at 0));
-    mac = λ k l. block (macOff k) (omega arith);
-    key = λ k l. block (keyOff k) (omega arith);
+    bit = ap odd (sym (getD-take m (drop o s) at 0 (omega (arith, record-some n)) ∙ getD-drop o s at 0));
+    mac = λ k l. block (macOff k) (omega (arith, entry-within n k l));
+    key = λ k l. block (keyOff k) (omega (arith, key-behind k, entry-within n k l));
   }
     where
       block : (b : ℕ) → b + 16 ≤ recordLen n → blockAt s (o + at + b) ≡ blockAt (get o m s) (at + b)
@@ -218,15 +217,18 @@ module _ (n : ℕ) where
 
 -- ---- written, then read
 module _ (n i : ℕ) (x : Share) where
-  entry-part : (k : ℕ) → k < n → take 32 (drop (macOff k) (recordOf n i x)) ≡ entryOf i x k
+  entry-part : (k : ℕ) → k < n → take ENTRY (drop (macOff k) (recordOf n i x)) ≡ entryOf i x k
   unfolding recordOf chunk
   entry-part k h =
-      ap (λ a. take 32 (drop a (num (x .bit) ∷ cat n (entryOf i x)))) (let e : macOff k ≡ suc (k * 32) = omega arith in e)
-      ∙ chunk-cat 32 n (entryOf i x) (λ j l. length-entryOf i x j) k h
+      let r : List ℕ = cat n (entryOf i x) in
+      ap (λ a. take ENTRY (drop a (headOf (x .bit) ++ r))) (mac-behind k ∙ ap (λ a. a + k * ENTRY) (sym (head-end (x .bit))))
+      ∙ ap (take ENTRY) (sym (drop-drop (k * ENTRY) (length (headOf (x .bit))) (headOf (x .bit) ++ r))
+      ∙ ap (drop (k * ENTRY)) (drop-at (headOf (x .bit)) r (length (headOf (x .bit))) refl))
+      ∙ chunk-cat ENTRY n (entryOf i x) (λ j l. length-entryOf i x j) k h
 
-  part-block : (k o : ℕ) → k < n → o + 16 ≤ 32 → blockAt (recordOf n i x) (macOff k + o) ≡ blockAt (entryOf i x k) o
+  part-block : (k o : ℕ) → k < n → o + 16 ≤ ENTRY → blockAt (recordOf n i x) (macOff k + o) ≡ blockAt (entryOf i x k) o
   part-block k o h w =
-      sym (block-take (drop (macOff k) (recordOf n i x)) 32 o w ∙ block-drop (recordOf n i x) (macOff k) o)
+      sym (block-take (drop (macOff k) (recordOf n i x)) ENTRY o w ∙ block-drop (recordOf n i x) (macOff k) o)
       ∙ ap (λ (s : List ℕ). blockAt s o) (entry-part k h)
 
   entry-mac : (k : ℕ) → k < n → macAt (recordOf n i x) 0 k ≡ blockAt (entryOf i x k) 0
@@ -235,13 +237,14 @@ module _ (n i : ℕ) (x : Share) where
 
   entry-key : (k : ℕ) → k < n → keyAt (recordOf n i x) 0 k ≡ blockAt (entryOf i x k) 16
   unfolding keyAt
-  entry-key k h = ap (blockAt (recordOf n i x)) (let e : 0 + keyOff k ≡ macOff k + 16 = omega arith in e) ∙ part-block k 16 h (omega arith)
+  entry-key k h = ap (blockAt (recordOf n i x)) (let e : 0 + keyOff k ≡ macOff k + 16 = omega (arith, key-behind k) in e) ∙ part-block k 16 h (omega arith)
 
 -- wherever a record of x stands
 module _ (n i : ℕ) (x : Share) (s : List ℕ) (at : ℕ) (here : take (recordLen n) (drop at s) ≡ recordOf n i x) where
   pub bit-here : bitAt s at ≡ x .bit
   unfolding bitAt recordOf
-  bit-here = sym (bit-part n at s) ∙ ap (λ (l : List ℕ). bitAt l 0) here ∙ odd-num (x .bit)
+  bit-here =
+      sym (bit-part n at s) ∙ ap (λ (l : List ℕ). bitAt l 0) here ∙ ap odd (bit-first (x .bit) (cat n (entryOf i x))) ∙ odd-num (x .bit)
 
   mac-entry : (k : ℕ) → k < n → macAt s at k ≡ blockAt (entryOf i x k) 0
   mac-entry k h = sym (mac-part n at s k h) ∙ ap (λ (l : List ℕ). macAt l 0 k) here ∙ entry-mac n i x k h
@@ -262,18 +265,6 @@ module _ (n i : ℕ) (x : Share) (s : List ℕ) (at : ℕ) (here : take (recordL
       ∙ ap (λ (l : List ℕ). blockAt l 16)
       (entry-other i k (x .mac k) (x .key k) ne ∙ ap (λ (l : List ℕ). bytesOf (x .mac k) ++ l) (sym (append-nil (bytesOf (x .key k)))))
       ∙ block-at (bytesOf (x .mac k)) (x .key k) [] 16 (length-bytesOf (x .mac k)) sm
-
-  pub own-mac-here : i < n → macAt s at i ≡ blocks .nil
-  unfolding entryOf blockAt wordAt blocks zeroOf
-  own-mac-here h = mac-entry i h ∙ ap (λ (l : List ℕ). blockAt l 0) (entry-own i (x .mac i) (x .key i))
-
-  pub own-key-here : i < n → keyAt s at i ≡ blocks .nil
-  unfolding entryOf blockAt wordAt blocks zeroOf
-  own-key-here h = key-entry i h ∙ ap (λ (l : List ℕ). blockAt l 16) (entry-own i (x .mac i) (x .key i))
-
-  num-bit : (b : Bool) → num b ≤ 1
-  num-bit false = omega arith
-  num-bit true = omega arith
 
   -- and is read as it was written
   pub read-here : SmallShare n x → Agree n i (shareAt s at) x
@@ -309,21 +300,21 @@ record-add n i x y sm =
 
 -- ---- read, then written: a record that passes the check is copied byte for byte
 module _ (n i : ℕ) (s : List ℕ) (at : ℕ) (h : Bytes s) (v : Valid i s at) (fits : at + recordLen n ≤ length s) where
-  pair-at : (k : ℕ) → k < n → bytesOf (macAt s at k) ++ bytesOf (keyAt s at k) ≡ take 32 (drop (at + macOff k) s)
+  pair-at : (k : ℕ) → k < n → bytesOf (macAt s at k) ++ bytesOf (keyAt s at k) ≡ take ENTRY (drop (at + macOff k) s)
   unfolding macAt keyAt
   pair-at k l =
-      ap₂ _++_ (bytesOf-at s h (at + macOff k) (omega arith))
-      (bytesOf-at s h (at + keyOff k) (omega arith)
+      ap₂ _++_ (bytesOf-at s h (at + macOff k) (omega (arith, entry-within n k l)))
+      (bytesOf-at s h (at + keyOff k) (omega (arith, key-behind k, entry-within n k l))
       ∙ ap (take 16)
-      (ap (λ a. drop a s) (let e : at + keyOff k ≡ (at + macOff k) + 16 = omega arith in e) ∙ sym (drop-drop 16 (at + macOff k) s)))
+      (ap (λ a. drop a s) (let e : at + keyOff k ≡ (at + macOff k) + 16 = omega (arith, key-behind k) in e) ∙ sym (drop-drop 16 (at + macOff k) s)))
       ∙ sym (take-add 16 16 (drop (at + macOff k) s))
 
-  entry-at : (k : ℕ) → k < n → entryOf i (shareAt s at) k ≡ take 32 (drop (at + macOff k) s)
+  entry-at : (k : ℕ) → k < n → entryOf i (shareAt s at) k ≡ take ENTRY (drop (at + macOff k) s)
   unfolding entryOf entryBytes shareAt
   entry-at k l = go (neq i k) (apart? i k)
     where
       go : (b : Bool) → Same i k b
-          → pick b (bytesOf (macAt s at k) ++ bytesOf (keyAt s at k)) (replicate 32 0) ≡ take 32 (drop (at + macOff k) s)
+          → pick b (bytesOf (macAt s at k) ++ bytesOf (keyAt s at k)) (replicate ENTRY 0) ≡ take ENTRY (drop (at + macOff k) s)
       go true e = pair-at k l
       go false (same e) =
           sym zero-pair

@@ -4,10 +4,11 @@ ghost use mathlib.Core.Path.{_≡_};
 ghost use mathlib.Core.Bool.{true};
 ghost use mathlib.Core.List.{_++_};
 ghost use Prim.Native.Nat.{_+_, _*_, _<_, _≤_};
-ghost use lib.ListN.{length, getD};
+ghost use lib.ListN.{length, getD, drop};
 ghost use Rattle.algebra.specs.Group.{XorGroup, sel, odd};
 ghost use Rattle.block.specs.Block.{blockAt, bytesOf, eqBlock};
 ghost use Rattle.block.specs.Group.{blocks};
+ghost use Rattle.share.specs.Layout.{ENTRY, headOf};
 ghost use Rattle.share.specs.Record.{recordLen, macOff, keyOff, bitAt, macAt, keyAt};
 ghost use Rattle.share.specs.Share.{shareAt, shares, entryBytes, recordOf};
 use block::Block;
@@ -67,12 +68,19 @@ impl Key {
     }
 }
 
+// The bytes of a record's head, of a party's entry, and the most that a record has.
+const HEAD: usize = 1;
+
+pub const ENTRY: usize = 32;
+
+pub const RECORD_MOST: usize = HEAD + 8 * ENTRY;
+
 // The bytes of a record among n parties.
 pub fn record_len(n: usize) -> usize
     requires { ⌜ n ≤ 8 ⌝ }
     ensures { λ r. ⌜ r ≡ recordLen n ⌝ }
 {
-    1 + 32 * n
+    HEAD + ENTRY * n
 }
 
 // Where party k's MAC starts in a record.
@@ -80,7 +88,7 @@ pub fn mac_off(k: usize) -> usize
     requires { ⌜ k < 8 ⌝ }
     ensures { λ r. ⌜ r ≡ macOff k ⌝ }
 {
-    1 + 32 * k
+    HEAD + ENTRY * k
 }
 
 // Where party k's key starts in a record.
@@ -88,7 +96,7 @@ pub fn key_off(k: usize) -> usize
     requires { ⌜ k < 8 ⌝ }
     ensures { λ r. ⌜ r ≡ keyOff k ⌝ }
 {
-    17 + 32 * k
+    HEAD + 16 + ENTRY * k
 }
 
 // The MAC for k in the record at `at`.
@@ -117,20 +125,28 @@ pub fn bit_at(s: &[u8], at: usize) -> bool
 
 // Writes an entry: the MAC, then the key.
 pub fn put_entry(out: &mut [u8], m: Mac, k: Key)
-    requires { ⌜ length (now out) ≡ 32 ⌝ }
+    requires { ⌜ length (now out) ≡ ENTRY ⌝ }
     ensures { λ _. ⌜ now (out .exit) ≡ bytesOf (m .0) ++ bytesOf (k .0) ⌝ }
 {
     block::store(&mut out[0..16], m.0);
-    block::store(&mut out[16..32], k.0);
+    block::store(&mut out[16..ENTRY], k.0);
 }
 
 // Writes the entry of party `of` in a record of party i: zero where it is the own one.
 pub fn put_entry_of(out: &mut [u8], i: usize, of: usize, m: Mac, k: Key)
-    requires { ⌜ length (now out) ≡ 32 ⌝ }
+    requires { ⌜ length (now out) ≡ ENTRY ⌝ }
     ensures { λ _. ⌜ now (out .exit) ≡ entryBytes i of (m .0) (k .0) ⌝ }
 {
     let other = i != of;
     put_entry(out, Mac(m.0.const_mul(other)), Key(k.0.const_mul(other)));
+}
+
+// Writes the head of a record: the bit.
+pub fn put_head(out: &mut [u8], bit: bool)
+    requires { ⌜ macOff 0 ≤ length (now out) ⌝ }
+    ensures { λ _. ⌜ now (out .exit) ≡ headOf bit ++ drop (macOff 0) (now (out .entry)) ⌝ }
+{
+    out[0] = block::bit_byte(bit);
 }
 
 // Writes party i's record among n parties: the share in the record at `at` of s.
@@ -142,16 +158,16 @@ pub fn copy_record(out: &mut [u8], s: &[u8], at: usize, n: usize, i: usize)
     let mut k = 0;
     while k < n {
         let a = mac_off(k);
-        let e = a + 32;
+        let e = a + ENTRY;
         put_entry_of(&mut out[a..e], i, k, mac_at(s, at, k), key_at(s, at, k));
         k += 1;
     }
-    out[0] = block::bit_byte(bit_at(s, at));
+    put_head(out, bit_at(s, at));
 }
 
 // Adds d times the entry of party `of` in the record at `at` of s: d decides no branch.
 fn add_entry(out: &mut [u8], s: &[u8], at: usize, i: usize, of: usize, d: bool)
-    requires { ⌜ (length (now out) ≡ 32) × (of < 8) ⌝ }
+    requires { ⌜ (length (now out) ≡ ENTRY) × (of < 8) ⌝ }
     requires { ⌜ at + recordLen (of + 1) ≤ length (now s) ⌝ }
     ensures { λ _. ⌜ now (out .exit) ≡ entryBytes i of
         (blocks .op (blockAt (now (out .entry)) 0) (sel blocks d (macAt (now (s .entry)) at of)))
@@ -175,11 +191,11 @@ pub fn add_record(out: &mut [u8], s: &[u8], at: usize, n: usize, i: usize, d: bo
     let mut k = 0;
     while k < n {
         let a = mac_off(k);
-        let e = a + 32;
+        let e = a + ENTRY;
         add_entry(&mut out[a..e], s, at, i, k, d);
         k += 1;
     }
-    out[0] = block::bit_byte(bit);
+    put_head(out, bit);
 }
 
 // ---- the sum of two records, part by part: the record at `a` of s and the one at `b` of t

@@ -11,31 +11,30 @@ use Rattle.engine.specs.declared.Frame.{Frame}
 use Rattle.rounds.specs.Area.{BITS, ZS, ES, PERM, DS, at}
 use Rattle.rounds.specs.Buckets.{later}
 use Rattle.area.specs.Given.{Work, Place}
+use Rattle.area.specs.Positions as Positions
 use Rattle.area.specs.GivenLaws.{length-at}
 use Rattle.area.specs.Sizes.{size-bits, size-zs, size-es, size-perm}
 use Rattle.buckets.specs.Given.{size-opened}
 use Rattle.triples.specs.declared.Places.{Places}
 
 -- the records, the own bits z, and the others' bits e
-pub record Kept (f : Frame) (recs zs es : List ℕ) : Type 0 where
+pub record LeakyAnds (f : Frame) (recs zs es : List ℕ) : Type 0 where
   pub records : length recs ≡ bitsCount (f .l) * recordLen (f .n)
   pub bits : length zs ≡ leaky (f .l) * 17
   pub told : length es ≡ f .n * leaky (f .l)
 
 -- the permutation and the opened d besides
 pub record Bucketed (f : Frame) (recs zs es perm opened : List ℕ) : Type 0 where
-  pub kept : Kept f recs zs es
+  pub kept : LeakyAnds f recs zs es
   pub numbers : length perm ≡ leaky (f .l) * 4
   pub ds : length opened ≡ f .l * later f
 
-module _ (f : Frame) (recs zs es : List ℕ) (q : Kept f recs zs es) (t : ℕ) (h : t < leaky (f .l)) where
+module _ (f : Frame) (recs zs es : List ℕ) (q : LeakyAnds f recs zs es) (t : ℕ) (h : t < leaky (f .l)) where
   pub x-in : t * recordLen (f .n) + recordLen (f .n) ≤ length recs
-  unfolding bitsCount
-  x-in = omega (arith, q .records, in-chunks t (3 * leaky (f .l) + 160) (recordLen (f .n)) (omega arith))
+  x-in = Positions.x-in f recs (q .records) t h
 
   pub r-in : (2 * leaky (f .l) + t) * recordLen (f .n) + recordLen (f .n) ≤ length recs
-  unfolding bitsCount
-  r-in = omega (arith, q .records, in-chunks (2 * leaky (f .l) + t) (3 * leaky (f .l) + 160) (recordLen (f .n)) (omega arith))
+  r-in = Positions.r-in f recs (q .records) t h
 
   pub z-in : t * 17 < length zs
   z-in = omega (arith, in-chunks t (leaky (f .l)) 17 h, q .bits)

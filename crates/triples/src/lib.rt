@@ -7,6 +7,7 @@ ghost use Prim.Native.Nat.{_+_, _-_, _*_, _<_, _≤_};
 ghost use lib.ListN.{length, getD, replicate};
 ghost use Rattle.algebra.specs.Group.{XorGroup, sel, odd};
 ghost use Rattle.block.specs.Group.{blocks};
+ghost use Rattle.share.specs.Layout.{RECORD-MOST};
 ghost use Rattle.share.specs.Record.{recordLen, keyAt};
 ghost use Rattle.share.specs.Share.{recordOf};
 ghost use Rattle.plan.specs.Plan.{leaky};
@@ -15,19 +16,17 @@ ghost use Rattle.rounds.specs.Buckets as B;
 ghost use Rattle.rounds.specs.Table as Table;
 ghost use Rattle.combine.specs.PairLaws.{Holds};
 ghost use Rattle.area.specs.Given.{Ranged, Work};
-ghost use Rattle.triples.specs.Given.{Kept, Bucketed, Placed};
+ghost use Rattle.triples.specs.Given.{LeakyAnds, Bucketed, Placed};
 ghost use Rattle.triples.specs.Laws.{leakyAt, rowOf};
 use area::Span;
 use engine::Frame;
 use share::Delta;
+use share::ENTRY;
 use share::Key;
+use share::RECORD_MOST;
 
-// The bytes of a party's entry in a record, the most that a record has, and the most of the two that are kept.
-const ENTRY: usize = 32;
-
-const RECORD: usize = 257;
-
-const PAIR: usize = 514;
+// The most bytes of the two records that are kept.
+const PAIR: usize = 2 * RECORD_MOST;
 
 // z's key of party k at position t: that of the r record at `at`, plus delta where k's e is 1.
 fn z_key(recs: &[u8], at: usize, es: &[u8], delta: Delta, l: usize, t: usize, k: usize) -> Key
@@ -43,7 +42,7 @@ fn z_key(recs: &[u8], at: usize, es: &[u8], delta: Delta, l: usize, t: usize, k:
 // z's record at position t: r's MACs, the own bit z.
 fn put_z_record(out: &mut [u8], recs: &[u8], zs: &[u8], es: &[u8], delta: Delta, f: Frame, t: usize)
     requires { ⌜ (Ranged f) × (t < leaky (f .l)) × (length (now out) ≡ recordLen (f .n)) ⌝ }
-    requires { ⌜ Kept f (now recs) (now zs) (now es) ⌝ }
+    requires { ⌜ LeakyAnds f (now recs) (now zs) (now es) ⌝ }
     ensures { λ _. ⌜ now (out .exit) ≡ recordOf (f .n) (f .i)
         (B.zShare f (delta .0) (now (recs .entry)) (now (zs .entry)) (now (es .entry)) t) ⌝ }
 {
@@ -59,18 +58,25 @@ fn put_z_record(out: &mut [u8], recs: &[u8], zs: &[u8], es: &[u8], delta: Delta,
         share::put_entry_of(&mut out[a..e], i, k, share::mac_at(recs, at, k), key);
         k += 1;
     }
-    out[0] = block::bit_byte(block::bit(zs, t * area::Z_LEN));
+    share::put_head(out, block::bit(zs, t * area::Z_LEN));
 }
 
 // The same by value, with zeros behind it.
-fn z_record(recs: &[u8], zs: &[u8], es: &[u8], delta: Delta, f: Frame, t: usize) -> [u8; RECORD]
+fn z_record(
+    recs: &[u8],
+    zs: &[u8],
+    es: &[u8],
+    delta: Delta,
+    f: Frame,
+    t: usize,
+) -> [u8; RECORD_MOST]
     requires { ⌜ (Ranged f) × (t < leaky (f .l)) ⌝ }
-    requires { ⌜ Kept f (now recs) (now zs) (now es) ⌝ }
+    requires { ⌜ LeakyAnds f (now recs) (now zs) (now es) ⌝ }
     ensures { λ r. ⌜ r ≡ recordOf (f .n) (f .i)
         (B.zShare f (delta .0) (now (recs .entry)) (now (zs .entry)) (now (es .entry)) t)
-        ++ replicate (257 - recordLen (f .n)) 0 ⌝ }
+        ++ replicate (RECORD-MOST - recordLen (f .n)) 0 ⌝ }
 {
-    let mut z = [0u8; RECORD];
+    let mut z = [0u8; RECORD_MOST];
     let len = share::record_len(f.n);
     put_z_record(&mut z[..len], recs, zs, es, delta, f, t);
     z
@@ -79,7 +85,7 @@ fn z_record(recs: &[u8], zs: &[u8], es: &[u8], delta: Delta, f: Frame, t: usize)
 // The records x and z at position t.
 fn put_first(pair: &mut [u8], recs: &[u8], zs: &[u8], es: &[u8], delta: Delta, f: Frame, t: usize)
     requires { ⌜ (Ranged f) × (t < leaky (f .l)) × (length (now pair) ≡ 2 * recordLen (f .n)) ⌝ }
-    requires { ⌜ Kept f (now recs) (now zs) (now es) ⌝ }
+    requires { ⌜ LeakyAnds f (now recs) (now zs) (now es) ⌝ }
     ensures { λ _. ⌜ now (pair .exit) ≡ B.tripleRow f
         (leakyAt f (delta .0) (now (recs .entry)) (now (zs .entry)) (now (es .entry)) t) ⌝ }
 {
@@ -100,7 +106,7 @@ fn add_entry(
     d: bool,
 )
     requires { ⌜ (Ranged f) × (t < leaky (f .l)) × (length (now pair) ≡ 2 * recordLen (f .n)) ⌝ }
-    requires { ⌜ Kept f (now recs) (now zs) (now es) ⌝ }
+    requires { ⌜ LeakyAnds f (now recs) (now zs) (now es) ⌝ }
     ensures { λ _. ⌜ ((g : B.Triple) → Holds (f .n) (f .i) (recordLen (f .n)) g (now (pair .entry))
         → Holds (f .n) (f .i) (recordLen (f .n))
         (B.two g (leakyAt f (delta .0) (now (recs .entry)) (now (zs .entry)) (now (es .entry)) t) d) (now (pair .exit))) ⌝ }
@@ -168,7 +174,7 @@ fn sections(f: Frame) -> Places
 // The records a and c of bucket j, with zeros behind them.
 fn triple_row(work: &[u8], at: Places, delta: Delta, f: Frame, j: usize) -> [u8; PAIR]
     requires { ⌜ (Work f (now work)) × (j < f .l) × (Placed f at) ⌝ }
-    ensures { λ r. ⌜ r ≡ rowOf f (delta .0) (now (work .entry)) j ++ replicate (514 - 2 * recordLen (f .n)) 0 ⌝ }
+    ensures { λ r. ⌜ r ≡ rowOf f (delta .0) (now (work .entry)) j ++ replicate (2 * RECORD-MOST - 2 * recordLen (f .n)) 0 ⌝ }
 {
     let mut pair = [0u8; PAIR];
     let len = 2 * share::record_len(f.n);

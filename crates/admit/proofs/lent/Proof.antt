@@ -6,31 +6,31 @@ use Rattle.plan.specs.Plan.{leaky}
 use Rattle.engine.specs.Plain.{lentOf}
 use Rattle.rounds.specs.Table.{table}
 use Rattle.admit.specs.Admit.{loan}
-use Rattle.admit.specs.AdmitLaws.{lent-of, lent-six, lent-long, lent-perm, lent-rest}
+use Rattle.admit.specs.AdmitLaws.{lent-of, lent-r, lent-long, lent-perm, lent-rest}
 use Rattle.admit.proofs.lent.Statement.{statement}
 use Rattle.admit.proofs.lent.Tie as tie
 
--- round 6 is written
+-- `fabitn` is written
 module _ (c : tie.After-loaned) where
   abbrev s : tie.Start
   s = c .before .before .before .before .before .before
 
-  six : (x : ℕ) → x ≡ pick (c .loaned .result) 0 17
+  strings : (x : ℕ) → x ≡ pick (c .loaned .result) 0 17
       → x ≡ lentOf table (s .args .k) (s .args .n) (s .args .l) (loan (now (s .args .r)) (now (s .args .perm)))
-  six x e =
+  strings x e =
       let j = c .before .before .before .next-round in
       let a = s .args in
       lent-of (a .k) (a .n) (a .l) (j .result) x (loan (now (a .r)) (now (a .perm))) (j .ensures)
-      (lent-six (j .result) (a .n) (a .l) (now (a .r)) (now (a .perm)) (c .before .before .if1 .taken) x (c .loaned .result)
+      (lent-r (j .result) (a .n) (a .l) (now (a .r)) (now (a .perm)) (c .before .before .if1 .taken) x (c .loaned .result)
       (c .loaned .ensures ∙ ap (λ m. eqb (length (now (a .r))) m && eqb (length (now (a .perm))) 0) (c .before .r-len .ensures)) e)
 
 returns : tie.Need-returns
-returns c = six (c .before) 0 (ap (λ b. pick {A = ℕ} b 0 17) (sym (c .if2 .taken)))
+returns c = strings (c .before) 0 (ap (λ b. pick {A = ℕ} b 0 17) (sym (c .if2 .taken)))
 
 returns-2 : tie.Need-returns-2
-returns-2 c = six (c .before) 17 (ap (λ b. pick {A = ℕ} b 0 17) (sym (c .if2 .left)))
+returns-2 c = strings (c .before) 17 (ap (λ b. pick {A = ℕ} b 0 17) (sym (c .if2 .left)))
 
--- round 21 is written
+-- `dvalue` is written
 module _ (c : tie.After-loaned2) where
   abbrev s2 : tie.Start
   s2 = c .before .before .before .before .before .before .before
@@ -89,19 +89,5 @@ returns-7 c = rest (c .before) 17 (ap (λ b. pick {A = ℕ} b 0 17) (sym (c .if6
 
 pub lent-spec : {M : Type 1} → statement M
 lent-spec =
-    tie.close
-    (tie.spec
-    (λ c κs. search needs)
-    (λ c κs. search needs)
-    (λ c κs. search needs)
-    returns
-    returns-2
-    (λ c κs. search needs)
-    (λ c κs. search needs)
-    (λ c κs. search needs)
-    returns-3
-    returns-4
-    returns-5
-    (λ c κs. search needs)
-    returns-6
-    returns-7)
+    tie.close (tie.spec (λ c κs. search needs) (λ c κs. search needs) (λ c κs. search needs) returns returns-2 (λ c κs. search needs)
+    (λ c κs. search needs) (λ c κs. search needs) returns-3 returns-4 returns-5 (λ c κs. search needs) returns-6 returns-7)

@@ -42,14 +42,4 @@ returns-2 c l =
 
 pub parts-in-spec : {M : Type 1} → statement M
 parts-in-spec =
-    tie.close
-    (tie.spec
-    Inv-loop
-    μ-loop
-    loop-holds
-    part-in-requires
-    returns
-    (λ c. search needs)
-    (λ c. search needs)
-    loop-again
-    returns-2)
+    tie.close (tie.spec Inv-loop μ-loop loop-holds part-in-requires returns (λ c. search needs) (λ c. search needs) loop-again returns-2)

@@ -95,14 +95,5 @@ returns-5 c =
 
 pub reason-spec : {M : Type 1} → statement M
 reason-spec =
-    tie.close
-    (tie.spec
-    (λ c κs. search needs)
-    returns
-    returns-2
-    lengths-requires
-    returns-3
-    parts-in-requires
-    returns-4
-    lent-requires
+    tie.close (tie.spec (λ c κs. search needs) returns returns-2 lengths-requires returns-3 parts-in-requires returns-4 lent-requires
     returns-5)

@@ -1,6 +1,5 @@
 -- `area::section_at` meets its contract: at turn k the sum is where section k starts.
 use Rattle.lists.specs.Kit.{_≡_, refl, ap, _∙_, ℕ, _+_, _-_, _≤_, arith, needs}
-use Rattle.engine.specs.Step.{frame}
 use Rattle.engine.specs.Area.{off}
 use Rattle.rounds.specs.Area.{sizeOf}
 use Rattle.area.specs.AreaLaws.{size-most, off-most, off-turn}
@@ -43,14 +42,4 @@ returns c =
 
 pub section-at-spec : {M : Type 1} → statement M
 section-at-spec =
-    tie.close
-    (tie.spec
-    Inv-loop
-    μ-loop
-    loop-holds
-    section-len-requires
-    add-at
-    (λ c. search needs)
-    (λ c. search needs)
-    loop-again
-    returns)
+    tie.close (tie.spec Inv-loop μ-loop loop-holds section-len-requires add-at (λ c. search needs) (λ c. search needs) loop-again returns)

@@ -1,7 +1,7 @@
 -- `area::section_len` meets its contract: an arm for each section.
 use Rattle.lists.specs.Kit.{_≡_, refl, _+_, _-_, _*_, _≤_, arith, needs}
 use native.Mathlib.Nat.{le-antisymm}
-use Rattle.share.specs.Record.{recordLen}
+use Rattle.share.specs.Layout.{RECORD-MOST, recordLen}
 use Rattle.plan.specs.Plan.{bucketSize, leaky, dmLen}
 use Rattle.plan.specs.PlanLaws.{leaky-most, bucket-low, bucket-high}
 use Rattle.rounds.specs.Area.{leakyLen, sizes, sizeOf}
@@ -101,11 +101,16 @@ mul-result-23 c =
     let h : bucketSize (a .f .l) - 1 ≤ 4 = omega (arith, bucket-high (a .f .l)) in
     rw (c .bucket-size .ensures) (omega (arith, by-result (a .f) r (bucketSize (a .f .l) - 1) h))
 
+mul-result-24 : tie.Need-mul-result-24
+mul-result-24 c =
+    let s = c .before .before .before in
+    omega (arith, c .before .record-len .ensures, record-at-most (s .args .f) (s .pre .0))
+
 mul-result-25 : tie.Need-mul-result-25
 mul-result-25 c =
     let a = c .before .before .before .args in
     let r = c .before .before .before .pre .0 in
-    let h : 2 * recordLen (a .f .n) ≤ 514 = omega (arith, record-at-most (a .f) r) in
+    let h : 2 * recordLen (a .f .n) ≤ 2 * RECORD-MOST = omega (arith, record-at-most (a .f) r) in
     rw (c .before .record-len .ensures) (omega (arith, by-result (a .f) r (2 * recordLen (a .f .n)) h))
 
 returns : tie.Need-returns
@@ -226,63 +231,10 @@ returns-25 c =
 
 pub section-len-spec : {M : Type 1} → statement M
 section-len-spec =
-    tie.close
-    (tie.spec
-    (λ c κs. search needs)
-    (λ c κs. search needs)
-    (λ c. search needs)
-    mul-result-2
-    (λ c κs. search needs)
-    mul-result-3
-    mul-result-4
-    mul-result-5
-    (λ c. search needs)
-    (λ c. search needs)
-    (λ c. search needs)
-    (λ c. search needs)
-    (λ c. search needs)
-    (λ c. search needs)
-    (λ c. search needs)
-    (λ c κs. search needs)
-    mul-result-13
-    mul-result-14
-    (λ c. search needs)
-    (λ c. search needs)
-    mul-result-16
-    mul-result-17
-    mul-result-18
-    mul-result-19
-    mul-result-20
-    mul-result-21
-    mul-result-22
-    (λ c κs. search needs)
-    sub-result
-    mul-result-23
-    (λ c. search needs)
-    mul-result-25
-    (λ c. search needs)
-    returns
-    returns-2
-    returns-3
-    returns-4
-    returns-5
-    returns-6
-    returns-7
-    returns-8
-    returns-9
-    returns-10
-    returns-11
-    returns-12
-    returns-13
-    returns-14
-    returns-15
-    returns-16
-    returns-17
-    returns-18
-    returns-19
-    returns-20
-    returns-21
-    returns-22
-    returns-23
-    returns-24
-    returns-25)
+    tie.close (tie.spec (λ c κs. search needs) (λ c κs. search needs) (λ c. search needs) mul-result-2 (λ c κs. search needs) mul-result-3
+    mul-result-4 mul-result-5 (λ c. search needs) (λ c. search needs) (λ c. search needs) (λ c. search needs) (λ c. search needs)
+    (λ c. search needs) (λ c. search needs) (λ c κs. search needs) mul-result-13 mul-result-14 (λ c. search needs) (λ c. search needs)
+    mul-result-16 mul-result-17 mul-result-18 mul-result-19 mul-result-20 mul-result-21 mul-result-22 (λ c κs. search needs) sub-result
+    mul-result-23 mul-result-24 mul-result-25 (λ c. search needs) returns returns-2 returns-3 returns-4 returns-5 returns-6 returns-7
+    returns-8 returns-9 returns-10 returns-11 returns-12 returns-13 returns-14 returns-15 returns-16 returns-17 returns-18 returns-19
+    returns-20 returns-21 returns-22 returns-23 returns-24 returns-25)

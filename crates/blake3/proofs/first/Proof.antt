@@ -33,7 +33,4 @@ returns-2 c =
     sym (item-is (b .args .stride) (b .args .s .now) (b .pre .0) (b .args .i) (b .pre .1) (omega arith))
 
 pub first-spec : {M : Type 1} → statement M
-first-spec =
-    tie.close
-    (tie.spec
-    shared-slice-read-result mul-result add-result shared-slice-read-result-2 returns returns-2)
+first-spec = tie.close (tie.spec shared-slice-read-result mul-result add-result shared-slice-read-result-2 returns returns-2)

@@ -55,11 +55,8 @@ returns c =
 
 pub gathered-spec : {M : Type 1} → statement M
 gathered-spec =
-    tie.close
-    (tie.spec
-    Inv-loop μ-loop loop-holds add-first (λ c κs. (c .before .before .before .pre .0 .0, omega arith)) (λ c. omega arith)
-    (λ c. omega arith) (λ c. omega arith) loop-again (λ c. omega arith)
+    tie.close (tie.spec Inv-loop μ-loop loop-holds add-first (λ c κs. (c .before .before .before .pre .0 .0, omega arith))
+    (λ c. omega arith) (λ c. omega arith) (λ c. omega arith) loop-again (λ c. omega arith)
     (λ c. sym (length-take-le (c .before .before .before .before .args .len) (c .before .before .loop .b) (omega arith)))
-    (λ c κs.
-    omega (arith, length-take-le (c .before .before .before .before .args .len) (c .before .before .loop .b) (omega arith)))
+    (λ c κs. omega (arith, length-take-le (c .before .before .before .before .args .len) (c .before .before .loop .b) (omega arith)))
     returns)

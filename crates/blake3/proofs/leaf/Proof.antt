@@ -20,7 +20,5 @@ returns c =
 
 pub leaf-spec : {M : Type 1} → statement M
 leaf-spec =
-    tie.close
-    (tie.spec
-    add-e (λ c. search needs) (λ c. search needs) part-chunk-end (λ c κs. search needs) (λ c κs. search needs) returns
+    tie.close (tie.spec add-e (λ c. search needs) (λ c. search needs) part-chunk-end (λ c κs. search needs) (λ c κs. search needs) returns
     (λ c. search needs))

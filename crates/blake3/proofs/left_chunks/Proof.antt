@@ -20,6 +20,4 @@ returns c = record { power = c .before .loop .inv .0; below = omega arith; next 
 
 pub left-chunks-spec : {M : Type 1} → statement M
 left-chunks-spec =
-    tie.close
-    (tie.spec
-    Inv-loop μ-loop (λ c. (power-one, omega arith)) (λ c. omega arith) (λ c. omega arith) loop-less loop-again returns)
+    tie.close (tie.spec Inv-loop μ-loop (λ c. (power-one, omega arith)) (λ c. omega arith) (λ c. omega arith) loop-less loop-again returns)

@@ -8,5 +8,4 @@ unfolding T.hash
 returns c = c .store .ensures ∙ ap T.bytes (c .before .before .hash-block .ensures)
 
 pub nuz-blake3-block-spec : {M : Type 1} → statement M
-nuz-blake3-block-spec = tie.close (tie.spec
-    (λ c κs. search needs) (λ c κs. search needs) returns)
+nuz-blake3-block-spec = tie.close (tie.spec (λ c κs. search needs) (λ c κs. search needs) returns)

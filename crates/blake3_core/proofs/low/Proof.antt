@@ -9,5 +9,4 @@ returns : tie.Need-returns
 returns c = and-mask (c .args .t) 32
 
 pub low-spec : {M : Type 1} → statement M
-low-spec = tie.close (tie.spec
-    cast-result returns)
+low-spec = tie.close (tie.spec cast-result returns)

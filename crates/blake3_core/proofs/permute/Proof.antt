@@ -32,8 +32,6 @@ returns c =
 
 pub permute-spec : {M : Type 1} → statement M
 permute-spec =
-    tie.close
-    (tie.spec
-    Inv-loop μ-loop (λ c. (tab-zero _ _, refl, omega arith)) (λ c. omega arith) (λ c. omega arith)
-    (λ c. omega (arith, inside (c .before .loop .i))) element-copy-out-w (λ c. omega arith) (λ c. omega arith) (λ c. omega arith) (λ c. omega arith)
-    loop-again returns)
+    tie.close (tie.spec Inv-loop μ-loop (λ c. (tab-zero _ _, refl, omega arith)) (λ c. omega arith) (λ c. omega arith)
+    (λ c. omega (arith, inside (c .before .loop .i))) element-copy-out-w (λ c. omega arith) (λ c. omega arith) (λ c. omega arith)
+    (λ c. omega arith) loop-again returns)

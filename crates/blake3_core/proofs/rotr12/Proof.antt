@@ -8,5 +8,4 @@ unfolding rotr
 returns c = turned (c .args .x) 20 12 (c .fits .x .fits)
 
 pub rotr12-spec : {M : Type 1} → statement M
-rotr12-spec = tie.close (tie.spec
-    returns)
+rotr12-spec = tie.close (tie.spec returns)

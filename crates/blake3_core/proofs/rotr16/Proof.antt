@@ -8,5 +8,4 @@ unfolding rotr
 returns c = turned (c .args .x) 16 16 (c .fits .x .fits)
 
 pub rotr16-spec : {M : Type 1} → statement M
-rotr16-spec = tie.close (tie.spec
-    returns)
+rotr16-spec = tie.close (tie.spec returns)

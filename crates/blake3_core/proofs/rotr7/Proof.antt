@@ -8,5 +8,4 @@ unfolding rotr
 returns c = turned (c .args .x) 25 7 (c .fits .x .fits)
 
 pub rotr7-spec : {M : Type 1} → statement M
-rotr7-spec = tie.close (tie.spec
-    returns)
+rotr7-spec = tie.close (tie.spec returns)

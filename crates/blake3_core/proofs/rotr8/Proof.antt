@@ -8,5 +8,4 @@ unfolding rotr
 returns c = turned (c .args .x) 24 8 (c .fits .x .fits)
 
 pub rotr8-spec : {M : Type 1} → statement M
-rotr8-spec = tie.close (tie.spec
-    returns)
+rotr8-spec = tie.close (tie.spec returns)

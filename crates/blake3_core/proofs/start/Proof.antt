@@ -12,5 +12,4 @@ returns c =
     with-counter (a .h .now) (a .n) (a .f) (c .before .before .low .ensures) (c .before .high .ensures) (c .state .ensures)
 
 pub start-spec : {M : Type 1} → statement M
-start-spec =
-    tie.close (tie.spec (λ c κs. search needs) (λ c κs. search needs) (λ c κs. search needs) returns)
+start-spec = tie.close (tie.spec (λ c κs. search needs) (λ c κs. search needs) (λ c κs. search needs) returns)

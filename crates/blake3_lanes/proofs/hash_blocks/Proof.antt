@@ -121,40 +121,8 @@ returns c =
 
 pub hash-blocks-spec : {M : Type 1} → statement M
 hash-blocks-spec =
-    tie.close
-    (tie.spec
-    Inv-loop
-    μ-loop
-    Inv-loop2
-    μ-loop2
-    loop-holds
-    (λ c. omega arith)
-    mul-a
-    add-e
-    mul-b
-    add-f
-    (λ c. omega arith)
-    (λ c. search needs)
-    (λ c. out-in c)
-    (λ c. omega arith)
-    (λ c. search needs)
-    (λ c. blocks-in (c .before))
-    (λ c κs. search needs)
-    (λ c. omega arith)
-    (λ c. omega arith)
-    loop-again
-    loop2-holds
-    mul-a-2
-    add-e-2
-    mul-load
-    (λ c κs. block-in c)
-    (λ c κs. search needs)
-    (λ c. omega arith)
-    (λ c. search needs)
-    (λ c. one-in (c .before .before))
-    (λ c κs. search needs)
-    (λ c. omega arith)
-    (λ c. omega arith)
-    loop2-again
-    same-length
-    returns)
+    tie.close (tie.spec Inv-loop μ-loop Inv-loop2 μ-loop2 loop-holds (λ c. omega arith) mul-a add-e mul-b add-f (λ c. omega arith)
+    (λ c. search needs) (λ c. out-in c) (λ c. omega arith) (λ c. search needs) (λ c. blocks-in (c .before)) (λ c κs. search needs)
+    (λ c. omega arith) (λ c. omega arith) loop-again loop2-holds mul-a-2 add-e-2 mul-load (λ c κs. block-in c) (λ c κs. search needs)
+    (λ c. omega arith) (λ c. search needs) (λ c. one-in (c .before .before)) (λ c κs. search needs) (λ c. omega arith) (λ c. omega arith)
+    loop2-again same-length returns)

@@ -8,5 +8,4 @@ returns c i =
     record { 0 = l .low .ensures i; 1 = c .before .before .high .ensures i; 2 = c .before .low2 .ensures i; 3 = c .high2 .ensures i }
 
 pub split-spec : {M : Type 1} → statement M
-split-spec =
-    tie.close (tie.spec (λ c κs. search needs) (λ c κs. search needs) (λ c κs. search needs) (λ c κs. search needs) returns)
+split-spec = tie.close (tie.spec (λ c κs. search needs) (λ c κs. search needs) (λ c κs. search needs) (λ c κs. search needs) returns)

@@ -8,5 +8,4 @@ returns c =
     (c .fits .c .fits) (c .fits .d .fits)
 
 pub joined-spec : {M : Type 1} → statement M
-joined-spec = tie.close (tie.spec
-    returns)
+joined-spec = tie.close (tie.spec returns)

@@ -25,7 +25,5 @@ returns c =
 
 pub padded-spec : {M : Type 1} → statement M
 padded-spec =
-    tie.close
-    (tie.spec
-    Inv-loop μ-loop (λ c. (refl, refl, omega arith)) (λ c. omega arith) (λ c. omega arith) (λ c. omega arith) (λ c. omega arith) loop-again
-    (λ c. sym (c .before .before .loop .inv .1)) (λ c κs. omega arith) returns)
+    tie.close (tie.spec Inv-loop μ-loop (λ c. (refl, refl, omega arith)) (λ c. omega arith) (λ c. omega arith) (λ c. omega arith)
+    (λ c. omega arith) loop-again (λ c. sym (c .before .before .loop .inv .1)) (λ c κs. omega arith) returns)

@@ -11,5 +11,4 @@ returns c =
     ∙ ap (λ (m : List ℕ). compress IV m 0 64 (4 + c .before .before .before .before .args .f)) (c .before .before .before .both .ensures)
 
 pub parent-spec : {M : Type 1} → statement M
-parent-spec = tie.close (tie.spec
-    (λ c κs. search needs) (λ c. search needs) (λ c κs. search needs) returns)
+parent-spec = tie.close (tie.spec (λ c κs. search needs) (λ c. search needs) (λ c κs. search needs) returns)

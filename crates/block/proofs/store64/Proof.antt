@@ -23,23 +23,6 @@ returns c = sets-all (le8 (c .args .w)) (now (c .args .out)) (c .pre)
 
 pub store64-spec : {M : Type 1} → statement M
 store64-spec =
-    tie.close
-    (tie.spec
-    (λ c. search needs)
-    (λ c. search needs)
-    (λ c. search needs)
-    (λ c. search needs)
-    (λ c. search needs)
-    (λ c. search needs)
-    (λ c. search needs)
-    (λ c. search needs)
-    (λ c. search needs)
-    slice-write-out-5
-    (λ c. search needs)
-    slice-write-out-6
-    (λ c. search needs)
-    slice-write-out-7
-    (λ c. search needs)
-    slice-write-out-8
-    (λ c. search needs)
-    returns)
+    tie.close (tie.spec (λ c. search needs) (λ c. search needs) (λ c. search needs) (λ c. search needs) (λ c. search needs)
+    (λ c. search needs) (λ c. search needs) (λ c. search needs) (λ c. search needs) slice-write-out-5 (λ c. search needs) slice-write-out-6
+    (λ c. search needs) slice-write-out-7 (λ c. search needs) slice-write-out-8 (λ c. search needs) returns)

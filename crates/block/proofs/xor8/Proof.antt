@@ -15,5 +15,4 @@ returns c =
     (λ i. c .before .before .before .before .before .before .before .shared-slice-known .given i .fits) (s .pre .0) (s .pre .1)
 
 pub xor8-spec : {M : Type 1} → statement M
-xor8-spec =
-    tie.close (tie.spec (λ c κs. search needs) (λ c κs. search needs) (λ c κs. search needs) (λ c. search needs) returns)
+xor8-spec = tie.close (tie.spec (λ c κs. search needs) (λ c κs. search needs) (λ c κs. search needs) (λ c. search needs) returns)

@@ -48,5 +48,4 @@ returns-2 c =
     (finds-two _ _ _ (pending table (a .k) f (now (a .work))) (sym (h .code-is) ∙ c .before .if1 .left) (c .pending .ensures))
 
 pub check-spec : {M : Type 1} → statement M
-check-spec =
-    tie.close (tie.spec section-requires check-echoes-requires returns pending-requires returns-2)
+check-spec = tie.close (tie.spec section-requires check-echoes-requires returns pending-requires returns-2)

@@ -2,43 +2,44 @@
 use Rattle.lists.specs.Kit.{_≡_, refl, ℕ}
 use mathlib.Core.Logic.{_⊎_, inl, inr}
 use lib.Dec.{eqb}
+use Rattle.plan.specs.Plan.{RNG-VER, PAIR-VER, FABITN, FASHARE-VER, FASHARE-DIBI, FLAAND-HASH, DVALUE, FAAND}
 use Rattle.engine.specs.Area.{mem}
 use Rattle.rounds.specs.Table.{faults}
 use Rattle.broadcast.specs.BroadcastLaws.{faults-one, faults-two, faults-none}
 use Rattle.broadcast.proofs.finds.Statement.{statement}
 use Rattle.broadcast.proofs.finds.Tie as tie
 
-seeds : (k code : ℕ) → (k ≡ 3) ⊎ (k ≡ 5) → eqb code 2 ≡ mem code (faults k)
+seeds : (k code : ℕ) → (k ≡ RNG-VER) ⊎ (k ≡ PAIR-VER) → eqb code 2 ≡ mem code (faults k)
 unfolding faults
-seeds k code (inl e) = faults-one k code 3 2 refl e
-seeds k code (inr e) = faults-one k code 5 2 refl e
+seeds k code (inl e) = faults-one k code RNG-VER 2 refl e
+seeds k code (inr e) = faults-one k code PAIR-VER 2 refl e
 
 returns : tie.Need-returns
 returns c = seeds (c .before .args .k) (c .before .args .code) (c .match .keys1)
 
 returns-2 : tie.Need-returns-2
 unfolding faults
-returns-2 c = faults-one (c .before .args .k) (c .before .args .code) 6 8 refl (c .match .keys2)
+returns-2 c = faults-one (c .before .args .k) (c .before .args .code) FABITN 8 refl (c .match .keys2)
 
 returns-3 : tie.Need-returns-3
 unfolding faults
-returns-3 c = faults-two (c .before .args .k) (c .before .args .code) 10 4 1 refl (c .match .keys3)
+returns-3 c = faults-two (c .before .args .k) (c .before .args .code) FASHARE-VER 4 1 refl (c .match .keys3)
 
 returns-4 : tie.Need-returns-4
 unfolding faults
-returns-4 c = faults-two (c .before .args .k) (c .before .args .code) 12 2 9 refl (c .match .keys4)
+returns-4 c = faults-two (c .before .args .k) (c .before .args .code) FASHARE-DIBI 2 9 refl (c .match .keys4)
 
 returns-5 : tie.Need-returns-5
 unfolding faults
-returns-5 c = faults-two (c .before .args .k) (c .before .args .code) 19 2 10 refl (c .match .keys5)
+returns-5 c = faults-two (c .before .args .k) (c .before .args .code) FLAAND-HASH 2 10 refl (c .match .keys5)
 
 returns-6 : tie.Need-returns-6
 unfolding faults
-returns-6 c = faults-one (c .before .args .k) (c .before .args .code) 21 11 refl (c .match .keys6)
+returns-6 c = faults-one (c .before .args .k) (c .before .args .code) DVALUE 11 refl (c .match .keys6)
 
 returns-7 : tie.Need-returns-7
 unfolding faults
-returns-7 c = faults-one (c .before .args .k) (c .before .args .code) 22 12 refl (c .match .keys7)
+returns-7 c = faults-one (c .before .args .k) (c .before .args .code) FAAND 12 refl (c .match .keys7)
 
 returns-8 : tie.Need-returns-8
 returns-8 c =

@@ -25,5 +25,5 @@ returns c =
 
 pub keep-fault-spec : {M : Type 1} → statement M
 keep-fault-spec =
-    tie.close
-    (tie.spec (λ c κs. search needs) (λ c. search needs) (λ c. search needs) part-end put-fault-requires (λ c. search needs) returns)
+    tie.close (tie.spec (λ c κs. search needs) (λ c. search needs) (λ c. search needs) part-end put-fault-requires (λ c. search needs)
+    returns)

@@ -26,5 +26,5 @@ returns c =
 
 pub keep-hashes-spec : {M : Type 1} → statement M
 keep-hashes-spec =
-    tie.close
-    (tie.spec (λ c κs. search needs) (λ c. search needs) (λ c. search needs) part-end keep-hashes-requires (λ c. search needs) returns)
+    tie.close (tie.spec (λ c κs. search needs) (λ c. search needs) (λ c. search needs) part-end keep-hashes-requires (λ c. search needs)
+    returns)

@@ -45,13 +45,5 @@ returns-2 c =
 
 pub pending-spec : {M : Type 1} → statement M
 pending-spec =
-    tie.close
-    (tie.spec
-    section-requires
-    shared-slice-read-code
-    shared-slice-read-wide
-    (λ c κs. search needs)
-    (λ c. search needs)
-    (λ c κs. search needs)
-    returns
-    returns-2)
+    tie.close (tie.spec section-requires shared-slice-read-code shared-slice-read-wide (λ c κs. search needs) (λ c. search needs)
+    (λ c κs. search needs) returns returns-2)

@@ -23,5 +23,4 @@ returns c =
     ∙ waits-is (a .code) (a .party) (c .party-byte .result) (c .party-byte .ensures)
 
 pub put-fault-spec : {M : Type 1} → statement M
-put-fault-spec =
-    tie.close (tie.spec slice-write-out party-byte-requires slice-write-out-2 same-length returns)
+put-fault-spec = tie.close (tie.spec slice-write-out party-byte-requires slice-write-out-2 same-length returns)

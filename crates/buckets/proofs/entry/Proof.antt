@@ -46,14 +46,4 @@ returns c =
     ap₂ _%_ (c .before .word4 .ensures ∙ ap (λ k. word4 (now (s b .args .perm)) ((k + s b .args .e) * 4)) (same b)) (c .leaky .ensures)
 
 pub entry-spec : {M : Type 1} → statement M
-entry-spec =
-    tie.close
-    (tie.spec
-    (λ c κs. search needs)
-    mul-at
-    add-at
-    mul-at-2
-    word4-requires
-    (λ c κs. search needs)
-    rem-result
-    returns)
+entry-spec = tie.close (tie.spec (λ c κs. search needs) mul-at add-at mul-at-2 word4-requires (λ c κs. search needs) rem-result returns)

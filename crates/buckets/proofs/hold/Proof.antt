@@ -31,12 +31,5 @@ returns c =
 
 pub hold-spec : {M : Type 1} → statement M
 hold-spec =
-    tie.close
-    (tie.spec
-    (λ c κs. search needs)
-    (λ c. search needs)
-    (λ c. search needs)
-    part-put-numbers-end
-    put-numbers-requires
-    (λ c. search needs)
-    returns)
+    tie.close (tie.spec (λ c κs. search needs) (λ c. search needs) (λ c. search needs) part-put-numbers-end put-numbers-requires
+    (λ c. search needs) returns)

@@ -52,21 +52,6 @@ returns c =
 
 pub put-numbers-spec : {M : Type 1} → statement M
 put-numbers-spec =
-    tie.close
-    (tie.spec
-    Inv-loop
-    μ-loop
-    loop-holds
-    (λ c. search needs)
-    (λ c. search needs)
-    (λ c. search needs)
-    (λ c. search needs)
-    part-store4-end
-    (λ c. search needs)
-    (λ c. search needs)
-    store4-requires
-    (λ c. search needs)
-    (λ c. search needs)
-    loop-again
-    same-length
+    tie.close (tie.spec Inv-loop μ-loop loop-holds (λ c. search needs) (λ c. search needs) (λ c. search needs) (λ c. search needs)
+    part-store4-end (λ c. search needs) (λ c. search needs) store4-requires (λ c. search needs) (λ c. search needs) loop-again same-length
     returns)

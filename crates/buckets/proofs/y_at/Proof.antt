@@ -1,5 +1,6 @@
 use Rattle.lists.specs.Kit.{ap₂, _+_, _*_, _≤_, arith, now, needs}
 use native.Mathlib.Nat.{mul-le-mul-right}
+use Rattle.share.specs.Layout.{record-most}
 use Rattle.plan.specs.Plan.{leaky}
 use Rattle.plan.specs.PlanLaws.{leaky-most}
 use Rattle.rounds.specs.Buckets.{entry}
@@ -24,18 +25,10 @@ add-result c = omega (arith, few c)
 mul-result : tie.Need-mul-result
 mul-result c =
     let s = c .before .before .before .before in
-    omega (arith, mul-le-mul-right (c .record-len .result) (few (c .before)), c .record-len .ensures, s .pre .0 .range .eight)
+    omega (arith, mul-le-mul-right (c .record-len .result) (few (c .before)), c .record-len .ensures, record-most (s .args .f .n) (s .pre .0 .range .eight))
 
 returns : tie.Need-returns
 returns c = ap₂ _*_ (ap₂ _+_ (c .before .before .leaky .ensures) (c .before .entry .ensures)) (c .record-len .ensures)
 
 pub y-at-spec : {M : Type 1} → statement M
-y-at-spec =
-    tie.close
-    (tie.spec
-    (λ c κs. search needs)
-    (λ c κs. search needs)
-    add-result
-    (λ c κs. search needs)
-    mul-result
-    returns)
+y-at-spec = tie.close (tie.spec (λ c κs. search needs) (λ c κs. search needs) add-result (λ c κs. search needs) mul-result returns)

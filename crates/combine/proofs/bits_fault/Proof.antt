@@ -27,5 +27,4 @@ returns-2 c = stop-none _ _ 0 1 (c .before .loop .e) (c .before .loop .inv .0) (
 
 pub bits-fault-spec : {M : Type 1} → statement M
 bits-fault-spec =
-    tie.close
-    (tie.spec Inv-loop μ-loop loop-holds (λ c. search needs) returns (λ c. search needs) (λ c. search needs) loop-again returns-2)
+    tie.close (tie.spec Inv-loop μ-loop loop-holds (λ c. search needs) returns (λ c. search needs) (λ c. search needs) loop-again returns-2)

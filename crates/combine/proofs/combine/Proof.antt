@@ -1,4 +1,4 @@
-use Rattle.lists.specs.Kit.{_≡_, sym, ap, ap₂, _∙_, List, ℕ, _+_, _-_, _*_, _≤_, arith, length, getD, now, needs}
+use Rattle.lists.specs.Kit.{_≡_, sym, ap, _∙_, List, ℕ, _+_, _-_, _*_, _≤_, arith, length, getD, now, needs}
 use Rattle.algebra.specs.Group.{odd}
 use Rattle.share.specs.Record.{recordLen}
 use Rattle.engine.specs.Step.{Accepted, Refused, replyOf}
@@ -49,5 +49,4 @@ returns-2 c =
     ∙ sym (spec-accepts a (none e))
 
 pub combine-spec : {M : Type 1} → statement M
-combine-spec =
-    tie.close (tie.spec (λ c κs. search needs) (λ c. search needs) returns combine-all-requires (λ c. search needs) returns-2)
+combine-spec = tie.close (tie.spec (λ c κs. search needs) (λ c. search needs) returns combine-all-requires (λ c. search needs) returns-2)

@@ -1,11 +1,10 @@
-use Rattle.lists.specs.Kit.{_≡_, refl, sym, ap, ap₂, subst, _∙_, List, Bool, ℕ, _+_, _-_, _*_, _≤_, arith, length, getD, now, needs}
+use Rattle.lists.specs.Kit.{_≡_, ap, _∙_, List, Bool, ℕ, _+_, _-_, _*_, _≤_, arith, length, getD, now, needs}
 use Rattle.lists.specs.Over.{in-chunks}
 use Rattle.algebra.specs.Group.{odd}
 use Rattle.share.specs.Record.{recordLen}
-use Rattle.rounds.specs.Buckets.{Triple, two, combine}
+use Rattle.rounds.specs.Buckets.{Triple, combine}
 use Rattle.rounds.specs.Combine.{triple, records}
-use Rattle.combine.specs.Pair.{pairAt, putPair}
-use Rattle.combine.specs.Records.{Stands, stands-first, stands-turn, stands-end, small-triple, all-turn, x-inside, z-inside}
+use Rattle.combine.specs.Records.{Stands, stands-first, stands-end, small-triple, all-turn, x-inside, z-inside}
 use Rattle.combine.proofs.combine_all.Statement.{statement}
 use Rattle.combine.proofs.combine_all.Tie as tie
 
@@ -93,23 +92,6 @@ same-length c =
 
 pub combine-all-spec : {M : Type 1} → statement M
 combine-all-spec =
-    tie.close
-    (tie.spec
-    Inv-loop
-    μ-loop
-    (λ c κs. search needs)
-    put-first-requires
-    loop-holds
-    (λ c. search needs)
-    (λ c. search needs)
-    mul-x2
-    (λ c. search needs)
-    mul-z2
-    (λ c. search needs)
-    (λ c κs. search needs)
-    combine-two-requires
-    (λ c. search needs)
-    (λ c. search needs)
-    loop-again
-    (λ c. same-length c)
-    returns)
+    tie.close (tie.spec Inv-loop μ-loop (λ c κs. search needs) put-first-requires loop-holds (λ c. search needs) (λ c. search needs) mul-x2
+    (λ c. search needs) mul-z2 (λ c. search needs) (λ c κs. search needs) combine-two-requires (λ c. search needs) (λ c. search needs)
+    loop-again (λ c. same-length c) returns)

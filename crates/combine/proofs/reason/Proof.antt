@@ -1,9 +1,9 @@
-use Rattle.lists.specs.Kit.{_≡_, sym, ap, _∙_, Bool, ℕ, _+_, _-_, _*_, _≤_, arith, length, getD, now, needs}
+use Rattle.lists.specs.Kit.{_≡_, sym, ap, _∙_, Bool, ℕ, _+_, _-_, _*_, _≤_, arith, getD, now, needs}
 use native.Mathlib.Nat.{mul-le-mul-right}
 use lib.Dec.{leb}
 use Rattle.lists.specs.Pick.{pick, tests}
 use Rattle.lists.specs.All.{allOf}
-use Rattle.share.specs.Record.{recordLen}
+use Rattle.share.specs.Layout.{recordLen, record-most}
 use Rattle.rounds.specs.Combine as C
 use Rattle.rounds.specs.CombineLaws.{Ranged, reason-records, reason-d, reason-out, reason-bytes, bytes-records, bytes-d}
 use Rattle.combine.proofs.reason.Statement.{statement}
@@ -48,7 +48,12 @@ module _ (c : tie.After-record-len) where
 
 mul-if6-2 : tie.Need-mul-if6-2
 mul-if6-2 c =
-    omega (arith, mul-le-mul-right (c .record-len .result) (let e : 3 * s c .args .count ≤ 15 = omega arith in e))
+    omega (
+      arith,
+      mul-le-mul-right (c .record-len .result) (let e : 3 * s c .args .count ≤ 15 = omega arith in e),
+      c .record-len .ensures,
+      record-most (s c .args .n) (ranged c .eight),
+    )
 
 returns-6 : tie.Need-returns-6
 returns-6 c = sym (reason-records (given (c .before)) (ranged (c .before)) (λ e. c .if6 .taken (e ∙ sym (long (c .before)))))
@@ -57,6 +62,11 @@ returns-7 : tie.Need-returns-7
 returns-7 c =
     let r = c .before .before in
     sym (reason-d (given r) (ranged r) (c .before .if6 .left ∙ long r) (c .if7 .taken))
+
+mul-if8 : tie.Need-mul-if8
+mul-if8 c =
+    let r = c .before .before in
+    omega (arith, r .record-len .ensures, record-most (s r .args .n) (ranged r .eight))
 
 returns-8 : tie.Need-returns-8
 returns-8 c =
@@ -89,23 +99,5 @@ returns-10 c =
 
 pub reason-spec : {M : Type 1} → statement M
 reason-spec =
-    tie.close
-    (tie.spec
-    returns
-    returns-2
-    returns-3
-    returns-4
-    returns-5
-    (λ c κs. search needs)
-    (λ c. search needs)
-    mul-if6-2
-    returns-6
-    (λ c. search needs)
-    returns-7
-    (λ c. search needs)
-    returns-8
-    (λ c. search needs)
-    check-records-requires
-    returns-9
-    (λ c κs. search needs)
-    returns-10)
+    tie.close (tie.spec returns returns-2 returns-3 returns-4 returns-5 (λ c κs. search needs) (λ c. search needs) mul-if6-2 returns-6
+    (λ c. search needs) returns-7 mul-if8 returns-8 (λ c. search needs) check-records-requires returns-9 (λ c κs. search needs) returns-10)

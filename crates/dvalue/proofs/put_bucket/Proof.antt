@@ -1,6 +1,6 @@
 use Rattle.lists.specs.Kit.{_≡_, ap, ap₂, subst, _∙_, List, Bool, ℕ, _+_, _-_, _<_, _≤_, arith, length, now, needs}
 use Rattle.block.specs.declared.Block.{Block}
-use Rattle.share.specs.Record.{recordLen}
+use Rattle.share.specs.Layout.{recordLen, record-some, record-within}
 use Rattle.share.specs.Share.{Share}
 use Rattle.encode.specs.Encode.{dvalueItem}
 use Rattle.encode.specs.Bucket.{dvalueIn, Filled, filled-start, filled-turn, filled-end}
@@ -72,16 +72,17 @@ inside-1 c =
     y-within (a .pre .0) (a .pre .1 .0) (a .args .j) (c .before .before .loop .e + 1) (c .y-at2 .result) (c .y-at2 .ensures)
 
 sum-bit-requires : tie.Need-sum-bit-requires Inv-loop μ-loop
-sum-bit-requires c κs = (omega (arith, inside-0 (c .before)), omega (arith, inside-1 c))
+sum-bit-requires c κs =
+    let h = record-some (s (c .before) .args .f .n) in
+    (omega (arith, inside-0 (c .before), h), omega (arith, inside-1 c, h))
 
 sum-mac-requires : tie.Need-sum-mac-requires Inv-loop μ-loop
 sum-mac-requires c κs =
     let y = c .before in
     let a = s (y .before) in (
       omega (arith, a .pre .1 .1, a .pre .0 .range .eight),
-      omega (arith, inside-0 (y .before), a .pre .1 .1),
-      omega
-          (arith, inside-1 y, a .pre .1 .1),
+      omega (arith, inside-0 (y .before), record-within (a .args .f .n) (a .args .k) (a .pre .1 .1 .1)),
+      omega (arith, inside-1 y, record-within (a .args .f .n) (a .args .k) (a .pre .1 .1 .1)),
     )
 
 put-dvalue-requires : tie.Need-put-dvalue-requires Inv-loop μ-loop
@@ -128,21 +129,5 @@ returns c =
 
 pub put-bucket-spec : {M : Type 1} → statement M
 put-bucket-spec =
-    tie.close
-    (tie.spec
-    Inv-loop
-    μ-loop
-    (λ c κs. search needs)
-    y-at-requires
-    put-dvalue-counts-requires
-    loop-holds
-    add-y-at
-    y-at-requires-2
-    sum-bit-requires
-    sum-mac-requires
-    put-dvalue-requires
-    (λ c. search needs)
-    (λ c. search needs)
-    loop-again
-    same-length
-    returns)
+    tie.close (tie.spec Inv-loop μ-loop (λ c κs. search needs) y-at-requires put-dvalue-counts-requires loop-holds add-y-at y-at-requires-2
+    sum-bit-requires sum-mac-requires put-dvalue-requires (λ c. search needs) (λ c. search needs) loop-again same-length returns)

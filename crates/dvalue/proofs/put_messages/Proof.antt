@@ -1,16 +1,14 @@
 -- The loop's invariant: the messages to the first q parties but i are written.
-use Rattle.lists.specs.Kit.{_≡_, sym, ap, _∙_, List, ℕ, _+_, _-_, _*_, _<_, _≤_, arith, length, now, needs}
-use Rattle.lists.specs.Over.{in-chunks}
-use Rattle.plan.specs.PlanLaws.{other-below}
-use Rattle.rounds.specs.Loops.{lent-part}
-use Rattle.rounds.specs.OthersLaws.{Sent, sent-zero, sent-turn, sent-end}
+use Rattle.lists.specs.Kit.{_≡_, refl, sym, ap, _∙_, List, ℕ, _+_, _-_, _*_, _<_, _≤_, arith, length, now, needs}
+use Rattle.engine.specs.Area.{nth-below}
+use Rattle.rounds.specs.Loops.{lent-part, Sent, sent-none, sent-in, sent-back, sent-end}
 use Rattle.rounds.specs.Buckets.{dvalueMsg}
 use Rattle.dvalue.specs.Dvalues.{told-is}
 use Rattle.dvalue.proofs.put_messages.Statement.{statement}
 use Rattle.dvalue.proofs.put_messages.Tie as tie
 
 abbrev Inv-loop : tie.InvT-loop
-Inv-loop out₀ recs perm f n i len last q₀ out q = (q ≤ f .n - 1) × Sent (f .n) (f .i) (dvalueMsg f recs perm) len q out₀ out
+Inv-loop out₀ recs perm f n i len last q₀ out q = (q ≤ f .n - 1) × Sent (f .n) (f .i) len (dvalueMsg f recs perm) q out₀ out
 
 abbrev μ-loop : tie.MeasureT-loop
 μ-loop out₀ recs perm f n i len last q₀ out q = f .n - 1 - q
@@ -23,7 +21,7 @@ module _ (s : tie.Start Inv-loop μ-loop) where
 loop-holds : tie.Need-loop-holds Inv-loop μ-loop
 loop-holds c =
     let s = c .before .before .before .before in
-    (omega arith, sent-zero (s .args .f .n) (s .args .f .i) (g s) (c .msg-len .result) (now (s .args .out)))
+    (omega arith, sent-none (s .args .f .n) (s .args .f .i) (c .msg-len .result) (g s) (now (s .args .out)))
 
 module _ (c : tie.At-loop Inv-loop μ-loop) where
   abbrev start : tie.Start Inv-loop μ-loop
@@ -36,7 +34,8 @@ module _ (c : tie.At-loop Inv-loop μ-loop) where
   long = start .pre .1 .1 ∙ ap (λ k. (start .args .f .n - 1) * k) (sym (c .before .msg-len .ensures))
 
   part-in : c .loop .q < start .args .f .n - 1 → c .loop .q * len + len ≤ length (c .loop .out)
-  part-in h = omega (arith, long, in-chunks (c .loop .q) (start .args .f .n - 1) len h, c .loop .inv .1 .same)
+  part-in h =
+      sent-in (start .args .f .n) (start .args .f .i) len (g start) len (c .loop .q) (now (start .args .out)) (c .loop .out) refl long (c .loop .inv .1) h
 
 mul-a : tie.Need-mul-a Inv-loop μ-loop
 mul-a c = omega (arith, part-in (c .before) (c .loop-test .taken))
@@ -60,7 +59,7 @@ put-message-requires c κs =
       (
         start l .pre .1 .0,
         (
-          omega (arith, c .before .other .ensures, other-below (a .f .n) (a .f .i) (l .loop .q) (i .loop-test .taken)),
+          omega (arith, c .before .other .ensures, nth-below (a .f .n) (a .f .i) (l .loop .q) (i .loop-test .taken)),
           lent-part (l .loop .q * m) m _ (l .loop .out) (l .before .msg-len .ensures ∙ told-is (a .f)) (part-in l (i .loop-test .taken)),
         ),
       ),
@@ -73,9 +72,9 @@ loop-again c =
     let l = i .before in
     let a = start l .args in (
       omega (arith, i .loop-test .taken),
-      sent-turn (a .f .n) (a .f .i) (g (start l)) (len l) (now (a .out)) (long l) (l .loop .q) (l .loop .out) (p .put-message .last .0)
-          (i .loop-test .taken) (l .loop .inv .1) (p .put-message .ensures ∙ ap (g (start l)) (p .before .before .other .ensures))
-          (p .put-message .kept .0),
+      sent-back (a .f .n) (a .f .i) (len l) (g (start l)) (len l) (l .loop .q) (now (a .out)) (l .loop .out) refl (long l) (l .loop .inv .1)
+          (p .before .before .other .result) (p .put-message .last .0) (i .loop-test .taken) (p .before .before .other .ensures)
+          (p .put-message .ensures) (p .put-message .kept .0),
     )
 
 same-length : tie.Need-same-length Inv-loop μ-loop
@@ -85,26 +84,11 @@ returns : tie.Need-returns Inv-loop μ-loop
 returns c =
     let l = c .before in
     let a = start l .args in
-    sent-end (a .f .n) (a .f .i) (g (start l)) (len l) (now (a .out)) (long l) (l .loop .q) (l .loop .out) (l .loop .inv .1) (omega arith)
+    sent-end (a .f .n) (a .f .i) (len l) (g (start l)) (len l) (l .loop .q) (now (a .out)) (l .loop .out) refl (long l) (l .loop .inv .1)
+    (omega arith)
 
 pub put-messages-spec : {M : Type 1} → statement M
 put-messages-spec =
-    tie.close
-    (tie.spec
-    Inv-loop
-    μ-loop
-    (λ c κs. c .before .before .before .pre .0 .range)
-    (λ c. search needs)
-    loop-holds
-    mul-a
-    add-e
-    other-requires
-    (λ c. search needs)
-    (λ c. search needs)
-    part-put-message-end
-    put-message-requires
-    (λ c. search needs)
-    (λ c. search needs)
-    loop-again
-    same-length
-    returns)
+    tie.close (tie.spec Inv-loop μ-loop (λ c κs. c .before .before .before .pre .0 .range) (λ c. search needs) loop-holds mul-a add-e
+    other-requires (λ c. search needs) (λ c. search needs) part-put-message-end put-message-requires (λ c. search needs) (λ c. search needs)
+    loop-again same-length returns)

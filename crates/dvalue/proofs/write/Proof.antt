@@ -18,5 +18,4 @@ returns c =
     (c .before .before .before .before .before .section .ensures) (c .before .before .before .before .section2 .ensures)
 
 pub write-spec : {M : Type 1} → statement M
-write-spec =
-    tie.close (tie.spec (λ c κs. search needs) (λ c κs. search needs) put-messages-requires (λ c. search needs) returns)
+write-spec = tie.close (tie.spec (λ c κs. search needs) (λ c κs. search needs) put-messages-requires (λ c. search needs) returns)

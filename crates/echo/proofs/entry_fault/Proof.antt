@@ -67,15 +67,5 @@ returns-3 c = answers (c .before) 7 (ap (λ (b : Bool). pick {A = ℕ} b 0 7) (s
 
 pub entry-fault-spec : {M : Type 1} → statement M
 entry-fault-spec =
-    tie.close
-    (tie.spec
-    item-at-requires
-    shared-slice-read-if1
-    returns
-    add-load
-    load-requires
-    (λ c. search needs)
-    (λ c κs. search needs)
-    (λ c κs. search needs)
-    returns-2
-    returns-3)
+    tie.close (tie.spec item-at-requires shared-slice-read-if1 returns add-load load-requires (λ c. search needs) (λ c κs. search needs)
+    (λ c κs. search needs) returns-2 returns-3)

@@ -10,9 +10,4 @@ returns-2 : tie.Need-returns-2
 returns-2 c = ap (λ b. pick b 17 1) (sym (c .if1 .left) ∙ c .before .told .ensures)
 
 pub entry-len-spec : {M : Type 1} → statement M
-entry-len-spec =
-    tie.close
-    (tie.spec
-    (λ c κs. search needs)
-    returns
-    returns-2)
+entry-len-spec = tie.close (tie.spec (λ c κs. search needs) returns returns-2)

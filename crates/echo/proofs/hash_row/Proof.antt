@@ -44,11 +44,4 @@ returns-2 c =
     (sym (neq-true (a .f .i) (a .j) (λ e. c .before .before .if1 .left (sym e))))
 
 pub hash-row-spec : {M : Type 1} → statement M
-hash-row-spec =
-    tie.close
-    (tie.spec
-    (λ c κs. search needs)
-    returns
-    letter-requires
-    hash-list-requires
-    returns-2)
+hash-row-spec = tie.close (tie.spec (λ c κs. search needs) returns letter-requires hash-list-requires returns-2)

@@ -1,11 +1,11 @@
 use Rattle.lists.specs.Kit.{_∙_, List, ℕ, _-_, _*_, _≤_, arith, replicate, now, needs}
 use Rattle.lists.specs.Pick.{pick}
 use Rattle.lists.specs.Over.{Written}
+use Rattle.lists.specs.Rows.{even-zero, even-turn, even-end}
 use Rattle.algebra.specs.Sum.{neq}
 use Rattle.rounds.specs.declared.Mail.{Mail}
 use Rattle.rounds.specs.Mail.{letter}
 use Rattle.rounds.specs.Echo.{hashVec}
-use Rattle.rounds.specs.RowsLaws.{even-zero, even-turn, even-end}
 use Rattle.rounds.specs.EchoLaws.{hash-rows}
 use Rattle.echo.proofs.keep_hashes.Statement.{statement}
 use Rattle.echo.proofs.keep_hashes.Tie as tie
@@ -51,20 +51,5 @@ returns c =
 
 pub keep-hashes-spec : {M : Type 1} → statement M
 keep-hashes-spec =
-    tie.close
-    (tie.spec
-    Inv-loop
-    μ-loop
-    loop-holds
-    (λ c κs. search needs)
-    (λ c. search needs)
-    (λ c. search needs)
-    (λ c. search needs)
-    (λ c. search needs)
-    (λ c. search needs)
-    (λ c κs. search needs)
-    (λ c. search needs)
-    (λ c. search needs)
-    loop-again
-    same-length
-    returns)
+    tie.close (tie.spec Inv-loop μ-loop loop-holds (λ c κs. search needs) (λ c. search needs) (λ c. search needs) (λ c. search needs)
+    (λ c. search needs) (λ c. search needs) (λ c κs. search needs) (λ c. search needs) (λ c. search needs) loop-again same-length returns)

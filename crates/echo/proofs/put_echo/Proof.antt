@@ -100,23 +100,6 @@ returns c =
 
 pub put-echo-spec : {M : Type 1} → statement M
 put-echo-spec =
-    tie.close
-    (tie.spec
-    Inv-loop
-    μ-loop
-    (λ c. search needs)
-    (λ c. search needs)
-    part-put-count-end
-    put-count-requires
-    loop-holds
-    (λ c κs. search needs)
-    add-e
-    (λ c. search needs)
-    (λ c. search needs)
-    part-put-entry-end
-    put-entry-requires
-    (λ c. search needs)
-    (λ c. search needs)
-    loop-again
-    same-length
-    returns)
+    tie.close (tie.spec Inv-loop μ-loop (λ c. search needs) (λ c. search needs) part-put-count-end put-count-requires loop-holds
+    (λ c κs. search needs) add-e (λ c. search needs) (λ c. search needs) part-put-entry-end put-entry-requires (λ c. search needs)
+    (λ c. search needs) loop-again same-length returns)

@@ -8,7 +8,4 @@ unfolding neq
 returns c = refl
 
 pub told-spec : {M : Type 1} → statement M
-told-spec =
-    tie.close
-    (tie.spec
-    returns)
+told-spec = tie.close (tie.spec returns)

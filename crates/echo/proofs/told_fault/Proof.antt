@@ -15,10 +15,4 @@ returns-2 c =
     told-fault (a .f .i) (a .j) (a .k) 0 (now (a .hashes)) (now (a .m)) false (sym (c .before .told .ensures) ∙ c .if1 .left) refl
 
 pub told-fault-spec : {M : Type 1} → statement M
-told-fault-spec =
-    tie.close
-    (tie.spec
-    (λ c κs. search needs)
-    (λ c κs. search needs)
-    returns
-    returns-2)
+told-fault-spec = tie.close (tie.spec (λ c κs. search needs) (λ c κs. search needs) returns returns-2)

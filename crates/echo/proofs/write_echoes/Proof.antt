@@ -1,14 +1,13 @@
-use Rattle.lists.specs.Kit.{_≡_, sym, ap, _∙_, _+_, _-_, _*_, _≤_, arith, length, now, needs}
-use Rattle.lists.specs.Over.{in-chunks}
-use Rattle.plan.specs.PlanLaws.{other-below, other-skips}
+use Rattle.lists.specs.Kit.{_≡_, refl, sym, ap, _∙_, _+_, _-_, _*_, _<_, _≤_, arith, length, now, needs}
+use Rattle.lists.specs.Rows.{length-row}
+use Rattle.engine.specs.Area.{nth-below, nth-skips}
 use Rattle.rounds.specs.Echo.{echoMsg}
-use Rattle.rounds.specs.RowsLaws.{length-row}
-use Rattle.rounds.specs.OthersLaws.{Sent, sent-zero, sent-turn, sent-end}
+use Rattle.rounds.specs.Loops.{Sent, sent-none, sent-in, sent-back, sent-end}
 use Rattle.echo.proofs.write_echoes.Statement.{statement}
 use Rattle.echo.proofs.write_echoes.Tie as tie
 
 abbrev Inv-loop : tie.InvT-loop
-Inv-loop out₀ hashes f n i len last q₀ out q = (q ≤ n - 1) × Sent n i (echoMsg n i hashes) len q out₀ out
+Inv-loop out₀ hashes f n i len last q₀ out q = (q ≤ n - 1) × Sent n i len (echoMsg n i hashes) q out₀ out
 
 abbrev μ-loop : tie.MeasureT-loop
 μ-loop out₀ hashes f n i len last q₀ out q = n - 1 - q
@@ -16,7 +15,7 @@ abbrev μ-loop : tie.MeasureT-loop
 loop-holds : tie.Need-loop-holds Inv-loop μ-loop
 loop-holds c =
     let a = c .before .before .before .args in
-    (omega arith, sent-zero (a .f .n) (a .f .i) (echoMsg (a .f .n) (a .f .i) (now (a .hashes))) (c .msg-len .result) (now (a .out)))
+    (omega arith, sent-none (a .f .n) (a .f .i) (c .msg-len .result) (echoMsg (a .f .n) (a .f .i) (now (a .hashes))) (now (a .out)))
 
 -- the messages fill the buffer
 size : (c : tie.After-msg-len Inv-loop μ-loop) → let a =
@@ -31,7 +30,9 @@ fits : (c : tie.After-other Inv-loop μ-loop) → let l =
 fits c =
     let l = c .before .before in
     let a = l .before .before .before .before .args in
-    omega (arith, in-chunks (l .loop .q) (a .f .n - 1) (l .before .msg-len .result) (c .before .loop-test .taken), size (l .before), l .loop .inv .1 .same)
+    let len = l .before .msg-len .result in
+    sent-in (a .f .n) (a .f .i) len (echoMsg (a .f .n) (a .f .i) (now (a .hashes))) len (l .loop .q) (now (a .out)) (l .loop .out) refl
+    (size (l .before)) (l .loop .inv .1) (c .before .loop-test .taken)
 
 whole : (c : tie.After-other Inv-loop μ-loop) → let l =
     c .before .before in l .loop .q * l .before .msg-len .result + l .before .msg-len .result ≤ length
@@ -53,8 +54,9 @@ put-echo-requires c κs =
     let l = o .before .before in
     let s = l .before .before .before .before in
     let a = s .args in
-    let e = o .other .ensures in (
-      (s .pre .0 .1 .0, (s .pre .0 .1 .1, (omega (arith, e, other-below (a .f .n) (a .f .i) (l .loop .q) (o .before .loop-test .taken)), λ x. other-skips (a .f .i) (l .loop .q) (sym e ∙ sym x)))),
+    let e = o .other .ensures in
+    let below : o .other .result < a .f .n = rw e (nth-below (a .f .n) (a .f .i) (l .loop .q) (o .before .loop-test .taken)) in (
+      (s .pre .0 .1 .0, (s .pre .0 .1 .1, (below, λ x. nth-skips (a .f .i) (l .loop .q) (sym e ∙ sym x)))),
       (length-row (l .before .msg-len .result) (l .loop .q) (l .loop .out) (fits o) ∙ l .before .msg-len .ensures, s .pre .1 .1),
     )
 
@@ -64,11 +66,12 @@ loop-again c =
     let o = p .before .before in
     let l = o .before .before in
     let s = l .before .before .before .before in
-    let a = s .args in (
+    let a = s .args in
+    let len = l .before .msg-len .result in (
       omega (arith, o .before),
-      sent-turn (a .f .n) (a .f .i) (echoMsg (a .f .n) (a .f .i) (now (a .hashes))) (l .before .msg-len .result) (now (a .out))
-          (size (l .before)) (l .loop .q) (l .loop .out)
-          (p .put-echo .last .0) (o .before .loop-test .taken) (l .loop .inv .1) (p .put-echo .ensures ∙ ap (echoMsg (a .f .n) (a .f .i) (now (a .hashes))) (o .other .ensures)) (p .put-echo .kept .0),
+      sent-back (a .f .n) (a .f .i) len (echoMsg (a .f .n) (a .f .i) (now (a .hashes))) len (l .loop .q) (now (a .out)) (l .loop .out) refl
+          (size (l .before)) (l .loop .inv .1) (o .other .result) (p .put-echo .last .0) (o .before .loop-test .taken) (o .other .ensures)
+          (p .put-echo .ensures) (p .put-echo .kept .0),
     )
 
 same-length : tie.Need-same-length Inv-loop μ-loop
@@ -78,27 +81,12 @@ returns : tie.Need-returns Inv-loop μ-loop
 returns c =
     let l = c .before in
     let a = l .before .before .before .before .args in
-    sent-end (a .f .n) (a .f .i) (echoMsg (a .f .n) (a .f .i) (now (a .hashes))) (l .before .msg-len .result) (now (a .out))
-    (size (l .before)) (l .loop .q) (l .loop .out) (l .loop .inv .1) (omega arith)
+    let len = l .before .msg-len .result in
+    sent-end (a .f .n) (a .f .i) len (echoMsg (a .f .n) (a .f .i) (now (a .hashes))) len (l .loop .q) (now (a .out)) (l .loop .out) refl
+    (size (l .before)) (l .loop .inv .1) (omega arith)
 
 pub write-echoes-spec : {M : Type 1} → statement M
 write-echoes-spec =
-    tie.close
-    (tie.spec
-    Inv-loop
-    μ-loop
-    (λ c κs. search needs)
-    (λ c. search needs)
-    loop-holds
-    (λ c κs. search needs)
-    mul-a
-    add-e
-    (λ c. search needs)
-    (λ c. search needs)
-    part-put-echo-end
-    put-echo-requires
-    (λ c. search needs)
-    (λ c. search needs)
-    loop-again
-    same-length
-    returns)
+    tie.close (tie.spec Inv-loop μ-loop (λ c κs. search needs) (λ c. search needs) loop-holds (λ c κs. search needs) mul-a add-e
+    (λ c. search needs) (λ c. search needs) part-put-echo-end put-echo-requires (λ c. search needs) (λ c. search needs) loop-again
+    same-length returns)

@@ -25,13 +25,5 @@ same-length c =
 
 pub put-bit-block-spec : {M : Type 1} → statement M
 put-bit-block-spec =
-    tie.close
-    (tie.spec
-    (λ c κs. search needs)
-    (λ c. search needs)
-    (λ c. search needs)
-    (λ c. search needs)
-    part-store-end
-    (λ c κs. search needs)
-    same-length
-    returns)
+    tie.close (tie.spec (λ c κs. search needs) (λ c. search needs) (λ c. search needs) (λ c. search needs) part-store-end
+    (λ c κs. search needs) same-length returns)

@@ -39,19 +39,6 @@ same-length c =
 
 pub put-bits-blocks-spec : {M : Type 1} → statement M
 put-bits-blocks-spec =
-    tie.close
-    (tie.spec
-    (λ c κs. search needs)
-    (λ c. search needs)
-    (λ c κs. search needs)
-    (λ c. search needs)
-    (λ c. search needs)
-    (λ c. search needs)
-    part-store-end
-    (λ c κs. search needs)
-    (λ c. search needs)
-    (λ c. search needs)
-    part-store-end-2
-    (λ c κs. search needs)
-    same-length
-    returns)
+    tie.close (tie.spec (λ c κs. search needs) (λ c. search needs) (λ c κs. search needs) (λ c. search needs) (λ c. search needs)
+    (λ c. search needs) part-store-end (λ c κs. search needs) (λ c. search needs) (λ c. search needs) part-store-end-2
+    (λ c κs. search needs) same-length returns)

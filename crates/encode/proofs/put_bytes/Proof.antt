@@ -8,5 +8,4 @@ unfolding dmItem
 returns c = search needs
 
 pub put-bytes-spec : {M : Type 1} → statement M
-put-bytes-spec =
-    tie.close (tie.spec (λ c κs. search needs) (λ c. search needs) returns)
+put-bytes-spec = tie.close (tie.spec (λ c κs. search needs) (λ c. search needs) returns)

@@ -24,12 +24,5 @@ same-length c =
 
 pub put-some-spec : {M : Type 1} → statement M
 put-some-spec =
-    tie.close
-    (tie.spec
-    (λ c. search needs)
-    (λ c. search needs)
-    (λ c. search needs)
-    part-store-end
-    (λ c κs. search needs)
-    same-length
+    tie.close (tie.spec (λ c. search needs) (λ c. search needs) (λ c. search needs) part-store-end (λ c κs. search needs) same-length
     returns)

@@ -1,5 +1,5 @@
 use Rattle.lists.specs.Kit.{_≡_, refl, ap, _∙_, List, ℕ, _+_, _*_, arith, length, now, needs}
-use Rattle.share.specs.Record.{recordLen}
+use Rattle.share.specs.Layout.{recordLen, record-most}
 use Rattle.engine.specs.declared.Frame.{Frame}
 use Rattle.engine.specs.Area.{off}
 use Rattle.rounds.specs.Area.{BITS, PERM, TRIPLES, ALPHA, BETA, sizeOf, at}
@@ -83,17 +83,13 @@ returns c =
 
 pub bucket-spec : {M : Type 1} → statement M
 bucket-spec =
-    tie.close
-    (tie.spec
-    (λ c κs. search needs)
-    (λ c κs. let s = c .before .before in place-fits (s .pre .0) PERM _ _ (omega arith) (s .pre .2 .perm))
-    y-at-requires
+    tie.close (tie.spec (λ c κs. search needs)
+    (λ c κs. let s = c .before .before in place-fits (s .pre .0) PERM _ _ (omega arith) (s .pre .2 .perm)) y-at-requires
     (λ c. let y = c .before in omega (arith, there (s y) .b-in, y-is y, s y .pre .2 .recs, s y .good))
-    (λ c. search needs)
+    (λ c. let y = c .before in omega (arith, len-is y, record-most (f (s y) .n) (s y .pre .0 .ranges .range .eight)))
     (λ c. let y = c .before in omega (arith, there (s y) .c-in, row y, s y .good))
     (λ c. let y = c .before .before in omega (arith, there (s y) .c-in, row y, s y .pre .2 .triples, s y .good))
     (λ c. let y = c .before .before in omega (arith, there (s y) .alpha-in, share y, s y .good))
     (λ c. let y = c .before .before in omega (arith, there (s y) .c-in, row y, len-is y, s y .pre .2 .triples, s y .good))
     (λ c. let y = c .before .before .before in omega (arith, there (s y) .alpha-in, share y, s y .pre .2 .alpha, s y .good))
-    (λ c. let y = c .before .before .before .before in omega (arith, there (s y) .beta-in, share y, s y .pre .2 .beta, s y .good))
-    returns)
+    (λ c. let y = c .before .before .before .before in omega (arith, there (s y) .beta-in, share y, s y .pre .2 .beta, s y .good)) returns)

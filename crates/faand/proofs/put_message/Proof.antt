@@ -79,24 +79,6 @@ returns c =
 
 pub put-message-spec : {M : Type 1} → statement M
 put-message-spec =
-    tie.close
-    (tie.spec
-    Inv-loop
-    μ-loop
-    (λ c. search needs)
-    (λ c. search needs)
-    (λ c. search needs)
-    (λ c κs. search needs)
-    loop-holds
-    (λ c. omega (arith, part-in c))
-    (λ c. omega (arith, part-in c))
-    (λ c. omega (arith, part-in c))
-    (λ c. search needs)
-    (λ c. search needs)
-    part-in
-    put-item-requires
-    (λ c. search needs)
-    (λ c. search needs)
-    loop-again
-    same-length
-    returns)
+    tie.close (tie.spec Inv-loop μ-loop (λ c. search needs) (λ c. search needs) (λ c. search needs) (λ c κs. search needs) loop-holds
+    (λ c. omega (arith, part-in c)) (λ c. omega (arith, part-in c)) (λ c. omega (arith, part-in c)) (λ c. search needs) (λ c. search needs)
+    part-in put-item-requires (λ c. search needs) (λ c. search needs) loop-again same-length returns)

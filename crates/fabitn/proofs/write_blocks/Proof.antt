@@ -1,10 +1,10 @@
 -- The loop's invariant: the first j Blocks are written.
 use Rattle.lists.specs.Kit.{refl, _+_, _-_, _*_, _≤_, arith, now, needs}
 use Rattle.lists.specs.Over.{Written, written-zero}
+use Rattle.lists.specs.Rows.{even-put, even-end}
 use Rattle.block.specs.Block.{bytesOf}
 use Rattle.block.specs.Trip.{length-bytesOf}
 use Rattle.rbits.specs.Chosen.{pairAt}
-use Rattle.rounds.specs.SentLaws.{chunks-turn, chunks-end}
 use Rattle.rounds.specs.Fabitn.{STRINGS}
 use Rattle.fabitn.proofs.write_blocks.Statement.{statement}
 use Rattle.fabitn.proofs.write_blocks.Tie as tie
@@ -25,38 +25,19 @@ loop-again c =
     let s = l .before .before in
     let j = l .loop .j in (
       omega arith,
-      chunks-turn (λ j. bytesOf (pairAt (now (s .args .words)) j)) STRINGS 16 j (j * 16 + 16) (now (s .args .out)) (l .loop .out)
+      even-put (λ j. bytesOf (pairAt (now (s .args .words)) j)) STRINGS 16 (now (s .args .out)) (s .pre) j (j * 16 + 16) (l .loop .out)
           (p .store .last .0)
-          (s .pre) (omega arith) (l .loop .inv .1) (length-bytesOf _) (p .store .ensures) refl,
+          (omega arith) (l .loop .inv .1) (length-bytesOf _) (p .store .ensures) refl,
     )
 
 same-length : tie.Need-same-length Inv-loop μ-loop
 same-length c = c .before .loop .inv .1 .same
 
 returns : tie.Need-returns Inv-loop μ-loop
-returns c = let l = c .before in chunks-end _ STRINGS 16 (l .loop .j) _ _ (l .before .before .pre) (l .loop .inv .1) (omega arith)
+returns c = let l = c .before in even-end _ STRINGS 16 _ (l .before .before .pre) (l .loop .j) _ (l .loop .inv .1) (omega arith)
 
 pub write-blocks-spec : {M : Type 1} → statement M
 write-blocks-spec =
-    tie.close
-    (tie.spec
-    Inv-loop
-    μ-loop
-    loop-holds
-    (λ c. search needs)
-    (λ c. search needs)
-    (λ c. search needs)
-    (λ c. search needs)
-    (λ c. search needs)
-    (λ c. search needs)
-    (λ c. search needs)
-    (λ c. search needs)
-    (λ c. search needs)
-    (λ c. search needs)
-    (λ c. search needs)
-    (λ c κs. search needs)
-    (λ c. search needs)
-    (λ c. search needs)
-    loop-again
-    same-length
-    returns)
+    tie.close (tie.spec Inv-loop μ-loop loop-holds (λ c. search needs) (λ c. search needs) (λ c. search needs) (λ c. search needs)
+    (λ c. search needs) (λ c. search needs) (λ c. search needs) (λ c. search needs) (λ c. search needs) (λ c. search needs)
+    (λ c. search needs) (λ c κs. search needs) (λ c. search needs) (λ c. search needs) loop-again same-length returns)

@@ -1,7 +1,7 @@
 -- The loop's invariant: the commitments of the first q strings are written.
 use Rattle.lists.specs.Kit.{_≡_, refl, _-_, _*_, _≤_, arith, length, now, needs}
 use Rattle.lists.specs.Over.{Written}
-use Rattle.rounds.specs.RowsLaws.{even-zero, even-turn, even-end}
+use Rattle.lists.specs.Rows.{even-zero, even-turn, even-end}
 use Rattle.rounds.specs.Fashare.{STRINGS, COMM}
 use Rattle.fashare_comm.specs.Laws.{commItem}
 use Rattle.fashare_comm.proofs.comms.Statement.{statement}
@@ -36,18 +36,5 @@ returns c =
 
 pub comms-spec : {M : Type 1} → statement M
 comms-spec =
-    tie.close
-    (tie.spec
-    Inv-loop
-    μ-loop
-    loop-holds
-    (λ c. search needs)
-    (λ c. search needs)
-    (λ c. search needs)
-    (λ c. search needs)
-    (λ c. search needs)
-    (λ c κs. search needs)
-    (λ c. search needs)
-    (λ c. search needs)
-    loop-again
-    returns)
+    tie.close (tie.spec Inv-loop μ-loop loop-holds (λ c. search needs) (λ c. search needs) (λ c. search needs) (λ c. search needs)
+    (λ c. search needs) (λ c κs. search needs) (λ c. search needs) (λ c. search needs) loop-again returns)

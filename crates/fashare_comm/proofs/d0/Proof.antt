@@ -54,17 +54,5 @@ returns c =
 
 pub d0-spec : {M : Type 1} → statement M
 d0-spec =
-    tie.close
-    (tie.spec
-    Inv-loop
-    μ-loop
-    record-at-requires
-    (λ c κs. search needs)
-    loop-holds
-    key-at-requires
-    (λ c κs. search needs)
-    (λ c κs. search needs)
-    (λ c. search needs)
-    (λ c. search needs)
-    loop-again
-    returns)
+    tie.close (tie.spec Inv-loop μ-loop record-at-requires (λ c κs. search needs) loop-holds key-at-requires (λ c κs. search needs)
+    (λ c κs. search needs) (λ c. search needs) (λ c. search needs) loop-again returns)

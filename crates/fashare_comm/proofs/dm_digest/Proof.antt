@@ -2,12 +2,12 @@ use Rattle.lists.specs.Kit.{_≡_, sym, ap, _∙_, _≤_, arith, length, needs}
 use lib.ListN.{length-append}
 use lib.Seq.{length-take-le, take-at}
 use Rattle.blake3.specs.Tree as T
-use Rattle.fashare_comm.specs.Laws.{dm-most}
+use Rattle.fashare_comm.specs.Laws.{DM-MOST, dm-most}
 use Rattle.fashare_comm.proofs.dm_digest.Statement.{statement}
 use Rattle.fashare_comm.proofs.dm_digest.Tie as tie
 
 -- no dm is longer than the buffer
-fits : (c : tie.After-dm-len) → c .dm-len .result ≤ 113
+fits : (c : tie.After-dm-len) → c .dm-len .result ≤ DM-MOST
 fits c =
     let s = c .before .before in
     omega (arith, c .dm-len .ensures, dm-most (s .args .f .n) (s .pre .1 .range .eight))
@@ -37,13 +37,5 @@ returns c = let w = c .before .before .before in c .digest-of .ensures ∙ ap T.
 
 pub dm-digest-spec : {M : Type 1} → statement M
 dm-digest-spec =
-    tie.close
-    (tie.spec
-    (λ c κs. search needs)
-    array-borrow-prefix-dm
-    slice-aggregate-write-dm
-    write-dm-requires
-    array-share-prefix-dm
-    slice-aggregate-digest-of
-    (λ c κs. search needs)
-    returns)
+    tie.close (tie.spec (λ c κs. search needs) array-borrow-prefix-dm slice-aggregate-write-dm write-dm-requires array-share-prefix-dm
+    slice-aggregate-digest-of (λ c κs. search needs) returns)

@@ -3,7 +3,7 @@ use lib.Seq.{take-all}
 use Rattle.lists.specs.Sect.{length-get}
 use Rattle.rounds.specs.Fashare.{COMM-ROW, COMM-MSG}
 use Rattle.rounds.specs.MailLaws.{letter-fits, letter-long}
-use Rattle.rounds.specs.SentLaws.{pick-own, pick-other}
+use Rattle.rounds.specs.Loops.{row-own, row-other}
 use Rattle.fashare_comm.proofs.keep_row.Statement.{statement}
 use Rattle.fashare_comm.proofs.keep_row.Tie as tie
 
@@ -31,7 +31,7 @@ returns c =
     let z = c .before .before in
     let s = z .before .before .before .before .before in
     z .clear .ensures ∙ ap (λ m. replicate m 0) (s .pre .0 .0)
-    ∙ sym (pick-own (s .args .f .i) (s .args .k) _ _ (z .before .before .if1 .taken))
+    ∙ sym (row-own (s .args .f .i) COMM-ROW _ (s .args .k) (z .before .before .if1 .taken))
 
 returns-2 : tie.Need-returns-2
 returns-2 c =
@@ -42,19 +42,10 @@ returns-2 c =
     w .copy .ensures
     ∙ take-all (length (now (a .row))) (take COMM-ROW (drop 8 (now (m .letter .result))))
     (omega (arith, s .pre .0 .0, length-get 8 COMM-ROW (now (m .letter .result)) (long m)))
-    ∙ ap (λ (x : List ℕ). take COMM-ROW (drop 8 x)) (m .letter .ensures) ∙ sym (pick-other (a .f .i) (a .k) _ _ (m .before .if1 .left))
+    ∙ ap (λ (x : List ℕ). take COMM-ROW (drop 8 x)) (m .letter .ensures)
+    ∙ sym (row-other (a .f .i) COMM-ROW _ (a .k) (m .before .if1 .left))
 
 pub keep-row-spec : {M : Type 1} → statement M
 keep-row-spec =
-    tie.close
-    (tie.spec
-    (λ c κs. search needs)
-    letter-requires
-    (λ c. search needs)
-    (λ c. search needs)
-    part-copy-end
-    copy-requires
-    (λ c. search needs)
-    returns
-    (λ c. search needs)
-    returns-2)
+    tie.close (tie.spec (λ c κs. search needs) letter-requires (λ c. search needs) (λ c. search needs) part-copy-end copy-requires
+    (λ c. search needs) returns (λ c. search needs) returns-2)

@@ -42,12 +42,5 @@ returns c =
 
 pub write-spec : {M : Type 1} → statement M
 write-spec =
-    tie.close
-    (tie.spec
-    (λ c κs. search needs)
-    (λ c κs. search needs)
-    comms-requires
-    slice-aggregate-write-same
-    write-same-requires
-    (λ c. search needs)
-    returns)
+    tie.close (tie.spec (λ c κs. search needs) (λ c κs. search needs) comms-requires slice-aggregate-write-same write-same-requires
+    (λ c. search needs) returns)

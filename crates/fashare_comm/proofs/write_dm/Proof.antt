@@ -5,9 +5,10 @@ use Rattle.lists.specs.Over.{Written, written-turn, written-end}
 use Rattle.algebra.specs.Group.{num}
 use Rattle.block.specs.Block.{bytesOf}
 use Rattle.block.specs.Trip.{length-bytesOf}
+use Rattle.share.specs.Layout.{record-some}
 use Rattle.share.specs.Record.{macAt}
 use Rattle.plan.specs.Plan.{dmLen}
-use Rattle.plan.specs.PlanLaws.{other-below}
+use Rattle.engine.specs.Area.{nth-below}
 use Rattle.fashare_comm.specs.Laws.{record-in, entry-in, dmPart, part-next, dm-first, dm-is}
 use Rattle.fashare_comm.proofs.write_dm.Statement.{statement}
 use Rattle.fashare_comm.proofs.write_dm.Tie as tie
@@ -22,7 +23,7 @@ bit-at-requires : tie.Need-bit-at-requires Inv-loop μ-loop
 bit-at-requires c κs =
     let s = c .before .before .before in
     let a = s .args in
-    omega (arith, record-in (s .pre .1 .1) (a .q) (c .record-at .result) (s .pre .1 .0) (c .record-at .ensures))
+    omega (arith, record-some (a .f .n), record-in (s .pre .1 .1) (a .q) (c .record-at .result) (s .pre .1 .0) (c .record-at .ensures))
 
 slice-write-out : tie.Need-slice-write-out Inv-loop μ-loop
 unfolding dmLen
@@ -45,7 +46,7 @@ mac-at-requires c κs =
     let s = r .before .before .before in
     let a = s .args in
     let h : c .other .result < a .f .n =
-    rw (c .other .ensures) (other-below (a .f .n) (a .f .i) (l .loop .p) (c .before .loop-test .taken)) in (
+    rw (c .other .ensures) (nth-below (a .f .n) (a .f .i) (l .loop .p) (c .before .loop-test .taken)) in (
       omega (arith, s .pre .1 .1 .range),
       entry-in (s .pre .1 .1) (a .q) (r .record-at .result) (s .pre .1 .0) (r .record-at .ensures)
           (c .other .result) h,
@@ -97,27 +98,6 @@ returns c =
 
 pub write-dm-spec : {M : Type 1} → statement M
 write-dm-spec =
-    tie.close
-    (tie.spec
-    Inv-loop
-    μ-loop
-    (λ c κs. search needs)
-    bit-at-requires
-    (λ c κs. search needs)
-    slice-write-out
-    (λ c. search needs)
-    loop-holds
-    (λ c. search needs)
-    (λ c. search needs)
-    (λ c. search needs)
-    (λ c κs. search needs)
-    mac-at-requires
-    (λ c. search needs)
-    (λ c. search needs)
-    part-store-end
-    store-requires
-    (λ c. search needs)
-    (λ c. search needs)
-    loop-again
-    same-length
-    returns)
+    tie.close (tie.spec Inv-loop μ-loop (λ c κs. search needs) bit-at-requires (λ c κs. search needs) slice-write-out (λ c. search needs)
+    loop-holds (λ c. search needs) (λ c. search needs) (λ c. search needs) (λ c κs. search needs) mac-at-requires (λ c. search needs)
+    (λ c. search needs) part-store-end store-requires (λ c. search needs) (λ c. search needs) loop-again same-length returns)

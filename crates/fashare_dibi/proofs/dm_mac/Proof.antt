@@ -49,14 +49,5 @@ returns-3 c =
 
 pub dm-mac-spec : {M : Type 1} → statement M
 dm-mac-spec =
-    tie.close
-    (tie.spec
-    (λ c κs. search needs)
-    returns
-    (λ c κs. search needs)
-    returns-2
-    (λ c κs. search needs)
-    (λ c κs. search needs)
-    add-load
-    load-requires
-    returns-3)
+    tie.close (tie.spec (λ c κs. search needs) returns (λ c κs. search needs) returns-2 (λ c κs. search needs) (λ c κs. search needs)
+    add-load load-requires returns-3)

@@ -15,5 +15,5 @@ returns-2 c = let a = c .before .args in sym (ap (λ b. 1 + 16 * pick b (a .k - 
 
 pub dm-mac-off-spec : {M : Type 1} → statement M
 dm-mac-off-spec =
-    tie.close
-    (tie.spec (λ c. search needs) (λ c. search needs) (λ c. search needs) (λ c. search needs) (λ c. search needs) returns returns-2)
+    tie.close (tie.spec (λ c. search needs) (λ c. search needs) (λ c. search needs) (λ c. search needs) (λ c. search needs) returns
+    returns-2)

@@ -53,18 +53,5 @@ returns c =
 
 pub macs-for-spec : {M : Type 1} → statement M
 macs-for-spec =
-    tie.close
-    (tie.spec
-    Inv-loop
-    μ-loop
-    record-at-requires
-    mac-at-requires
-    (λ c κs. search needs)
-    loop-holds
-    dm-mac-requires
-    (λ c κs. search needs)
-    (λ c. search needs)
-    (λ c. search needs)
-    loop-again
-    (λ c κs. search needs)
-    returns)
+    tie.close (tie.spec Inv-loop μ-loop record-at-requires mac-at-requires (λ c κs. search needs) loop-holds dm-mac-requires
+    (λ c κs. search needs) (λ c. search needs) (λ c. search needs) loop-again (λ c κs. search needs) returns)

@@ -46,14 +46,5 @@ returns c =
 
 pub others-bit-spec : {M : Type 1} → statement M
 others-bit-spec =
-    tie.close
-    (tie.spec
-    Inv-loop
-    μ-loop
-    loop-holds
-    (λ c κs. search needs)
-    bit-requires
-    (λ c. search needs)
-    (λ c. search needs)
-    loop-again
+    tie.close (tie.spec Inv-loop μ-loop loop-holds (λ c κs. search needs) bit-requires (λ c. search needs) (λ c. search needs) loop-again
     returns)

@@ -1,18 +1,17 @@
 -- The loop's invariant: the messages to the first t parties but i are written.
 use Rattle.lists.specs.Kit.{refl, _+_, _-_, _*_, _<_, _≤_, arith, now, needs}
-use Rattle.lists.specs.Over.{Written, length-take-drop}
+use Rattle.lists.specs.Over.{length-take-drop}
 use Rattle.plan.specs.Plan.{msgLen, listLen, countDue, kindOf}
-use Rattle.engine.specs.Area.{toOthers}
-use Rattle.rounds.specs.Fashare as Fashare
-use Rattle.rounds.specs.Fashare.{DIBI-MSG}
-use Rattle.rounds.specs.SentLaws.{chunks-zero, chunks-turn, chunks-end, sentTo}
+use Rattle.engine.specs.Area.{nth}
+use Rattle.rounds.specs.Fashare.{DIBI-MSG, dibiMsg}
+use Rattle.rounds.specs.Loops.{Sent, sent-none, sent-turn, sent-end}
 use Rattle.fashare_dibi.specs.Laws.{given, length-dibi}
 use Rattle.fashare_dibi.proofs.write.Statement.{statement}
 use Rattle.fashare_dibi.proofs.write.Tie as tie
 
 abbrev Inv-loop : tie.InvT-loop
 Inv-loop out₀ work f n delta recs dms last t₀ out t =
-    (t ≤ n - 1) × Written (sentTo (f .i) (λ _. Fashare.dibiMsg f (delta .0) recs dms)) t (t * DIBI-MSG) out₀ out
+    (t ≤ n - 1) × Sent n (f .i) DIBI-MSG (λ _. dibiMsg f (delta .0) recs dms) t out₀ out
 
 abbrev μ-loop : tie.MeasureT-loop
 μ-loop out₀ work f n delta recs dms last t₀ out t = n - 1 - t
@@ -21,7 +20,11 @@ sub-last : tie.Need-sub-last Inv-loop μ-loop
 sub-last c = omega (arith, c .before .before .before .before .before .pre .0 .ranges .range .two)
 
 loop-holds : tie.Need-loop-holds Inv-loop μ-loop
-loop-holds c = (search needs, chunks-zero _ 0 DIBI-MSG _)
+loop-holds c =
+    let r = c .before in
+    let a = r .before .before .before .before .args in
+    let msg = dibiMsg (a .f) (r .before .delta .result .0) (now (r .section .result)) (now (c .section2 .result)) in
+    (search needs, sent-none (a .f .n) (a .f .i) DIBI-MSG (λ _. msg) (now (a .out)))
 
 mul-a : tie.Need-mul-a Inv-loop μ-loop
 mul-a c = omega (arith, c .before .before .before .before .before .before .before .pre .0 .ranges .range .eight, c .loop-test .taken)
@@ -57,45 +60,27 @@ loop-again c =
     let s = r .before .before .before .before in
     let a = s .args in
     let t = l .loop .t in
-    let msg = Fashare.dibiMsg (a .f) (r .before .delta .result .0) (now (r .section .result)) (now (d .section2 .result)) in (
+    let msg = dibiMsg (a .f) (r .before .delta .result .0) (now (r .section .result)) (now (d .section2 .result)) in (
       omega (arith, p .loop-test .taken),
-      chunks-turn (sentTo (a .f .i) (λ _. msg)) (a .f .n - 1) DIBI-MSG t (t * DIBI-MSG + DIBI-MSG) (now (a .out)) (l .loop .out)
-          (w .write-msg .last .0)
-          (s .pre .1) (p .loop-test .taken) (l .loop .inv .1) (length-dibi _ _ _ _) (w .write-msg .ensures) refl,
+      sent-turn (a .f .n) (a .f .i) DIBI-MSG (λ _. msg) DIBI-MSG t (now (a .out)) (l .loop .out) refl (s .pre .1) (l .loop .inv .1)
+          (λ k h. length-dibi _ _ _ _) (nth (a .f .i) t) (w .write-msg .last .0) (p .loop-test .taken) refl (w .write-msg .ensures),
     )
 
 same-length : tie.Need-same-length Inv-loop μ-loop
 same-length c = c .before .loop .inv .1 .same
 
 returns : tie.Need-returns Inv-loop μ-loop
-unfolding toOthers msgLen listLen countDue kindOf
+unfolding msgLen listLen countDue kindOf
 returns c =
     let l = c .before in
     let d = l .before in
     let r = d .before in
     let s = r .before .before .before .before in
     rw (← d .section2 .ensures, ← r .section .ensures, ← r .before .delta .ensures)
-    (chunks-end _ (s .args .f .n - 1) DIBI-MSG (l .loop .t) _ _ (s .pre .1) (l .loop .inv .1) (omega arith))
+    (sent-end (s .args .f .n) (s .args .f .i) DIBI-MSG _ DIBI-MSG (l .loop .t) _ _ refl (s .pre .1) (l .loop .inv .1) (omega arith))
 
 pub write-spec : {M : Type 1} → statement M
 write-spec =
-    tie.close
-    (tie.spec
-    Inv-loop
-    μ-loop
-    (λ c κs. search needs)
-    (λ c κs. search needs)
-    (λ c κs. search needs)
-    sub-last
-    loop-holds
-    mul-a
-    add-e
-    (λ c. search needs)
-    (λ c. search needs)
-    part-write-msg-end
-    write-msg-requires
-    (λ c. search needs)
-    (λ c. search needs)
-    loop-again
-    same-length
-    returns)
+    tie.close (tie.spec Inv-loop μ-loop (λ c κs. search needs) (λ c κs. search needs) (λ c κs. search needs) sub-last loop-holds mul-a add-e
+    (λ c. search needs) (λ c. search needs) part-write-msg-end write-msg-requires (λ c. search needs) (λ c. search needs) loop-again
+    same-length returns)

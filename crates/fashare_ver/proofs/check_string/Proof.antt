@@ -42,14 +42,5 @@ returns-2 c =
 
 pub check-string-spec : {M : Type 1} → statement M
 check-string-spec =
-    tie.close
-    (tie.spec
-    Inv-loop
-    μ-loop
-    loop-holds
-    party-fault-requires
-    returns
-    (λ c. search needs)
-    (λ c. search needs)
-    loop-again
+    tie.close (tie.spec Inv-loop μ-loop loop-holds party-fault-requires returns (λ c. search needs) (λ c. search needs) loop-again
     returns-2)

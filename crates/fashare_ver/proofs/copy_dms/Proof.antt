@@ -1,9 +1,9 @@
 -- The loop's invariant: the first q dms are written.
 use Rattle.lists.specs.Kit.{_≡_, sym, ap, _∙_, List, ℕ, _+_, _-_, _*_, _≤_, arith, length, take, drop, now, needs}
 use Rattle.lists.specs.Over.{Written, in-chunks, length-take-drop}
+use Rattle.lists.specs.Rows.{length-row, even-zero, even-turn, even-end}
 use Rattle.plan.specs.Plan.{dmLen}
 use Rattle.rounds.specs.Fashare.{STRINGS, dmAt}
-use Rattle.rounds.specs.RowsLaws.{length-row, even-zero, even-turn, even-end}
 use Rattle.rounds.specs.DmLaws.{dues-in}
 use Rattle.fashare_comm.specs.Laws.{dm-most}
 use Rattle.fashare_ver.specs.Laws.{place-most, row-most, dues-copy}
@@ -172,27 +172,6 @@ returns c =
 
 pub copy-dms-spec : {M : Type 1} → statement M
 copy-dms-spec =
-    tie.close
-    (tie.spec
-    Inv-loop
-    μ-loop
-    (λ c κs. search needs)
-    loop-holds
-    add-from
-    mul-from
-    add-from-2
-    add-to
-    mul-a
-    add-e
-    (λ c. search needs)
-    (λ c. search needs)
-    part-copy-end
-    (λ c. search needs)
-    (λ c. search needs)
-    part-copy-end-2
-    copy-requires
-    (λ c. search needs)
-    (λ c. search needs)
-    loop-again
-    same-length
-    returns)
+    tie.close (tie.spec Inv-loop μ-loop (λ c κs. search needs) loop-holds add-from mul-from add-from-2 add-to mul-a add-e
+    (λ c. search needs) (λ c. search needs) part-copy-end (λ c. search needs) (λ c. search needs) part-copy-end-2 copy-requires
+    (λ c. search needs) (λ c. search needs) loop-again same-length returns)

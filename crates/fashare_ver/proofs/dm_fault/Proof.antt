@@ -70,13 +70,4 @@ returns-3 c k =
 
 pub dm-fault-spec : {M : Type 1} → statement M
 dm-fault-spec =
-    tie.close
-    (tie.spec
-    item-at-requires
-    load64-requires
-    (λ c κs. search needs)
-    returns
-    add-if2
-    shared-slice-read-if2
-    returns-2
-    returns-3)
+    tie.close (tie.spec item-at-requires load64-requires (λ c κs. search needs) returns add-if2 shared-slice-read-if2 returns-2 returns-3)

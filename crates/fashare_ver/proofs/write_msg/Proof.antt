@@ -141,26 +141,6 @@ returns c =
 
 pub write-msg-spec : {M : Type 1} → statement M
 write-msg-spec =
-    tie.close
-    (tie.spec
-    Inv-loop
-    μ-loop
-    dm-len-requires
-    add-size
-    (λ c. search needs)
-    (λ c. search needs)
-    (λ c. search needs)
-    (λ c κs. search needs)
-    loop-holds
-    mul-a
-    add-a
-    add-e
-    (λ c. search needs)
-    (λ c. search needs)
-    part-put-dm-end
-    put-dm-requires
-    (λ c. search needs)
-    (λ c. search needs)
-    loop-again
-    same-length
-    returns)
+    tie.close (tie.spec Inv-loop μ-loop dm-len-requires add-size (λ c. search needs) (λ c. search needs) (λ c. search needs)
+    (λ c κs. search needs) loop-holds mul-a add-a add-e (λ c. search needs) (λ c. search needs) part-put-dm-end put-dm-requires
+    (λ c. search needs) (λ c. search needs) loop-again same-length returns)

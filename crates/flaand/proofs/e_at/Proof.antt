@@ -1,5 +1,6 @@
 use Rattle.lists.specs.Kit.{ap, ap₂, _∙_, arith, now}
 use Rattle.algebra.specs.Group.{addb, xor-addb}
+use Rattle.share.specs.Layout.{record-some}
 use Rattle.share.specs.Record.{bitAt}
 use Rattle.share.specs.Share.{shareAt}
 use Rattle.rounds.specs.Haand as R
@@ -22,7 +23,7 @@ r-at-requires c κs =
 bit-at-requires : tie.Need-bit-at-requires
 bit-at-requires c κs =
     let s = c .before .before .before .before .before in
-    rw (c .r-at .ensures) (omega (arith, r-at-in (s .pre .0) (s .args .t) (s .pre .1)))
+    rw (c .r-at .ensures) (omega (arith, r-at-in (s .pre .0) (s .args .t) (s .pre .1), record-some (s .args .f .n)))
 
 returns : tie.Need-returns
 unfolding F.e R.r R.zAt shareAt
@@ -33,11 +34,4 @@ returns c =
     ∙ ap₂ addb (b .bit .ensures) (c .bit-at .ensures ∙ ap (bitAt (now (a .recs))) (c .before .r-at .ensures))
 
 pub e-at-spec : {M : Type 1} → statement M
-e-at-spec =
-    tie.close
-    (tie.spec
-    mul-bit
-    bit-requires
-    r-at-requires
-    bit-at-requires
-    returns)
+e-at-spec = tie.close (tie.spec mul-bit bit-requires r-at-requires bit-at-requires returns)

@@ -2,7 +2,8 @@ use Rattle.lists.specs.Kit.{_≡_, ap, ap₂, _∙_, Bool, _*_, arith, now, nee
 use Rattle.algebra.specs.Group.{XorGroup}
 use Rattle.algebra.specs.Sum.{others}
 use Rattle.block.specs.Group.{blocks}
-use Rattle.share.specs.Record.{recordLen, bitAt}
+use Rattle.share.specs.Layout.{recordLen, record-some}
+use Rattle.share.specs.Record.{bitAt}
 use Rattle.engine.specs.declared.Frame.{Frame}
 use Rattle.rounds.specs.Mail.{letter}
 use Rattle.flaand.specs.HLaws.{zTerm, maskedAt, h-parts}
@@ -18,7 +19,7 @@ x-at-requires c κs =
 bit-at-requires : tie.Need-bit-at-requires
 bit-at-requires c κs =
     let s = c .before .before .before .before .before in
-    rw (c .x-at .ensures) (omega (arith, x-at-in (s .pre .0 .0) (s .args .t) (s .pre .0 .1)))
+    rw (c .x-at .ensures) (omega (arith, x-at-in (s .pre .0 .0) (s .args .t) (s .pre .0 .1), record-some (s .args .f .n)))
 
 r-at-requires : tie.Need-r-at-requires
 r-at-requires c κs =
@@ -59,14 +60,5 @@ returns c =
 
 pub h-spec : {M : Type 1} → statement M
 h-spec =
-    tie.close
-    (tie.spec
-    x-at-requires
-    bit-at-requires
-    r-at-requires
-    z-terms-requires
-    (λ c κs. search needs)
-    (λ c κs. search needs)
-    masked-requires
-    (λ c κs. search needs)
-    returns)
+    tie.close (tie.spec x-at-requires bit-at-requires r-at-requires z-terms-requires (λ c κs. search needs) (λ c κs. search needs)
+    masked-requires (λ c κs. search needs) returns)

@@ -42,16 +42,5 @@ returns c =
 
 pub h-at-spec : {M : Type 1} → statement M
 h-at-spec =
-    tie.close
-    (tie.spec
-    (λ c. search needs)
-    (λ c. search needs)
-    part-h-end
-    (λ c. search needs)
-    (λ c. search needs)
-    part-h-end-2
-    (λ c. search needs)
-    (λ c. search needs)
-    part-h-end-3
-    h-requires
-    returns)
+    tie.close (tie.spec (λ c. search needs) (λ c. search needs) part-h-end (λ c. search needs) (λ c. search needs) part-h-end-2
+    (λ c. search needs) (λ c. search needs) part-h-end-3 h-requires returns)

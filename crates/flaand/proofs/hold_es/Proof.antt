@@ -23,5 +23,5 @@ returns c =
 
 pub hold-es-spec : {M : Type 1} → statement M
 hold-es-spec =
-    tie.close
-    (tie.spec (λ c κs. search needs) (λ c. search needs) (λ c. search needs) part-end keep-es-requires (λ c. search needs) returns)
+    tie.close (tie.spec (λ c κs. search needs) (λ c. search needs) (λ c. search needs) part-end keep-es-requires (λ c. search needs)
+    returns)

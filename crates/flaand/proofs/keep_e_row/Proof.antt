@@ -45,12 +45,4 @@ returns-2 c =
 
 pub keep-e-row-spec : {M : Type 1} → statement M
 keep-e-row-spec =
-    tie.close
-    (tie.spec
-    (λ c κs. search needs)
-    (λ c. search needs)
-    returns
-    letter-requires
-    put-es-requires
-    (λ c. search needs)
-    returns-2)
+    tie.close (tie.spec (λ c κs. search needs) (λ c. search needs) returns letter-requires put-es-requires (λ c. search needs) returns-2)

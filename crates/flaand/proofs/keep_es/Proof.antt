@@ -1,12 +1,12 @@
 -- The loop's invariant: the rows of the first k parties are written.
 use Rattle.lists.specs.Kit.{_≡_, sym, ap, _∙_, List, ℕ, _+_, _-_, _*_, _≤_, arith, length, now, needs}
 use Rattle.lists.specs.Over.{cat, tab, Written, in-chunks}
+use Rattle.lists.specs.Rows.{length-row, even-zero, even-turn, even-end}
 use Rattle.algebra.specs.Group.{num}
 use Rattle.plan.specs.Plan.{leaky}
 use Rattle.rounds.specs.declared.Mail.{Mail}
-use Rattle.rounds.specs.Mail.{letter, Arrived}
+use Rattle.rounds.specs.Mail.{letter}
 use Rattle.rounds.specs.Loops.{rowOf, rows-of}
-use Rattle.rounds.specs.RowsLaws.{length-row, even-zero, even-turn, even-end}
 use Rattle.rounds.specs.Flaand.{eTold, eRows}
 use Rattle.flaand.proofs.keep_es.Statement.{statement}
 use Rattle.flaand.proofs.keep_es.Tie as tie
@@ -101,20 +101,5 @@ returns c =
 
 pub keep-es-spec : {M : Type 1} → statement M
 keep-es-spec =
-    tie.close
-    (tie.spec
-    Inv-loop
-    μ-loop
-    (λ c κs. search needs)
-    loop-holds
-    mul-a
-    add-e
-    (λ c. search needs)
-    (λ c. search needs)
-    part-keep-e-row-end
-    keep-e-row-requires
-    (λ c. search needs)
-    (λ c. search needs)
-    loop-again
-    same-length
-    returns)
+    tie.close (tie.spec Inv-loop μ-loop (λ c κs. search needs) loop-holds mul-a add-e (λ c. search needs) (λ c. search needs)
+    part-keep-e-row-end keep-e-row-requires (λ c. search needs) (λ c. search needs) loop-again same-length returns)

@@ -51,15 +51,5 @@ returns c =
 
 pub masked-spec : {M : Type 1} → statement M
 masked-spec =
-    tie.close
-    (tie.spec
-    (λ c κs. search needs)
-    leaky-at-requires
-    load-requires
-    mul-bit
-    bit-requires
-    (λ c κs. search needs)
-    (λ c κs. search needs)
-    (λ c κs. search needs)
-    (λ c κs. search needs)
-    returns)
+    tie.close (tie.spec (λ c κs. search needs) leaky-at-requires load-requires mul-bit bit-requires (λ c κs. search needs)
+    (λ c κs. search needs) (λ c κs. search needs) (λ c κs. search needs) returns)

@@ -1,4 +1,4 @@
-use Rattle.lists.specs.Kit.{ap, ap₂, _∙_, _+_, _*_, _≤_, arith, length, now, needs}
+use Rattle.lists.specs.Kit.{ap, ap₂, _∙_, _+_, _*_, _≤_, arith, now, needs}
 use Rattle.block.specs.Block.{blockAt}
 use Rattle.encode.specs.Encode.{bitBlock}
 use Rattle.rounds.specs.Haand as R

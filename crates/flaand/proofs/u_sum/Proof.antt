@@ -44,15 +44,5 @@ returns c =
 
 pub u-sum-spec : {M : Type 1} → statement M
 u-sum-spec =
-    tie.close
-    (tie.spec
-    Inv-loop
-    μ-loop
-    (λ c κs. search needs)
-    loop-holds
-    u-told-requires
-    (λ c κs. search needs)
-    (λ c. search needs)
-    (λ c. search needs)
-    loop-again
-    returns)
+    tie.close (tie.spec Inv-loop μ-loop (λ c κs. search needs) loop-holds u-told-requires (λ c κs. search needs) (λ c. search needs)
+    (λ c. search needs) loop-again returns)

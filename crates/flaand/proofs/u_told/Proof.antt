@@ -60,14 +60,4 @@ returns-2 c =
     (neq-true (a .f .i) (a .k) (λ e. c .before .before .if1 .left (sym e))))
 
 pub u-told-spec : {M : Type 1} → statement M
-u-told-spec =
-    tie.close
-    (tie.spec
-    (λ c κs. search needs)
-    returns
-    letter-requires
-    mul-load
-    add-load
-    add-load-2
-    load-requires
-    returns-2)
+u-told-spec = tie.close (tie.spec (λ c κs. search needs) returns letter-requires mul-load add-load add-load-2 load-requires returns-2)

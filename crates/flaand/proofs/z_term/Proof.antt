@@ -3,6 +3,7 @@ use Rattle.lists.specs.Over.{in-chunks}
 use Rattle.algebra.specs.Group.{XorGroup, sel, odd}
 use Rattle.algebra.specs.Sum.{neq-true}
 use Rattle.block.specs.Group.{blocks}
+use Rattle.share.specs.Layout.{record-within}
 use Rattle.share.specs.Record.{macAt, keyAt}
 use Rattle.plan.specs.Plan.{leaky}
 use Rattle.rounds.specs.Mail.{letter}
@@ -53,7 +54,8 @@ bit-requires c κs = omega (arith, read-in c)
 term-requires : tie.Need-term-requires
 term-requires c κs =
     let s = c .before .before .before .before .before in
-    (omega (arith, s .pre .0 .0, s .pre .0 .1 .0), omega (arith, s .pre .1 .0, s .pre .0 .1 .0))
+    let k = s .pre .0 .1 .0 in
+    (omega (arith, s .pre .0 .0, k), omega (arith, s .pre .1 .0, record-within (s .args .f .n) (s .args .k) k))
 
 returns-2 : tie.Need-returns-2
 unfolding zTerm eTold
@@ -69,14 +71,4 @@ returns-2 c =
     (neq-true (a .f .i) (a .k) (λ e. t .before .if1 .left (sym e))))
 
 pub z-term-spec : {M : Type 1} → statement M
-z-term-spec =
-    tie.close
-    (tie.spec
-    (λ c κs. search needs)
-    returns
-    letter-requires
-    mul-bit
-    add-bit
-    bit-requires
-    term-requires
-    returns-2)
+z-term-spec = tie.close (tie.spec (λ c κs. search needs) returns letter-requires mul-bit add-bit bit-requires term-requires returns-2)

@@ -48,15 +48,5 @@ returns c =
 
 pub z-terms-spec : {M : Type 1} → statement M
 z-terms-spec =
-    tie.close
-    (tie.spec
-    Inv-loop
-    μ-loop
-    (λ c κs. search needs)
-    loop-holds
-    z-term-requires
-    (λ c κs. search needs)
-    (λ c. search needs)
-    (λ c. search needs)
-    loop-again
-    returns)
+    tie.close (tie.spec Inv-loop μ-loop (λ c κs. search needs) loop-holds z-term-requires (λ c κs. search needs) (λ c. search needs)
+    (λ c. search needs) loop-again returns)

@@ -233,43 +233,8 @@ returns c =
 
 pub hold-spec : {M : Type 1} → statement M
 hold-spec =
-    tie.close
-    (tie.spec
-    Inv-loop
-    μ-loop
-    (λ c κs. search needs)
-    (λ c κs. search needs)
-    (λ c κs. search needs)
-    mul-row
-    mul-row-2
-    add-row
-    loop-holds
-    sub-at-once
-    at-once-requires
-    mul-len
-    mul-from
-    add-from
-    add-to
-    (λ c. search needs)
-    (λ c. search needs)
-    part-blocks-end
-    (λ c. search needs)
-    (λ c. search needs)
-    part-copy-end
-    copy-requires
-    mul-a
-    add-a
-    mul-e
-    add-e
-    (λ c. search needs)
-    (λ c. search needs)
-    part-hash-blocks-end
-    (λ c. search needs)
-    (λ c. search needs)
-    part-hash-blocks-end-2
-    hash-blocks-requires
-    (λ c. search needs)
-    (λ c. search needs)
-    loop-again
-    same-length
-    returns)
+    tie.close (tie.spec Inv-loop μ-loop (λ c κs. search needs) (λ c κs. search needs) (λ c κs. search needs) mul-row mul-row-2 add-row
+    loop-holds sub-at-once at-once-requires mul-len mul-from add-from add-to (λ c. search needs) (λ c. search needs) part-blocks-end
+    (λ c. search needs) (λ c. search needs) part-copy-end copy-requires mul-a add-a mul-e add-e (λ c. search needs) (λ c. search needs)
+    part-hash-blocks-end (λ c. search needs) (λ c. search needs) part-hash-blocks-end-2 hash-blocks-requires (λ c. search needs)
+    (λ c. search needs) loop-again same-length returns)

@@ -44,15 +44,5 @@ returns-2 c =
 
 pub keep-row-spec : {M : Type 1} → statement M
 keep-row-spec =
-    tie.close
-    (tie.spec
-    (λ c κs. search needs)
-    (λ c. search needs)
-    returns
-    letter-requires
-    sub-copy
-    part-copy-start
-    (λ c. search needs)
-    copy-requires
-    (λ c. search needs)
-    returns-2)
+    tie.close (tie.spec (λ c κs. search needs) (λ c. search needs) returns letter-requires sub-copy part-copy-start (λ c. search needs)
+    copy-requires (λ c. search needs) returns-2)

@@ -1,12 +1,11 @@
 use Rattle.lists.specs.Kit.{_≡_, sym, ap, ap₂, _∙_, List, _++_, ℕ, _+_, _-_, _*_, _≤_, arith, length, now, needs}
 use Rattle.lists.specs.Over.{in-chunks}
-use Rattle.lists.specs.Rows.{chunk}
+use Rattle.lists.specs.Rows.{chunk, length-row, row-part}
 use Rattle.block.specs.Block.{le8}
 use Rattle.plan.specs.Plan.{leaky, msgLen, listLen, kindOf, countDue}
 use Rattle.plan.specs.PlanLaws.{leaky-most}
 use Rattle.engine.specs.Area.{toOthers}
 use Rattle.rounds.specs.Area.{HS, H-COMMS, at}
-use Rattle.rounds.specs.RowsLaws.{length-row, row-part}
 use Rattle.rounds.specs.FlaandLaws.{comms-sent}
 use Rattle.area.specs.GivenLaws.{lent-length}
 use Rattle.area.specs.Sizes.{size-h-comms}
@@ -74,16 +73,5 @@ returns c =
 
 pub write-spec : {M : Type 1} → statement M
 write-spec =
-    tie.close
-    (tie.spec
-    (λ c κs. search needs)
-    (λ c κs. search needs)
-    mul-len
-    mul-a
-    add-e
-    (λ c. search needs)
-    (λ c. search needs)
-    part-write-same-end
-    write-same-requires
-    (λ c. search needs)
-    returns)
+    tie.close (tie.spec (λ c κs. search needs) (λ c κs. search needs) mul-len mul-a add-e (λ c. search needs) (λ c. search needs)
+    part-write-same-end write-same-requires (λ c. search needs) returns)

@@ -44,15 +44,5 @@ returns c =
 
 pub h-sum-spec : {M : Type 1} → statement M
 h-sum-spec =
-    tie.close
-    (tie.spec
-    Inv-loop
-    μ-loop
-    (λ c κs. search needs)
-    loop-holds
-    h-told-requires
-    (λ c κs. search needs)
-    (λ c. search needs)
-    (λ c. search needs)
-    loop-again
-    returns)
+    tie.close (tie.spec Inv-loop μ-loop (λ c κs. search needs) loop-holds h-told-requires (λ c κs. search needs) (λ c. search needs)
+    (λ c. search needs) loop-again returns)

@@ -46,13 +46,4 @@ returns-2 c =
     (c .load .ensures ∙ ap (λ (s : List ℕ). blockAt s (8 + a .t * 16)) (c .before .letter .ensures))
 
 pub h-told-spec : {M : Type 1} → statement M
-h-told-spec =
-    tie.close
-    (tie.spec
-    (λ c κs. search needs)
-    returns
-    letter-requires
-    mul-load
-    add-load
-    load-requires
-    returns-2)
+h-told-spec = tie.close (tie.spec (λ c κs. search needs) returns letter-requires mul-load add-load load-requires returns-2)

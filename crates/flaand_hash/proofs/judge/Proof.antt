@@ -69,13 +69,4 @@ returns-3 : tie.Need-returns-3
 returns-3 c = summed-is (c .before) 10 (ap (λ (b : Bool). pick {A = ℕ} b 0 10) (sym (c .if2 .left)))
 
 pub judge-spec : {M : Type 1} → statement M
-judge-spec =
-    tie.close
-    (tie.spec
-    (λ c κs. search needs)
-    (λ c κs. search needs)
-    open-requires
-    returns
-    zero-sum-requires
-    returns-2
-    returns-3)
+judge-spec = tie.close (tie.spec (λ c κs. search needs) (λ c κs. search needs) open-requires returns zero-sum-requires returns-2 returns-3)

@@ -41,11 +41,4 @@ returns-3 : tie.Need-returns-3
 returns-3 c = answers (c .before) 2 (ap (λ (b : Bool). pick {A = ℕ} b 0 2) (sym (c .if2 .left)))
 
 pub open-fault-spec : {M : Type 1} → statement M
-open-fault-spec =
-    tie.close
-    (tie.spec
-    returns
-    letter-requires
-    opens-requires
-    returns-2
-    returns-3)
+open-fault-spec = tie.close (tie.spec returns letter-requires opens-requires returns-2 returns-3)

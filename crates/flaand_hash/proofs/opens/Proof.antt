@@ -150,32 +150,6 @@ returns c =
 
 pub opens-spec : {M : Type 1} → statement M
 opens-spec =
-    tie.close
-    (tie.spec
-    Inv-loop
-    μ-loop
-    (λ c κs. search needs)
-    mul-row
-    mul-row-2
-    loop-holds
-    sub-at-once
-    at-once-requires
-    mul-from
-    add-from
-    mul-to
-    add-to
-    mul-a
-    add-a
-    mul-e
-    add-e
-    (λ c. search needs)
-    (λ c. search needs)
-    part-window-opens-end
-    (λ c. search needs)
-    (λ c. search needs)
-    part-window-opens-end-2
-    window-opens-requires
-    add-t
-    loop-less
-    loop-again
-    returns)
+    tie.close (tie.spec Inv-loop μ-loop (λ c κs. search needs) mul-row mul-row-2 loop-holds sub-at-once at-once-requires mul-from add-from
+    mul-to add-to mul-a add-a mul-e add-e (λ c. search needs) (λ c. search needs) part-window-opens-end (λ c. search needs)
+    (λ c. search needs) part-window-opens-end-2 window-opens-requires add-t loop-less loop-again returns)

@@ -51,16 +51,5 @@ returns c =
 
 pub same-spec : {M : Type 1} → statement M
 same-spec =
-    tie.close
-    (tie.spec
-    Inv-loop
-    μ-loop
-    loop-holds
-    sub-loop
-    load-requires
-    load-requires-2
-    (λ c κs. search needs)
-    add-at
-    (λ c. omega arith)
-    loop-again
-    returns)
+    tie.close (tie.spec Inv-loop μ-loop loop-holds sub-loop load-requires load-requires-2 (λ c κs. search needs) add-at (λ c. omega arith)
+    loop-again returns)

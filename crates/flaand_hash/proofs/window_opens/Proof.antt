@@ -60,13 +60,5 @@ returns c =
 
 pub window-opens-spec : {M : Type 1} → statement M
 window-opens-spec =
-    tie.close
-    (tie.spec
-    (λ c. search needs)
-    (λ c. search needs)
-    slice-aggregate-hash-blocks
-    hash-blocks-requires
-    array-share-prefix-hashes
-    slice-aggregate-same
-    same-requires
-    returns)
+    tie.close (tie.spec (λ c. search needs) (λ c. search needs) slice-aggregate-hash-blocks hash-blocks-requires array-share-prefix-hashes
+    slice-aggregate-same same-requires returns)

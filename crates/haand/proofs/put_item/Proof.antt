@@ -1,6 +1,7 @@
 use Rattle.lists.specs.Kit.{ap, ap₂, _∙_, Bool, not, ℕ, _+_, _≤_, arith, length, getD, now, needs}
 use mathlib.Core.Bool.{Bool·beq}
 use Rattle.algebra.specs.Group.{addb, odd, xor-addb}
+use Rattle.share.specs.Layout.{record-some}
 use Rattle.share.specs.Record.{bitAt}
 use Rattle.share.specs.Share.{shareAt}
 use Rattle.encode.specs.Encode.{twoBits}
@@ -25,7 +26,8 @@ bit-at-requires : tie.Need-bit-at-requires
 bit-at-requires c κs =
     let s = c .before .before .before .before .before .before .before in
     let p = s .pre .1 .0 in
-    omega (arith, y-in (s .args .f) (now (s .args .recs)) (p .records) (s .args .t) (p .below), c .y-at .ensures)
+    let e = y-in (s .args .f) (now (s .args .recs)) (p .records) (s .args .t) (p .below) in
+    omega (arith, e, c .y-at .ensures, record-some (s .args .f .n))
 
 returns : tie.Need-returns
 unfolding item firstAt secondAt R.mask R.y shareAt
@@ -48,16 +50,7 @@ returns c =
 
 pub put-item-spec : {M : Type 1} → statement M
 put-item-spec =
-    tie.close
-    (tie.spec
-    (λ c κs. search needs)
-    (λ c κs. search needs)
-    (λ c κs. search needs)
-    bit-at-requires
-    (λ c. omega (arith, row-in (c .before .before .before .before)))
-    (λ c κs. omega (arith, row-in (c .before .before .before .before)))
+    tie.close (tie.spec (λ c κs. search needs) (λ c κs. search needs) (λ c κs. search needs) bit-at-requires
+    (λ c. omega (arith, row-in (c .before .before .before .before))) (λ c κs. omega (arith, row-in (c .before .before .before .before)))
     (λ c. omega (arith, row-in (c .before .before .before .before .before)))
-    (λ c κs. omega (arith, row-in (c .before .before .before .before .before)))
-    (λ c κs. search needs)
-    (λ c. search needs)
-    returns)
+    (λ c κs. omega (arith, row-in (c .before .before .before .before .before))) (λ c κs. search needs) (λ c. search needs) returns)

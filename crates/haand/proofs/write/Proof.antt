@@ -1,8 +1,8 @@
 -- The loop's invariant: the messages to the first q parties but i are written.
 use Rattle.lists.specs.Kit.{_≡_, refl, sym, ap, ap₂, _∙_, List, ℕ, _+_, _-_, _*_, _≤_, arith, length, now, needs}
 use Rattle.plan.specs.Plan.{leaky, msgLen, listLen, kindOf, countDue}
-use Rattle.plan.specs.PlanLaws.{leaky-most, other-below}
-use Rattle.engine.specs.Area.{toOthers}
+use Rattle.plan.specs.PlanLaws.{leaky-most}
+use Rattle.engine.specs.Area.{toOthers, nth-below}
 use Rattle.rounds.specs.Area.{MASKS, BITS, LEAKY}
 use Rattle.rounds.specs.Loops.{Sent, sent-none, sent-in, sent-turn, sent-end, lent-part}
 use Rattle.rounds.specs.Table.{delta}
@@ -70,7 +70,7 @@ put-message-requires c κs =
     let h = s .pre .0 in (
       (
         lent-part (i .before .loop .q * len i) (len i) (8 + leaky (f .l) * 2) (i .before .loop .out) (is i) (part-in i),
-        omega (arith, c .before .other .ensures, other-below (f .n) (f .i) (i .before .loop .q) (i .loop-test .taken)),
+        omega (arith, c .before .other .ensures, nth-below (f .n) (f .i) (i .before .loop .q) (i .loop-test .taken)),
       ),
       (
         (h .ranges, lent-length h BITS _ _ (omega arith) (size-bits f) (secs i .section3 .ensures)),
@@ -116,27 +116,7 @@ returns c =
 
 pub write-spec : {M : Type 1} → statement M
 write-spec =
-    tie.close
-    (tie.spec
-    Inv-loop
-    μ-loop
-    (λ c κs. search needs)
-    (λ c κs. search needs)
-    (λ c κs. search needs)
-    (λ c κs. search needs)
-    (λ c. omega (arith, most c))
-    (λ c. omega (arith, most c))
-    (λ c. search needs)
-    loop-holds
-    (λ c. omega (arith, part-in c))
-    (λ c. omega (arith, part-in c))
-    (λ c κs. search needs)
-    (λ c. search needs)
-    (λ c. search needs)
-    (λ c. part-in (c .before))
-    put-message-requires
-    (λ c. search needs)
-    (λ c. search needs)
-    loop-again
-    same-length
-    returns)
+    tie.close (tie.spec Inv-loop μ-loop (λ c κs. search needs) (λ c κs. search needs) (λ c κs. search needs) (λ c κs. search needs)
+    (λ c. omega (arith, most c)) (λ c. omega (arith, most c)) (λ c. search needs) loop-holds (λ c. omega (arith, part-in c))
+    (λ c. omega (arith, part-in c)) (λ c κs. search needs) (λ c. search needs) (λ c. search needs) (λ c. part-in (c .before))
+    put-message-requires (λ c. search needs) (λ c. search needs) loop-again same-length returns)

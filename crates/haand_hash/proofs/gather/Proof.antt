@@ -1,7 +1,7 @@
 -- The loop's invariant: the parts of the first p positions are written.
-use Rattle.lists.specs.Kit.{_≡_, refl, sym, ap, _∙_, List, ℕ, _+_, _-_, _*_, _<_, _≤_, arith, length, now, needs}
-use native.Mathlib.Nat.{zero-mul}
-use Rattle.lists.specs.Over.{Written, written-zero, written-turn, written-end, in-chunks, next-chunk}
+use Rattle.lists.specs.Kit.{_≡_, refl, ap, _∙_, List, ℕ, _+_, _-_, _*_, _<_, _≤_, arith, length, now, needs}
+use Rattle.lists.specs.Over.{Written}
+use Rattle.lists.specs.Rows.{even-zero, even-in, even-put, even-end}
 use Rattle.block.specs.Block.{bytesOf}
 use Rattle.block.specs.Trip.{length-bytesOf}
 use Rattle.share.specs.Record.{recordLen}
@@ -37,7 +37,7 @@ module _ (s : tie.Start Inv-loop μ-loop) where
       (λ k h ne. length-bytesOf (partOf (a .keys) (now (a .recs)) ((a .t + p) * recordLen (a .f .n)) k))
 
 loop-holds : tie.Need-loop-holds Inv-loop μ-loop
-loop-holds c = let s = c .before .before in (omega arith, rw zero-mul (written-zero (g s) (now (s .args .out))))
+loop-holds c = let s = c .before .before in (omega arith, even-zero (g s) (len s) (now (s .args .out)))
 
 -- ---- in a turn
 module _ (c : tie.In-loop Inv-loop μ-loop) where
@@ -48,8 +48,10 @@ module _ (c : tie.In-loop Inv-loop μ-loop) where
   p = c .before .loop .p
 
   part-in : p * len start + len start ≤ length (c .before .loop .out)
-  part-in = omega
-      (arith, in-chunks p (start .args .m) (len start) (c .loop-test .taken), c .before .loop .inv .1 .same, start .pre .1)
+  part-in =
+      let a = start .args in
+      let e = even-in (g start) (a .m) (len start) (now (a .out)) (start .pre .1) p (c .loop-test .taken) in
+      omega (arith, e, c .before .loop .inv .1 .same)
 
   below : start .args .t + p < leaky (start .args .f .l)
   below = omega (arith, c .loop-test .taken, start .pre .0 .below)
@@ -76,11 +78,11 @@ loop-again c =
     let a = s .args in
     let k = i .before .loop in (
       omega (arith, i .loop-test .taken),
-      written-turn (g s) (p i) (p i * len s) (p i * len s + len s) ((p i + 1) * len s) (now (a .out)) (k .out) (w .put-parts .last .0)
-          (k .inv .1)
+      even-put (g s) (a .m) (len s) (now (a .out)) (s .pre .1) (p i) (p i * len s + len s) (k .out) (w .put-parts .last .0)
+          (i .loop-test .taken) (k .inv .1) (long s (p i))
           (w .put-parts .ensures ∙ ap (λ at. toOthers (a .f .n) (a .f .i) (λ k. bytesOf (partOf (a .keys) (now (a .recs)) at k)))
           (w .before .x-at .ensures))
-          (ap (λ m. p i * len s + m) (long s (p i))) (omega (arith, part-in i, k .inv .1 .same)) (sym (next-chunk (p i) (len s))),
+          refl,
     )
 
 same-length : tie.Need-same-length Inv-loop μ-loop
@@ -90,29 +92,12 @@ returns : tie.Need-returns Inv-loop μ-loop
 returns c =
     let s = c .before .before .before .before in
     let l = c .before .loop in
-    let e : l .p ≡ s .args .m = omega arith in
-    written-end (g s) (l .p) (s .args .m) (l .p * len s) (now (s .args .out)) (l .out) (l .inv .1) e
-    (omega (arith, s .pre .1, ap (λ m. m * len s) e))
+    even-end (g s) (s .args .m) (len s) (now (s .args .out)) (s .pre .1) (l .p) (l .out) (l .inv .1) (omega arith)
 
 pub gather-spec : {M : Type 1} → statement M
 gather-spec =
-    tie.close
-    (tie.spec
-    Inv-loop
-    μ-loop
-    (λ c. omega (arith, c .before .before .pre .0 .ranges .own))
-    (λ c. omega (arith, c .before .before .pre .0 .ranges .range .eight))
-    loop-holds
-    (λ c. omega (arith, part-in c))
-    (λ c. omega (arith, part-in c))
-    (λ c. search needs)
-    (λ c. search needs)
-    (λ c. part-in c)
-    add-x-at
-    (λ c κs. let i = c .before in (start i .pre .0 .ranges .range, below i))
-    put-parts-requires
-    (λ c. search needs)
-    (λ c. search needs)
-    loop-again
-    same-length
-    returns)
+    tie.close (tie.spec Inv-loop μ-loop (λ c. omega (arith, c .before .before .pre .0 .ranges .own))
+    (λ c. omega (arith, c .before .before .pre .0 .ranges .range .eight)) loop-holds (λ c. omega (arith, part-in c))
+    (λ c. omega (arith, part-in c)) (λ c. search needs) (λ c. search needs) (λ c. part-in c) add-x-at
+    (λ c κs. let i = c .before in (start i .pre .0 .ranges .range, below i)) put-parts-requires (λ c. search needs) (λ c. search needs)
+    loop-again same-length returns)

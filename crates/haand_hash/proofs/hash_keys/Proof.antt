@@ -96,19 +96,6 @@ returns c =
 
 pub hash-keys-spec : {M : Type 1} → statement M
 hash-keys-spec =
-    tie.close
-    (tie.spec
-    (λ c. search needs)
-    (λ c. search needs)
-    (λ c. search needs)
-    (λ c. search needs)
-    slice-aggregate-gather
-    gather-requires
-    (λ c. search needs)
-    (λ c. search needs)
-    part-blocks-end
-    slice-aggregate-add
-    add-requires
-    slice-aggregate-hash-window
-    hash-window-requires
-    returns)
+    tie.close (tie.spec (λ c. search needs) (λ c. search needs) (λ c. search needs) (λ c. search needs) slice-aggregate-gather
+    gather-requires (λ c. search needs) (λ c. search needs) part-blocks-end slice-aggregate-add add-requires slice-aggregate-hash-window
+    hash-window-requires returns)

@@ -54,14 +54,5 @@ returns c =
 
 pub hash-macs-spec : {M : Type 1} → statement M
 hash-macs-spec =
-    tie.close
-    (tie.spec
-    (λ c. search needs)
-    (λ c. search needs)
-    (λ c. search needs)
-    (λ c. search needs)
-    slice-aggregate-gather
-    gather-requires
-    slice-aggregate-hash-window
-    hash-window-requires
-    returns)
+    tie.close (tie.spec (λ c. search needs) (λ c. search needs) (λ c. search needs) (λ c. search needs) slice-aggregate-gather
+    gather-requires slice-aggregate-hash-window hash-window-requires returns)

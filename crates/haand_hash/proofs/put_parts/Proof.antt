@@ -1,8 +1,9 @@
 -- The loop's invariant: the parts of the first q other parties are written.
-use Rattle.lists.specs.Kit.{refl, ap, _∙_, List, ℕ, _+_, _-_, _*_, _≤_, arith, length, now, needs}
+use Rattle.lists.specs.Kit.{refl, ap, _∙_, List, ℕ, _+_, _-_, _*_, _<_, _≤_, arith, length, now, needs}
 use Rattle.block.specs.Block.{bytesOf}
 use Rattle.block.specs.Trip.{length-bytesOf}
-use Rattle.plan.specs.PlanLaws.{other-below}
+use Rattle.share.specs.Layout.{record-within}
+use Rattle.engine.specs.Area.{nth-below}
 use Rattle.rounds.specs.Loops.{lent-part, Sent, sent-none, sent-in, sent-turn, sent-end}
 use Rattle.haand_hash.specs.Window.{partOf}
 use Rattle.haand_hash.proofs.put_parts.Statement.{statement}
@@ -41,8 +42,10 @@ module _ (c : tie.In-loop Inv-loop μ-loop) where
 part-of-requires : tie.Need-part-of-requires Inv-loop μ-loop
 part-of-requires c κs =
     let s = start (c .before) in
-    let k = other-below (s .args .f .n) (s .args .f .i) (q (c .before)) (c .before .loop-test .taken) in
-    (omega (arith, k, c .other .ensures), omega (arith, k, c .other .ensures))
+    let n = s .args .f .n in
+    let b = nth-below n (s .args .f .i) (q (c .before)) (c .before .loop-test .taken) in
+    let k : c .other .result < n = omega (arith, b, c .other .ensures) in
+    (omega (arith, k), omega (arith, record-within n (c .other .result) k, s .pre .1))
 
 part-store-end : tie.Need-part-store-end Inv-loop μ-loop
 part-store-end c = part-in (c .before .before)
@@ -78,22 +81,6 @@ returns c =
 
 pub put-parts-spec : {M : Type 1} → statement M
 put-parts-spec =
-    tie.close
-    (tie.spec
-    Inv-loop
-    μ-loop
-    (λ c. search needs)
-    loop-holds
-    (λ c κs. search needs)
-    part-of-requires
-    (λ c. search needs)
-    (λ c. search needs)
-    (λ c. search needs)
-    (λ c. search needs)
-    part-store-end
-    store-requires
-    (λ c. search needs)
-    (λ c. search needs)
-    loop-again
-    same-length
-    returns)
+    tie.close (tie.spec Inv-loop μ-loop (λ c. search needs) loop-holds (λ c κs. search needs) part-of-requires (λ c. search needs)
+    (λ c. search needs) (λ c. search needs) (λ c. search needs) part-store-end store-requires (λ c. search needs) (λ c. search needs)
+    loop-again same-length returns)

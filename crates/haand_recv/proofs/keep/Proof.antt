@@ -14,7 +14,7 @@ use Rattle.rounds.specs.HaandLaws.{length-zRow}
 use Rattle.area.specs.Given.{Place}
 use Rattle.area.specs.GivenLaws.{area, place-at, place-in, lent-length, rows-inside}
 use Rattle.area.specs.Sizes.{size-masks, size-bits, size-zs}
-use Rattle.haand.specs.Parts.{window-copied}
+use Rattle.haand_hash.specs.WindowLaws.{window-copied}
 use Rattle.haand_recv.specs.Received.{positions-most}
 use Rattle.haand_recv.proofs.keep.Statement.{statement}
 use Rattle.haand_recv.proofs.keep.Tie as tie
@@ -195,40 +195,13 @@ returns c =
 
 pub keep-spec : {M : Type 1} → statement M
 keep-spec =
-    tie.close
-    (tie.spec
-    Inv-loop
-    μ-loop
-    (λ c κs. search needs)
-    (λ c κs. search needs)
-    (λ c κs. search needs)
-    (λ c κs. search needs)
-    loop-holds
-    sub-window
-    window-requires
-    (λ c. omega (arith, few c))
-    (λ c. search needs)
-    (λ c. search needs)
-    (λ c. let i = c .before in omega (arith, few i, i .before .before .loop .inv .1))
-    (λ c. search needs)
-    (λ c. search needs)
-    (λ c. let i = c .before .before in inside i BITS _ _ (omega arith) (bits i))
-    (λ c. search needs)
-    (λ c. search needs)
-    (λ c. let i = c .before .before .before in inside i MASKS _ _ (omega arith) (masks i))
-    put-window-requires
-    (λ c. omega (arith, rows-in (turn (c .before))))
-    (λ c. omega (arith, rows-in (turn (c .before))))
-    (λ c. omega (arith, rows-in (turn (c .before))))
-    (λ c. search needs)
-    (λ c. search needs)
-    (λ c. rows-in (turn (c .before)))
-    (λ c. search needs)
-    (λ c. search needs)
-    (λ c. let y = c .before .before .before in omega (arith, still y, few (turn y)))
-    copy-requires
+    tie.close (tie.spec Inv-loop μ-loop (λ c κs. search needs) (λ c κs. search needs) (λ c κs. search needs) (λ c κs. search needs)
+    loop-holds sub-window window-requires (λ c. omega (arith, few c)) (λ c. search needs) (λ c. search needs)
+    (λ c. let i = c .before in omega (arith, few i, i .before .before .loop .inv .1)) (λ c. search needs) (λ c. search needs)
+    (λ c. let i = c .before .before in inside i BITS _ _ (omega arith) (bits i)) (λ c. search needs) (λ c. search needs)
+    (λ c. let i = c .before .before .before in inside i MASKS _ _ (omega arith) (masks i)) put-window-requires
+    (λ c. omega (arith, rows-in (turn (c .before)))) (λ c. omega (arith, rows-in (turn (c .before))))
+    (λ c. omega (arith, rows-in (turn (c .before)))) (λ c. search needs) (λ c. search needs) (λ c. rows-in (turn (c .before)))
+    (λ c. search needs) (λ c. search needs) (λ c. let y = c .before .before .before in omega (arith, still y, few (turn y))) copy-requires
     (λ c. omega (arith, some (turn (c .before .before .before .before .before .before .before))))
-    (λ c. omega (arith, some (turn (c .before .before .before .before .before .before .before))))
-    loop-again
-    same-length
-    returns)
+    (λ c. omega (arith, some (turn (c .before .before .before .before .before .before .before)))) loop-again same-length returns)

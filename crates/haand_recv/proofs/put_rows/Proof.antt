@@ -10,9 +10,8 @@ use Rattle.rounds.specs.Loops.{lent-part}
 use Rattle.rounds.specs.Mail.{letter}
 use Rattle.rounds.specs.Haand as R
 use Rattle.rounds.specs.HaandLaws.{length-zRow}
-use Rattle.haand_hash.specs.Window.{hashes}
+use Rattle.haand_hash.specs.Window.{Asked, hashes}
 use Rattle.haand_hash.specs.WindowLaws.{lent-hashes, length-hashes}
-use Rattle.haand.specs.Given.{Asked}
 use Rattle.haand_recv.specs.Received.{z-row-is}
 use Rattle.haand_recv.proofs.put_rows.Statement.{statement}
 use Rattle.haand_recv.proofs.put_rows.Tie as tie
@@ -109,29 +108,11 @@ returns c =
 
 pub put-rows-spec : {M : Type 1} → statement M
 put-rows-spec =
-    tie.close
-    (tie.spec
-    Inv-loop
-    μ-loop
-    (λ c. omega (arith, c .before .before .before .before .before .pre .0 .0 .ranges .own))
-    (λ c. omega (arith, c .before .before .before .before .before .pre .0 .0 .ranges .range .eight))
-    loop-holds
-    (λ c. omega (arith, hash-in c))
-    (λ c. omega (arith, hash-in c))
-    (λ c. search needs)
-    (λ c. search needs)
-    (λ c. hash-in c)
-    sums-requires
+    tie.close (tie.spec Inv-loop μ-loop (λ c. omega (arith, c .before .before .before .before .before .pre .0 .0 .ranges .own))
+    (λ c. omega (arith, c .before .before .before .before .before .pre .0 .0 .ranges .range .eight)) loop-holds
+    (λ c. omega (arith, hash-in c)) (λ c. omega (arith, hash-in c)) (λ c. search needs) (λ c. search needs) (λ c. hash-in c) sums-requires
     (λ c. let i = c .before .before in omega (arith, asked i .below, leaky-most (start i .args .f .l) (asked i .ranges .range .most)))
-    told-requires
-    (λ c. omega (arith, row-in (c .before .before .before)))
-    (λ c. omega (arith, row-in (c .before .before .before)))
-    (λ c. search needs)
-    (λ c. search needs)
-    (λ c. row-in (c .before .before .before))
+    told-requires (λ c. omega (arith, row-in (c .before .before .before))) (λ c. omega (arith, row-in (c .before .before .before)))
+    (λ c. search needs) (λ c. search needs) (λ c. row-in (c .before .before .before))
     (λ c κs. let i = c .before .before .before .before .before in lent-part (p i * 17) 17 17 (i .before .loop .out) refl (row-in i))
-    (λ c. search needs)
-    (λ c. search needs)
-    loop-again
-    same-length
-    returns)
+    (λ c. search needs) (λ c. search needs) loop-again same-length returns)

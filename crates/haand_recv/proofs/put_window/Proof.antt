@@ -8,5 +8,4 @@ put-rows-requires c κs =
     (s .pre .0, (s .pre .1 .0, (c .before .before .hash-macs .ensures, s .pre .1 .1)))
 
 pub put-window-spec : {M : Type 1} → statement M
-put-window-spec =
-    tie.close (tie.spec (λ c κs. search needs) (λ c. search needs) put-rows-requires (λ c. search needs) (λ c. search needs))
+put-window-spec = tie.close (tie.spec (λ c κs. search needs) (λ c. search needs) put-rows-requires (λ c. search needs) (λ c. search needs))

@@ -9,6 +9,5 @@ returns c = rw (c .before .bit .ensures, c .bit2 .ensures) (chosen (c .before .b
 
 pub received-spec : {M : Type 1} → statement M
 received-spec =
-    tie.close
-    (tie.spec (λ c. search needs) (λ c. search needs) (λ c κs. search needs) (λ c. search needs) (λ c. search needs) (λ c. search needs)
-    (λ c κs. search needs) returns)
+    tie.close (tie.spec (λ c. search needs) (λ c. search needs) (λ c κs. search needs) (λ c. search needs) (λ c. search needs)
+    (λ c. search needs) (λ c κs. search needs) returns)

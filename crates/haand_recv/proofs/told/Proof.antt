@@ -2,6 +2,7 @@
 use Rattle.lists.specs.Kit.{_≡_, ap, ap₂, _∙_, Bool, _&&_, ℕ, _-_, _≤_, arith, now, needs}
 use Rattle.algebra.specs.Group.{bits, addb, sel, xor-addb}
 use Rattle.algebra.specs.Sum.{others}
+use Rattle.share.specs.Layout.{record-some}
 use Rattle.share.specs.Record.{bitAt}
 use Rattle.share.specs.Share.{shareAt}
 use Rattle.rounds.specs.Mail.{letter}
@@ -26,12 +27,14 @@ bit s = let a = s .args in Got.toldBy (a .f) (now (a .masks)) (now (a .recs)) (l
 bit-at-requires : tie.Need-bit-at-requires Inv-loop μ-loop
 bit-at-requires c κs =
     let s = c .before .before .before .before in
-    omega (arith, x-in (s .args .f) (now (s .args .recs)) (s .pre .0 .records) (s .args .t) (s .pre .0 .below), c .x-at .ensures)
+    let e = x-in (s .args .f) (now (s .args .recs)) (s .pre .0 .records) (s .args .t) (s .pre .0 .below) in
+    omega (arith, e, c .x-at .ensures, record-some (s .args .f .n))
 
 bit-at-requires-2 : tie.Need-bit-at-requires-2 Inv-loop μ-loop
 bit-at-requires-2 c κs =
     let s = c .before .before .before .before .before .before in
-    omega (arith, y-in (s .args .f) (now (s .args .recs)) (s .pre .0 .records) (s .args .t) (s .pre .0 .below), c .y-at .ensures)
+    let e = y-in (s .args .f) (now (s .args .recs)) (s .pre .0 .records) (s .args .t) (s .pre .0 .below) in
+    omega (arith, e, c .y-at .ensures, record-some (s .args .f .n))
 
 loop-holds : tie.Need-loop-holds Inv-loop μ-loop
 loop-holds c = (omega arith, others-none bits _ _)
@@ -62,17 +65,5 @@ returns c =
 
 pub told-spec : {M : Type 1} → statement M
 told-spec =
-    tie.close
-    (tie.spec
-    Inv-loop
-    μ-loop
-    (λ c κs. search needs)
-    bit-at-requires
-    (λ c κs. search needs)
-    bit-at-requires-2
-    loop-holds
-    (λ c κs. search needs)
-    (λ c. search needs)
-    (λ c. search needs)
-    loop-again
-    returns)
+    tie.close (tie.spec Inv-loop μ-loop (λ c κs. search needs) bit-at-requires (λ c κs. search needs) bit-at-requires-2 loop-holds
+    (λ c κs. search needs) (λ c. search needs) (λ c. search needs) loop-again returns)

@@ -1,5 +1,6 @@
 use Rattle.lists.specs.Kit.{sym, ap, ap₂, _∙_, List, Bool, ℕ, arith, length, now, needs}
 use Rattle.algebra.specs.Group.{bits, addb, xor-addb}
+use Rattle.share.specs.Layout.{record-some}
 use Rattle.share.specs.Record.{bitAt}
 use Rattle.share.specs.Share.{shareAt}
 use Rattle.encode.specs.Stretch.{in-list}
@@ -24,7 +25,8 @@ bit-at-requires : tie.Need-bit-at-requires
 bit-at-requires c κs =
     let s = c .before .before .before .before .before .before .before in
     let p = s .pre .0 .0 in
-    omega (arith, x-in (s .args .f) (now (s .args .recs)) (p .records) (s .args .t) (p .below), c .x-at .ensures)
+    let e = x-in (s .args .f) (now (s .args .recs)) (p .records) (s .args .t) (p .below) in
+    omega (arith, e, c .x-at .ensures, record-some (s .args .f .n))
 
 received-requires : tie.Need-received-requires
 received-requires c κs =

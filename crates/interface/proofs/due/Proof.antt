@@ -24,6 +24,4 @@ returns-3 c =
     ∙ due-is s (l .load .result) (b .alive .result) (l .before .if1 .left) (l .load .ensures .0) (b .alive .ensures)
 
 pub due-spec : {M : Type 1} → statement M
-due-spec =
-    tie.close
-    (tie.spec returns (λ c κs. search needs) (λ c κs. search needs) (λ c. search needs) returns-2 returns-3)
+due-spec = tie.close (tie.spec returns (λ c κs. search needs) (λ c κs. search needs) (λ c. search needs) returns-2 returns-3)

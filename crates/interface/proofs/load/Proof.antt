@@ -29,14 +29,5 @@ returns c = (
 
 pub load-spec : {M : Type 1} → statement M
 load-spec =
-    tie.close
-    (tie.spec
-    (λ c. search needs)
-    cast-t5
-    (λ c. search needs)
-    cast-t8
-    (λ c. search needs)
-    cast-t11
-    (λ c. search needs)
-    cast-t11-2
+    tie.close (tie.spec (λ c. search needs) cast-t5 (λ c. search needs) cast-t8 (λ c. search needs) cast-t11 (λ c. search needs) cast-t11-2
     returns)

@@ -35,6 +35,4 @@ returns-3 c =
     ∙ message-is (a .n) (a .l) (a .round) _ (c .before .in-range .result) _ (c .before .in-range .ensures) refl refl
 
 pub message-len-spec : {M : Type 1} → statement M
-message-len-spec =
-    tie.close
-    (tie.spec (λ c κs. search needs) (λ c κs. search needs) msg-len-requires returns returns-2 returns-3)
+message-len-spec = tie.close (tie.spec (λ c κs. search needs) (λ c κs. search needs) msg-len-requires returns returns-2 returns-3)

@@ -12,5 +12,4 @@ returns-2 : tie.Need-returns-2
 returns-2 c = name-none (c .before .args .round) (c .before .args .k) (c .if1 .left)
 
 pub name-byte-spec : {M : Type 1} → statement M
-name-byte-spec =
-    tie.close (tie.spec (λ c κs. search needs) (λ c. search needs) returns returns-2)
+name-byte-spec = tie.close (tie.spec (λ c κs. search needs) (λ c. search needs) returns returns-2)

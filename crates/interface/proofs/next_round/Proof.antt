@@ -18,5 +18,4 @@ unfolding roundAfter
 returns-2 c = rw (sym (c .before .parties .ensures), c .if1 .left) refl
 
 pub next-round-spec : {M : Type 1} → statement M
-next-round-spec =
-    tie.close (tie.spec (λ c κs. search needs) (λ c κs. search needs) cast-result returns returns-2)
+next-round-spec = tie.close (tie.spec (λ c κs. search needs) (λ c κs. search needs) cast-result returns returns-2)

@@ -16,5 +16,4 @@ unfolding recordBytes
 returns-2 c = rw (sym (c .before .parties .ensures), c .if1 .left) refl
 
 pub record-len-spec : {M : Type 1} → statement M
-record-len-spec =
-    tie.close (tie.spec (λ c κs. search needs) record-len-requires returns returns-2)
+record-len-spec = tie.close (tie.spec (λ c κs. search needs) record-len-requires returns returns-2)

@@ -42,16 +42,4 @@ returns-2 c =
     sym (rw e at (l .loop .inv .1))
 
 pub bools-spec : {M : Type 1} → statement M
-bools-spec =
-    tie.close
-    (tie.spec
-    Inv-loop
-    μ-loop
-    loop-holds
-    add-if1
-    shared-slice-read-if1
-    returns
-    add-k
-    loop-less
-    loop-again
-    returns-2)
+bools-spec = tie.close (tie.spec Inv-loop μ-loop loop-holds add-if1 shared-slice-read-if1 returns add-k loop-less loop-again returns-2)

@@ -28,6 +28,4 @@ returns-2 c =
     (c .before .before .load64 .ensures) (c .before .if1 .left) (c .load642 .ensures)
 
 pub bucket-due-spec : {M : Type 1} → statement M
-bucket-due-spec =
-    tie.close
-    (tie.spec load64-requires returns (λ c. search needs) add-load64-2 load64-requires-2 returns-2)
+bucket-due-spec = tie.close (tie.spec load64-requires returns (λ c. search needs) add-load64-2 load64-requires-2 returns-2)

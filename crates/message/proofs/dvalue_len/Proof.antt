@@ -63,16 +63,5 @@ returns-4 c =
 
 pub dvalue-len-spec : {M : Type 1} → statement M
 dvalue-len-spec =
-    tie.close
-    (tie.spec
-    (λ c κs. search needs)
-    returns
-    (λ c. search needs)
-    sub-bools
-    bools-requires
-    add-vec-len
-    vec-len-requires-2
-    add-result
-    returns-2
-    returns-3
-    returns-4)
+    tie.close (tie.spec (λ c κs. search needs) returns (λ c. search needs) sub-bools bools-requires add-vec-len vec-len-requires-2
+    add-result returns-2 returns-3 returns-4)

@@ -1,6 +1,6 @@
-use Rattle.lists.specs.Kit.{_≡_, sym, ap, _∙_, true, _<_, drop, now, needs}
+use Rattle.lists.specs.Kit.{_≡_, sym, ap, _∙_, _<_, drop, now, needs}
 use Rattle.message.specs.declared.Kind.{Kind}
-use Rattle.message.specs.Format.{itemLen, innerDue}
+use Rattle.message.specs.Format.{innerDue}
 use Rattle.message.proofs.inner_due.Statement.{statement}
 use Rattle.message.proofs.inner_due.Tie as tie
 
@@ -34,14 +34,5 @@ returns-4 c =
 
 pub inner-due-spec : {M : Type 1} → statement M
 inner-due-spec =
-    tie.close
-    (tie.spec
-    (λ c. search needs)
-    (λ c. search needs)
-    (λ c. search needs)
-    bucket-due-requires
-    (λ c. search needs)
-    returns
-    returns-2
-    returns-3
-    returns-4)
+    tie.close (tie.spec (λ c. search needs) (λ c. search needs) (λ c. search needs) bucket-due-requires (λ c. search needs) returns
+    returns-2 returns-3 returns-4)

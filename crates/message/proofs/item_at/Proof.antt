@@ -52,15 +52,4 @@ returns c =
     l .loop .inv .1 .here ∙ ap (itemAt (a .kind) (now (a .m))) e
 
 pub item-at-spec : {M : Type 1} → statement M
-item-at-spec =
-    tie.close
-    (tie.spec
-    Inv-loop
-    μ-loop
-    loop-holds
-    item-len-requires
-    add-pos
-    add-k
-    loop-less
-    loop-again
-    returns)
+item-at-spec = tie.close (tie.spec Inv-loop μ-loop loop-holds item-len-requires add-pos add-k loop-less loop-again returns)

@@ -20,5 +20,4 @@ returns-3 c =
     (c .before .bools .result) (c .before .bools .ensures) (c .if2 .left)
 
 pub items-len-spec : {M : Type 1} → statement M
-items-len-spec =
-    tie.close (tie.spec (λ c. search needs) returns (λ c κs. search needs) (λ c κs. search needs) returns-2 returns-3)
+items-len-spec = tie.close (tie.spec (λ c. search needs) returns (λ c κs. search needs) (λ c κs. search needs) returns-2 returns-3)

@@ -29,6 +29,4 @@ returns-5 c =
     option-present (now (a .s)) (a .at) _ _ refl refl (t .if1 .left) (c .before .before .if2 .left) (c .before .if3 .left) (c .if4 .left)
 
 pub option-len-spec : {M : Type 1} → statement M
-option-len-spec =
-    tie.close
-    (tie.spec (λ c. search needs) returns (λ c. search needs) returns-2 returns-3 returns-4 returns-5)
+option-len-spec = tie.close (tie.spec (λ c. search needs) returns (λ c. search needs) returns-2 returns-3 returns-4 returns-5)

@@ -17,7 +17,6 @@ part-result-end : tie.Need-part-result-end
 part-result-end c = omega (arith, within c)
 
 returns : tie.Need-returns
-unfolding R.partOf
 returns c = rw (add-sub-cancel-left (c .before .args .start) (c .before .args .len))
 
 pub part-spec : {M : Type 1} → statement M

@@ -86,19 +86,5 @@ returns-3 c =
 
 pub read-spec : {M : Type 1} → statement M
 read-spec =
-    tie.close
-    (tie.spec
-    Inv-loop
-    μ-loop
-    returns
-    load64-requires
-    loop-holds
-    item-len-requires
-    returns-2
-    inner-due-requires
-    add-pos
-    add-t
-    loop-less
-    loop-again
-    (λ c κs. search needs)
-    returns-3)
+    tie.close (tie.spec Inv-loop μ-loop returns load64-requires loop-holds item-len-requires returns-2 inner-due-requires add-pos add-t
+    loop-less loop-again (λ c κs. search needs) returns-3)

@@ -35,13 +35,4 @@ returns-3 c =
 
 pub vec-len-spec : {M : Type 1} → statement M
 vec-len-spec =
-    tie.close
-    (tie.spec
-    (λ c. search needs)
-    returns
-    (λ c κs. search needs)
-    (λ c. search needs)
-    returns-2
-    mul-result
-    add-result
-    returns-3)
+    tie.close (tie.spec (λ c. search needs) returns (λ c κs. search needs) (λ c. search needs) returns-2 mul-result add-result returns-3)

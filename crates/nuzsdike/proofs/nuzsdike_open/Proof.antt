@@ -1,6 +1,6 @@
 use Rattle.lists.specs.Kit.{ap, arith, now, needs}
 use Rattle.engine.specs.Step.{replyOf}
-use Rattle.opening.specs.Given.{args}
+use Rattle.inputs.specs.Given.{args}
 use Rattle.interface.specs.InterfaceLaws.{opens-not, opens, opens-refused, opened-narrow}
 use Rattle.nuzsdike.proofs.nuzsdike_open.Statement.{statement}
 use Rattle.nuzsdike.proofs.nuzsdike_open.Tie as tie
@@ -53,20 +53,6 @@ returns-3 c =
 
 pub nuzsdike-open-spec : {M : Type 1} → statement M
 nuzsdike-open-spec =
-    tie.close
-    (tie.spec
-    (λ c κs. search needs)
-    (λ c κs. search needs)
-    returns
-    (λ c κs. search needs)
-    (λ c. search needs)
-    store-requires
-    (λ c. search needs)
-    packed-requires-2
-    (λ c. search needs)
-    (λ c. search needs)
-    (λ c. search needs)
-    returns-2
-    (λ c. search needs)
-    (λ c. search needs)
-    returns-3)
+    tie.close (tie.spec (λ c κs. search needs) (λ c κs. search needs) returns (λ c κs. search needs) (λ c. search needs) store-requires
+    (λ c. search needs) packed-requires-2 (λ c. search needs) (λ c. search needs) (λ c. search needs) returns-2 (λ c. search needs)
+    (λ c. search needs) returns-3)

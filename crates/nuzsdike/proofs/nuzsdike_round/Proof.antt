@@ -52,15 +52,5 @@ returns-2 c =
 
 pub nuzsdike-round-spec : {M : Type 1} → statement M
 nuzsdike-round-spec =
-    tie.close
-    (tie.spec
-    (λ c κs. search needs)
-    returns
-    (λ c κs. search needs)
-    (λ c κs. search needs)
-    store-requires
-    answer-requires
-    (λ c. search needs)
-    (λ c. search needs)
-    (λ c. search needs)
-    returns-2)
+    tie.close (tie.spec (λ c κs. search needs) returns (λ c κs. search needs) (λ c κs. search needs) store-requires answer-requires
+    (λ c. search needs) (λ c. search needs) (λ c. search needs) returns-2)

@@ -1,6 +1,6 @@
 use Rattle.lists.specs.Kit.{_≤_, arith, length, now, needs}
 use Rattle.area.specs.GivenLaws.{section-inside}
-use Rattle.opening.specs.Given.{EMPTY}
+use Rattle.inputs.specs.Given.{EMPTY}
 use Rattle.opening.specs.FilledLaws.{clears}
 use Rattle.opening.proofs.clear_rest.Statement.{statement}
 use Rattle.opening.proofs.clear_rest.Tie as tie
@@ -22,12 +22,5 @@ returns c =
 
 pub clear-rest-spec : {M : Type 1} → statement M
 clear-rest-spec =
-    tie.close
-    (tie.spec
-    (λ c κs. search needs)
-    sub-clear
-    part-clear-start
-    (λ c. search needs)
-    (λ c κs. search needs)
-    (λ c. search needs)
+    tie.close (tie.spec (λ c κs. search needs) sub-clear part-clear-start (λ c. search needs) (λ c κs. search needs) (λ c. search needs)
     returns)

@@ -9,6 +9,4 @@ returns c =
     rw (z .clear-rest .ensures, x .put-lists .ensures, x .before .before .before .before .put-seeds .ensures) refl
 
 pub fill-spec : {M : Type 1} → statement M
-fill-spec =
-    tie.close
-    (tie.spec (λ c κs. search needs) (λ c κs. search needs) (λ c κs. search needs) (λ c. search needs) returns)
+fill-spec = tie.close (tie.spec (λ c κs. search needs) (λ c κs. search needs) (λ c κs. search needs) (λ c. search needs) returns)

@@ -1,8 +1,8 @@
 use Rattle.lists.specs.Kit.{_∙_, now, needs}
 use Rattle.engine.specs.Step.{replyOf}
 use Rattle.rounds.specs.Opening.{Args}
-use Rattle.opening.specs.Given.{args, lens, Due}
-use Rattle.opening.specs.OpeningLaws.{refuses, due}
+use Rattle.inputs.specs.Given.{args, lens, Due}
+use Rattle.inputs.specs.OpeningLaws.{refuses, due}
 use Rattle.opening.specs.FilledLaws.{given, left}
 use Rattle.opening.proofs.open.Statement.{statement}
 use Rattle.opening.proofs.open.Tie as tie
@@ -47,12 +47,5 @@ returns-2 c =
 
 pub open-spec : {M : Type 1} → statement M
 open-spec =
-    tie.close
-    (tie.spec
-    (λ c κs. search needs)
-    returns
-    fill-requires
-    write-commitments-requires
-    (λ c. search needs)
-    (λ c. search needs)
+    tie.close (tie.spec (λ c κs. search needs) returns fill-requires write-commitments-requires (λ c. search needs) (λ c. search needs)
     returns-2)

@@ -1,5 +1,5 @@
 use Rattle.lists.specs.Kit.{refl, needs}
-use Rattle.opening.specs.Given.{withLists}
+use Rattle.inputs.specs.Given.{withLists}
 use Rattle.opening.proofs.put_lists.Statement.{statement}
 use Rattle.opening.proofs.put_lists.Tie as tie
 
@@ -12,6 +12,4 @@ returns c =
     rw (p3 .put-section3 .ensures, p2 .put-section2 .ensures, p1 .put-section .ensures) refl
 
 pub put-lists-spec : {M : Type 1} → statement M
-put-lists-spec =
-    tie.close
-    (tie.spec (λ c κs. search needs) (λ c κs. search needs) (λ c κs. search needs) (λ c. search needs) returns)
+put-lists-spec = tie.close (tie.spec (λ c κs. search needs) (λ c κs. search needs) (λ c κs. search needs) (λ c. search needs) returns)

@@ -1,5 +1,5 @@
 use Rattle.lists.specs.Kit.{refl, needs}
-use Rattle.opening.specs.Given.{withSeeds}
+use Rattle.inputs.specs.Given.{withSeeds}
 use Rattle.opening.proofs.put_seeds.Statement.{statement}
 use Rattle.opening.proofs.put_seeds.Tie as tie
 
@@ -14,5 +14,5 @@ returns c =
 
 pub put-seeds-spec : {M : Type 1} → statement M
 put-seeds-spec =
-    tie.close
-    (tie.spec (λ c κs. search needs) (λ c κs. search needs) (λ c κs. search needs) (λ c κs. search needs) (λ c. search needs) returns)
+    tie.close (tie.spec (λ c κs. search needs) (λ c κs. search needs) (λ c κs. search needs) (λ c κs. search needs) (λ c. search needs)
+    returns)

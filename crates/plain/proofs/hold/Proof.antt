@@ -72,21 +72,5 @@ returns-6 c =
 
 pub hold-spec : {M : Type 1} → statement M
 hold-spec =
-    tie.close
-    (tie.spec
-    hold-requires
-    hold-requires-2
-    hold-requires-3
-    hold-requires-4
-    hold-requires-5
-    (λ c. search needs)
-    returns
-    (λ c. search needs)
-    returns-2
-    (λ c. search needs)
-    returns-3
-    (λ c. search needs)
-    returns-4
-    (λ c. search needs)
-    returns-5
-    returns-6)
+    tie.close (tie.spec hold-requires hold-requires-2 hold-requires-3 hold-requires-4 hold-requires-5 (λ c. search needs) returns
+    (λ c. search needs) returns-2 (λ c. search needs) returns-3 (λ c. search needs) returns-4 (λ c. search needs) returns-5 returns-6)

@@ -124,22 +124,5 @@ returns-9 c =
 
 pub judge-spec : {M : Type 1} → statement M
 judge-spec =
-    tie.close
-    (tie.spec
-    judge-requires
-    judge-requires-2
-    judge-requires-3
-    judge-requires-4
-    judge-requires-5
-    judge-requires-6
-    judge-requires-7
-    judge-requires-8
-    returns
-    returns-2
-    returns-3
-    returns-4
-    returns-5
-    returns-6
-    returns-7
-    returns-8
-    returns-9)
+    tie.close (tie.spec judge-requires judge-requires-2 judge-requires-3 judge-requires-4 judge-requires-5 judge-requires-6 judge-requires-7
+    judge-requires-8 returns returns-2 returns-3 returns-4 returns-5 returns-6 returns-7 returns-8 returns-9)

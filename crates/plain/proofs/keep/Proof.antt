@@ -167,36 +167,7 @@ returns-11 c =
 
 pub keep-spec : {M : Type 1} → statement M
 keep-spec =
-    tie.close
-    (tie.spec
-    keep-told-requires
-    keep-joint-requires
-    keep-told-requires-2
-    keep-pairwise-requires
-    keep-requires
-    keep-requires-2
-    keep-requires-3
-    keep-requires-4
-    keep-requires-5
-    keep-requires-6
-    (λ c. search needs)
-    returns
-    (λ c. search needs)
-    returns-2
-    (λ c. search needs)
-    returns-3
-    (λ c. search needs)
-    returns-4
-    (λ c. search needs)
-    returns-5
-    (λ c. search needs)
-    returns-6
-    (λ c. search needs)
-    returns-7
-    (λ c. search needs)
-    returns-8
-    (λ c. search needs)
-    returns-9
-    (λ c. search needs)
-    returns-10
-    returns-11)
+    tie.close (tie.spec keep-told-requires keep-joint-requires keep-told-requires-2 keep-pairwise-requires keep-requires keep-requires-2
+    keep-requires-3 keep-requires-4 keep-requires-5 keep-requires-6 (λ c. search needs) returns (λ c. search needs) returns-2
+    (λ c. search needs) returns-3 (λ c. search needs) returns-4 (λ c. search needs) returns-5 (λ c. search needs) returns-6
+    (λ c. search needs) returns-7 (λ c. search needs) returns-8 (λ c. search needs) returns-9 (λ c. search needs) returns-10 returns-11)

@@ -208,48 +208,9 @@ returns-15 c =
 
 pub write-spec : {M : Type 1} → statement M
 write-spec =
-    tie.close
-    (tie.spec
-    write-commitments-requires
-    write-seed-requires
-    write-pair-commitments-requires
-    write-pair-seeds-requires
-    write-requires
-    write-requires-2
-    write-requires-3
-    write-requires-4
-    write-requires-5
-    write-requires-6
-    write-requires-7
-    write-requires-8
-    write-requires-9
-    write-requires-10
-    (λ c. search needs)
-    returns
-    (λ c. search needs)
-    returns-2
-    (λ c. search needs)
-    returns-3
-    (λ c. search needs)
-    returns-4
-    (λ c. search needs)
-    returns-5
-    (λ c. search needs)
-    returns-6
-    (λ c. search needs)
-    returns-7
-    (λ c. search needs)
-    returns-8
-    (λ c. search needs)
-    returns-9
-    (λ c. search needs)
-    returns-10
-    (λ c. search needs)
-    returns-11
-    (λ c. search needs)
-    returns-12
-    (λ c. search needs)
-    returns-13
-    (λ c. search needs)
-    returns-14
-    returns-15)
+    tie.close (tie.spec write-commitments-requires write-seed-requires write-pair-commitments-requires write-pair-seeds-requires
+    write-requires write-requires-2 write-requires-3 write-requires-4 write-requires-5 write-requires-6 write-requires-7 write-requires-8
+    write-requires-9 write-requires-10 (λ c. search needs) returns (λ c. search needs) returns-2 (λ c. search needs) returns-3
+    (λ c. search needs) returns-4 (λ c. search needs) returns-5 (λ c. search needs) returns-6 (λ c. search needs) returns-7
+    (λ c. search needs) returns-8 (λ c. search needs) returns-9 (λ c. search needs) returns-10 (λ c. search needs) returns-11
+    (λ c. search needs) returns-12 (λ c. search needs) returns-13 (λ c. search needs) returns-14 returns-15)

@@ -1,8 +1,9 @@
 -- `plan::bits_len` meets its contract.
 use Rattle.lists.specs.Kit.{refl, sym, _∙_, arith, needs}
 use native.Mathlib.Nat.{mul-le-mul}
+use Rattle.share.specs.Layout.{record-most}
 use Rattle.plan.specs.Plan.{bitsLen, InRange}
-use Rattle.plan.specs.PlanLaws.{in-range-true, bits-most, record-most}
+use Rattle.plan.specs.PlanLaws.{in-range-true, bits-most}
 use Rattle.plan.proofs.bits_len.Statement.{statement}
 use Rattle.plan.proofs.bits_len.Tie as tie
 

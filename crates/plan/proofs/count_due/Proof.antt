@@ -61,4 +61,6 @@ returns-9 c =
     }) (c .before .args .n) (c .before .args .l))
 
 pub count-due-spec : {M : Type 1} → statement M
-count-due-spec = tie.close (tie.spec (λ c κs. search needs) (λ c κs. search needs) returns returns-2 returns-3 returns-4 returns-5 returns-6 returns-7 returns-8 returns-9)
+count-due-spec =
+    tie.close (tie.spec (λ c κs. search needs) (λ c κs. search needs) returns returns-2 returns-3 returns-4 returns-5 returns-6 returns-7
+    returns-8 returns-9)

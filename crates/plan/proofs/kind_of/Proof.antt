@@ -68,4 +68,6 @@ returns-10 c =
     }) (c .before .args .l))
 
 pub kind-of-spec : {M : Type 1} → statement M
-kind-of-spec = tie.close (tie.spec (λ c κs. search needs) sub-t5 returns returns-2 returns-3 returns-4 returns-5 returns-6 returns-7 returns-8 returns-9 returns-10)
+kind-of-spec =
+    tie.close (tie.spec (λ c κs. search needs) sub-t5 returns returns-2 returns-3 returns-4 returns-5 returns-6 returns-7 returns-8
+    returns-9 returns-10)

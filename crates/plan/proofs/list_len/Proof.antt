@@ -93,4 +93,7 @@ unfolding listLen
 returns-4 c = rw (c .enum-told2 .given .1) refl
 
 pub list-len-spec : {M : Type 1} → statement M
-list-len-spec = tie.close (tie.spec (λ c. search needs) mul-result add-result (λ c. search needs) dm-len-requires add-result-2 mul-result-2 add-result-3 (λ c. search needs) add-result-4 mul-result-3 add-result-5 add-result-6 mul-result-4 add-result-7 (λ c. search needs) add-result-8 sub-result mul-result-5 add-result-9 returns returns-2 returns-3 returns-4)
+list-len-spec =
+    tie.close (tie.spec (λ c. search needs) mul-result add-result (λ c. search needs) dm-len-requires add-result-2 mul-result-2 add-result-3
+    (λ c. search needs) add-result-4 mul-result-3 add-result-5 add-result-6 mul-result-4 add-result-7 (λ c. search needs) add-result-8
+    sub-result mul-result-5 add-result-9 returns returns-2 returns-3 returns-4)

@@ -1,5 +1,5 @@
 -- `plan::out_len` meets its contract.
-use Rattle.lists.specs.Kit.{refl, sym, ap, _∙_, _-_, _≤_, arith, needs}
+use Rattle.lists.specs.Kit.{refl, sym, _∙_, _-_, _≤_, arith, needs}
 use native.Mathlib.Nat.{mul-le-mul}
 use borrow.Author.Tests.{ne-eqb}
 use Rattle.plan.specs.Plan.{outLen, InRange}
@@ -51,4 +51,6 @@ returns-4 c =
     ) refl
 
 pub out-len-spec : {M : Type 1} → statement M
-out-len-spec = tie.close (tie.spec (λ c κs. search needs) returns (λ c κs. search needs) returns-2 (λ c κs. search needs) sub-result (λ c κs. ok c) mul-result returns-3 returns-4)
+out-len-spec =
+    tie.close (tie.spec (λ c κs. search needs) returns (λ c κs. search needs) returns-2 (λ c κs. search needs) sub-result (λ c κs. ok c)
+    mul-result returns-3 returns-4)

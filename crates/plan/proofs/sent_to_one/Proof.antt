@@ -37,17 +37,5 @@ returns c = let l = c .before in l .loop .inv .1 ∙ ap (sentUpTo (l .before .ar
 
 pub sent-to-one-spec : {M : Type 1} → statement M
 sent-to-one-spec =
-    tie.close
-    (tie.spec
-    Inv-loop
-    μ-loop
-    loop-holds
-    (λ c. search needs)
-    (λ c κs. search needs)
-    (λ c. search needs)
-    (λ c κs. search needs)
-    add-sum
-    (λ c. search needs)
-    (λ c. search needs)
-    loop-again
-    returns)
+    tie.close (tie.spec Inv-loop μ-loop loop-holds (λ c. search needs) (λ c κs. search needs) (λ c. search needs) (λ c κs. search needs)
+    add-sum (λ c. search needs) (λ c. search needs) loop-again returns)

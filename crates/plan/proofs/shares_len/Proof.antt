@@ -1,8 +1,9 @@
 -- `plan::shares_len` meets its contract.
 use Rattle.lists.specs.Kit.{refl, sym, _∙_, arith, needs}
 use native.Mathlib.Nat.{mul-le-mul}
+use Rattle.share.specs.Layout.{record-most}
 use Rattle.plan.specs.Plan.{sharesLen, InRange}
-use Rattle.plan.specs.PlanLaws.{in-range-true, record-most}
+use Rattle.plan.specs.PlanLaws.{in-range-true}
 use Rattle.plan.proofs.shares_len.Statement.{statement}
 use Rattle.plan.proofs.shares_len.Tie as tie
 

@@ -48,21 +48,6 @@ returns c =
 
 pub add-bits-spec : {M : Type 1} → statement M
 add-bits-spec =
-    tie.close
-    (tie.spec
-    Inv-loop
-    μ-loop
-    loop-holds
-    (λ c. search needs)
-    (λ c. search needs)
-    (λ c. omega (arith, within c))
-    (λ c. omega (arith, within c))
-    (λ c. omega (arith, within c))
-    (λ c κs. within c)
-    (λ c. search needs)
-    (λ c. search needs)
-    (λ c. search needs)
-    (λ c. search needs)
-    loop-again
-    same-length
-    returns)
+    tie.close (tie.spec Inv-loop μ-loop loop-holds (λ c. search needs) (λ c. search needs) (λ c. omega (arith, within c))
+    (λ c. omega (arith, within c)) (λ c. omega (arith, within c)) (λ c κs. within c) (λ c. search needs) (λ c. search needs)
+    (λ c. search needs) (λ c. search needs) loop-again same-length returns)

@@ -41,22 +41,7 @@ returns c =
 
 pub choose-spec : {M : Type 1} → statement M
 choose-spec =
-    tie.close
-    (tie.spec
-    Inv-loop
-    μ-loop
-    loop-holds
-    (λ c. omega arith)
-    (λ c. omega arith)
-    (λ c. omega arith)
-    (λ c. omega (arith, place c))
-    (λ c. omega (arith, place c))
-    (λ c. omega (arith, place c))
-    (λ c. omega (arith, place c))
-    (λ c. omega (arith, place c))
-    (λ c. omega (arith, place (c .before)))
-    (λ c. omega (arith, place (c .before)))
-    (λ c. omega arith)
-    (λ c. omega arith)
-    loop-again
+    tie.close (tie.spec Inv-loop μ-loop loop-holds (λ c. omega arith) (λ c. omega arith) (λ c. omega arith) (λ c. omega (arith, place c))
+    (λ c. omega (arith, place c)) (λ c. omega (arith, place c)) (λ c. omega (arith, place c)) (λ c. omega (arith, place c))
+    (λ c. omega (arith, place (c .before))) (λ c. omega (arith, place (c .before))) (λ c. omega arith) (λ c. omega arith) loop-again
     returns)

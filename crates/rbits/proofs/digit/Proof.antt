@@ -25,5 +25,4 @@ returns-2 c = simp (le-ltb _ _ (c .if1 .left))
 
 pub digit-spec : {M : Type 1} → statement M
 digit-spec =
-    tie.close
-    (tie.spec (λ c. omega (arith, within c)) (λ c. omega (arith, within (c .before))) (λ c. search needs) returns returns-2)
+    tie.close (tie.spec (λ c. omega (arith, within c)) (λ c. omega (arith, within (c .before))) (λ c. search needs) returns returns-2)

@@ -37,19 +37,6 @@ returns c = filled-end _ (c .before .loop .j) 120 _ (c .before .loop .out) (c .b
 
 pub r-words-spec : {M : Type 1} → statement M
 r-words-spec =
-    tie.close
-    (tie.spec
-    Inv-loop
-    μ-loop
-    loop-holds
-    (λ c. omega (arith, within c))
-    (λ c. omega (arith, within c))
-    (λ c. omega (arith, within c))
-    (λ c κs. within c)
-    (λ c. omega arith)
-    (λ c. omega (arith, c .before .before .loop .inv .1 .same))
-    (λ c. omega arith)
-    (λ c. omega arith)
-    loop-again
-    same-length
-    returns)
+    tie.close (tie.spec Inv-loop μ-loop loop-holds (λ c. omega (arith, within c)) (λ c. omega (arith, within c))
+    (λ c. omega (arith, within c)) (λ c κs. within c) (λ c. omega arith) (λ c. omega (arith, c .before .before .loop .inv .1 .same))
+    (λ c. omega arith) (λ c. omega arith) loop-again same-length returns)

@@ -22,5 +22,5 @@ returns-2 c = c .zero .ensures ∙ simp (le-ltb _ _ (c .before .if1 .left))
 
 pub record-block-spec : {M : Type 1} → statement M
 record-block-spec =
-    tie.close
-    (tie.spec (λ c. omega (arith, within c)) (λ c. omega (arith, within c)) (λ c κs. within c) (λ c κs. search needs) returns returns-2)
+    tie.close (tie.spec (λ c. omega (arith, within c)) (λ c. omega (arith, within c)) (λ c κs. within c) (λ c κs. search needs) returns
+    returns-2)

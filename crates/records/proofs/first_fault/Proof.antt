@@ -1,5 +1,6 @@
 use Rattle.lists.specs.Kit.{_≡_, sym, ap, _∙_, _+_, _-_, _*_, _≤_, arith, length, now, needs}
 use Rattle.lists.specs.Over.{in-record}
+use Rattle.share.specs.Layout.{record-within}
 use Rattle.share.specs.Record.{recordLen, recordFault, recordsFault}
 use Rattle.share.specs.RecordLaws.{faults-zero, faults-turn, faults-stay}
 use Rattle.records.proofs.first_fault.Statement.{statement}
@@ -29,7 +30,7 @@ inside c =
       arith,
       at c,
       in-record (c .before .loop .t) (a .args .count) (recordLen (a .args .n)) 0 (recordLen (a .args .i + 1))
-          (length (now (a .args .s))) (c .loop-test .taken) (omega arith) (a .pre .1),
+          (length (now (a .args .s))) (c .loop-test .taken) (omega (arith, record-within (a .args .n) (a .args .i) (a .pre .0 .1))) (a .pre .1),
     )
 
 mul-record-fault : tie.Need-mul-record-fault Inv-loop μ-loop
@@ -62,6 +63,5 @@ returns-2 c =
 
 pub first-fault-spec : {M : Type 1} → statement M
 first-fault-spec =
-    tie.close
-    (tie.spec Inv-loop μ-loop (λ c κs. search needs) loop-holds mul-record-fault record-fault-requires returns (λ c. search needs)
+    tie.close (tie.spec Inv-loop μ-loop (λ c κs. search needs) loop-holds mul-record-fault record-fault-requires returns (λ c. search needs)
     (λ c. search needs) loop-again returns-2)

@@ -1,13 +1,13 @@
 use Rattle.lists.specs.Kit.{_≡_, refl, ap, subst, _∙_, _&&_, _+_, _-_, _*_, _≤_, arith, length, now, needs}
 use lib.Dec.{leb}
 use Rattle.lists.specs.Over.{in-record}
-use Rattle.share.specs.Record.{recordLen}
+use Rattle.share.specs.Layout.{ENTRY, recordLen, entry-last, record-within, record-some}
 use Rattle.records.specs.Seen.{ored, Seen, passes, seen-none, seen-turn, seen-all}
 use Rattle.records.proofs.none_faulty.Statement.{statement}
 use Rattle.records.proofs.none_faulty.Tie as tie
 
 abbrev Inv-loop : tie.InvT-loop
-Inv-loop s n i count len own bits₀ e₀ t₀ bits e t = (t ≤ count) × (length e ≡ 32) × Seen n i s t bits e
+Inv-loop s n i count len own bits₀ e₀ t₀ bits e t = (t ≤ count) × (length e ≡ ENTRY) × Seen n i s t bits e
 
 abbrev μ-loop : tie.MeasureT-loop
 μ-loop s n i count len own bits₀ e₀ t₀ bits e t = count - t
@@ -30,31 +30,32 @@ inside c =
       arith,
       at c,
       in-record (c .before .loop .t) (a .args .count) (recordLen (a .args .n)) 0 (recordLen (a .args .i + 1))
-          (length (now (a .args .s))) (c .loop-test .taken) (omega arith) (a .pre .1),
+          (length (now (a .args .s))) (c .loop-test .taken) (omega (arith, record-within (a .args .n) (a .args .i) (a .pre .0 .1))) (a .pre .1),
     )
 
 mul-at : tie.Need-mul-at Inv-loop μ-loop
 mul-at c = omega (arith, inside c)
 
 shared-slice-read-bits : tie.Need-shared-slice-read-bits Inv-loop μ-loop
-shared-slice-read-bits c = omega (arith, inside (c .before))
+shared-slice-read-bits c =
+    omega (arith, inside (c .before), record-some (c .before .before .before .before .before .before .args .i + 1))
 
 slice-aggregate-or-entry : tie.Need-slice-aggregate-or-entry Inv-loop μ-loop
 slice-aggregate-or-entry c = search needs
 
+-- the own entry of record t
+own-in : (c : tie.After-e Inv-loop μ-loop) → let l = c .before .before .before in
+    let a = l .before .before .before .before .args in
+    l .loop .t * l .before .before .record-len .result + l .before .mac-off .result + ENTRY ≤ length (now (a .s))
+own-in c =
+    let l = c .before .before .before in
+    omega (arith, inside (c .before .before), l .before .mac-off .ensures, entry-last (l .before .before .before .before .args .i))
+
 add-or-entry : tie.Need-add-or-entry Inv-loop μ-loop
-add-or-entry c = omega (arith, inside (c .before .before), c .before .before .before .before .mac-off .ensures)
+add-or-entry c = omega (arith, own-in c)
 
 or-entry-requires : tie.Need-or-entry-requires Inv-loop μ-loop
-or-entry-requires c κs = (
-  c .before .before .before .loop .inv .1,
-  omega (
-    arith,
-    inside (c .before .before),
-    c .before .before .before .before .mac-off
-        .ensures,
-  ),
-)
+or-entry-requires c κs = (c .before .before .before .loop .inv .1, own-in c)
 
 loop-again : tie.Need-loop-again Inv-loop μ-loop
 loop-again c =
@@ -82,27 +83,7 @@ returns c =
 
 pub none-faulty-spec : {M : Type 1} → statement M
 none-faulty-spec =
-    tie.close
-    (tie.spec
-    Inv-loop
-    μ-loop
-    (λ c κs. search needs)
-    (λ c κs. search needs)
-    loop-holds
-    mul-at
-    shared-slice-read-bits
-    slice-aggregate-or-entry
-    add-or-entry
-    or-entry-requires
-    (λ c. search needs)
-    (λ c. search needs)
-    loop-again
-    (λ c. search needs)
-    (λ c κs. search needs)
-    (λ c. search needs)
-    (λ c κs. search needs)
-    (λ c κs. search needs)
-    (λ c κs. search needs)
-    (λ c κs. search needs)
-    (λ c κs. search needs)
-    returns)
+    tie.close (tie.spec Inv-loop μ-loop (λ c κs. search needs) (λ c κs. search needs) loop-holds mul-at shared-slice-read-bits
+    slice-aggregate-or-entry add-or-entry or-entry-requires (λ c. search needs) (λ c. search needs) loop-again (λ c. search needs)
+    (λ c κs. search needs) (λ c. search needs) (λ c κs. search needs) (λ c κs. search needs) (λ c κs. search needs) (λ c κs. search needs)
+    (λ c κs. search needs) returns)

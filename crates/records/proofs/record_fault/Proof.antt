@@ -1,7 +1,11 @@
-use Rattle.lists.specs.Kit.{sym, _∙_, now, needs}
+use Rattle.lists.specs.Kit.{sym, _∙_, _+_, arith, now, needs}
+use Rattle.share.specs.Layout.{record-some}
 use Rattle.share.specs.RecordLaws.{fault-bit, fault-own, fault-none}
 use Rattle.records.proofs.record_fault.Statement.{statement}
 use Rattle.records.proofs.record_fault.Tie as tie
+
+read : tie.Need-shared-slice-read-if1
+read c = omega (arith, record-some (c .before .before .args .i + 1))
 
 returns : tie.Need-returns
 returns c =
@@ -19,5 +23,4 @@ returns-3 c =
     sym (fault-own (a .i) (now (a .s)) (a .at) (c .before .before .if1 .left) (sym (c .before .own-zero .ensures) ∙ c .if2 .left))
 
 pub record-fault-spec : {M : Type 1} → statement M
-record-fault-spec =
-    tie.close (tie.spec (λ c. search needs) returns (λ c κs. search needs) returns-2 returns-3)
+record-fault-spec = tie.close (tie.spec read returns (λ c κs. search needs) returns-2 returns-3)

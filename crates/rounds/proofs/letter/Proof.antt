@@ -10,7 +10,7 @@ unfolding R.inside
 part-requires c κs = le-leb _ _ (c .before .before .before .pre .1)
 
 returns : tie.Need-returns
-unfolding R.partOf Mail.letter
+unfolding Mail.letter
 returns c = c .part .ensures
 
 pub letter-spec : {M : Type 1} → statement M

@@ -4,7 +4,7 @@ use native.Mathlib.Nat.{zero-mul}
 use Rattle.lists.specs.Over.{Written, in-chunks, length-take-drop}
 use Rattle.block.specs.Block.{le8}
 use Rattle.engine.specs.Area.{toOthers}
-use Rattle.rounds.specs.RowsLaws.{even-zero, even-turn, even-end}
+use Rattle.lists.specs.Rows.{even-zero, even-turn, even-end}
 use Rattle.rounds.proofs.write_same.Statement.{statement}
 use Rattle.rounds.proofs.write_same.Tie as tie
 
@@ -73,21 +73,5 @@ returns c i =
 
 pub write-same-spec : {M : Type 1} → statement M
 write-same-spec =
-    tie.close
-    (tie.spec
-    Inv-loop
-    μ-loop
-    add-len
-    (λ c. search needs)
-    loop-holds
-    mul-at
-    add-e
-    (λ c. search needs)
-    (λ c. search needs)
-    part-put-list-end
-    put-list-requires
-    (λ c. search needs)
-    (λ c. search needs)
-    loop-again
-    same-length
-    returns)
+    tie.close (tie.spec Inv-loop μ-loop add-len (λ c. search needs) loop-holds mul-at add-e (λ c. search needs) (λ c. search needs)
+    part-put-list-end put-list-requires (λ c. search needs) (λ c. search needs) loop-again same-length returns)

@@ -130,21 +130,6 @@ returns-3 c =
 
 pub step-spec : {M : Type 1} → statement M
 step-spec =
-    tie.close
-    (tie.spec
-    finish-requires
-    to-echo-requires
-    (λ c κs. search needs)
-    write-requires
-    keep-received-requires
-    (λ c κs. search needs)
-    make-requires
-    (λ c. search needs)
-    (λ c. search needs)
-    returns
-    (λ c. search needs)
-    (λ c. search needs)
-    returns-2
-    (λ c. search needs)
-    (λ c. search needs)
-    returns-3)
+    tie.close (tie.spec finish-requires to-echo-requires (λ c κs. search needs) write-requires keep-received-requires (λ c κs. search needs)
+    make-requires (λ c. search needs) (λ c. search needs) returns (λ c. search needs) (λ c. search needs) returns-2 (λ c. search needs)
+    (λ c. search needs) returns-3)

@@ -16,5 +16,4 @@ returns c =
     ∙ own-entry (s .args .i) (s .args .of) (s .args .m .0) (s .args .k .0)
 
 pub put-entry-of-spec : {M : Type 1} → statement M
-put-entry-of-spec =
-    tie.close (tie.spec (λ c κs. search needs) (λ c κs. search needs) (λ c κs. search needs) (λ c. search needs) returns)
+put-entry-of-spec = tie.close (tie.spec (λ c κs. search needs) (λ c κs. search needs) (λ c κs. search needs) (λ c. search needs) returns)

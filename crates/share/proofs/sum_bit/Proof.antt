@@ -14,9 +14,4 @@ returns c =
     ∙ xor-addb (bitAt (now (a .s)) (a .a)) (bitAt (now (a .t)) (a .b))
 
 pub sum-bit-spec : {M : Type 1} → statement M
-sum-bit-spec =
-    tie.close
-    (tie.spec
-    (λ c κs. search needs)
-    (λ c κs. search needs)
-    returns)
+sum-bit-spec = tie.close (tie.spec (λ c κs. search needs) (λ c κs. search needs) returns)

@@ -1,5 +1,5 @@
 use Rattle.lists.specs.Kit.{now, needs}
-use Rattle.rounds.specs.RowsLaws.{length-row, row-part}
+use Rattle.lists.specs.Rows.{length-row, row-part}
 use Rattle.toss.proofs.seed_for.Statement.{statement}
 use Rattle.toss.proofs.seed_for.Tie as tie
 
@@ -10,11 +10,4 @@ returns c =
 
 pub seed-for-spec : {M : Type 1} → statement M
 seed-for-spec =
-    tie.close
-    (tie.spec
-    (λ c. search needs)
-    (λ c. search needs)
-    (λ c. search needs)
-    (λ c. search needs)
-    (λ c. search needs)
-    returns)
+    tie.close (tie.spec (λ c. search needs) (λ c. search needs) (λ c. search needs) (λ c. search needs) (λ c. search needs) returns)

@@ -39,13 +39,5 @@ returns c =
 
 pub write-commitments-spec : {M : Type 1} → statement M
 write-commitments-spec =
-    tie.close
-    (tie.spec
-    (λ c κs. search needs)
-    commitment-requires
-    (λ c. search needs)
-    (λ c κs. search needs)
-    (λ c. search needs)
-    write-same-requires
-    (λ c. search needs)
-    returns)
+    tie.close (tie.spec (λ c κs. search needs) commitment-requires (λ c. search needs) (λ c κs. search needs) (λ c. search needs)
+    write-same-requires (λ c. search needs) returns)

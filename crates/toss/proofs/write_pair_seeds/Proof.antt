@@ -1,10 +1,9 @@
-use Rattle.lists.specs.Kit.{_≡_, sym, ap, _∙_, _+_, _-_, _*_, _≤_, arith, length, now, needs}
-use Rattle.lists.specs.Rows.{chunk}
+use Rattle.lists.specs.Kit.{_≡_, refl, sym, ap, _∙_, _+_, _-_, _*_, _≤_, arith, length, now, needs}
+use Rattle.lists.specs.Rows.{chunk, length-row}
 use Rattle.plan.specs.Plan.{msgLen, listLen, countDue, kindOf}
-use Rattle.plan.specs.PlanLaws.{other-below}
+use Rattle.engine.specs.Area.{nth-below}
 use Rattle.rounds.specs.Area.{PAIRS}
-use Rattle.rounds.specs.OthersLaws.{Sent, sent-zero, sent-turn, sent-end}
-use Rattle.rounds.specs.RowsLaws.{length-row}
+use Rattle.rounds.specs.Loops.{Sent, sent-none, sent-in, sent-back, sent-end}
 use Rattle.rounds.specs.Toss.{verMsg}
 use Rattle.rounds.specs.TossLaws.{ver-put}
 use Rattle.area.specs.GivenLaws.{lent-length}
@@ -13,7 +12,7 @@ use Rattle.toss.proofs.write_pair_seeds.Statement.{statement}
 use Rattle.toss.proofs.write_pair_seeds.Tie as tie
 
 abbrev Inv-loop : tie.InvT-loop
-Inv-loop out₀ work n i pairs last q₀ out q = (q ≤ n - 1) × Sent n i (λ r. verMsg (chunk 32 r pairs)) 40 q out₀ out
+Inv-loop out₀ work n i pairs last q₀ out q = (q ≤ n - 1) × Sent n i 40 (λ r. verMsg (chunk 32 r pairs)) q out₀ out
 
 abbrev μ-loop : tie.MeasureT-loop
 μ-loop out₀ work n i pairs last q₀ out q = n - 1 - q
@@ -26,11 +25,15 @@ size s = s .pre .1
 loop-holds : tie.Need-loop-holds Inv-loop μ-loop
 loop-holds c =
     let a = c .before .before .before .args in
-    (omega arith, sent-zero (a .f .n) (a .f .i) (λ r. verMsg (chunk 32 r (now (c .section .result)))) 40 (now (a .out)))
+    (omega arith, sent-none (a .f .n) (a .f .i) 40 (λ r. verMsg (chunk 32 r (now (c .section .result)))) (now (a .out)))
 
 -- so message q lies within
 within : (c : tie.In-loop Inv-loop μ-loop) → c .before .loop .q * 40 + 40 ≤ length (c .before .loop .out)
-within c = omega (arith, size (c .before .before .before .before .before), c .before .loop .inv .1 .same)
+within c =
+    let l = c .before in
+    let s = l .before .before .before .before in
+    sent-in (s .args .f .n) (s .args .f .i) 40 (λ r. verMsg (chunk 32 r (now (l .before .section .result)))) 40 (l .loop .q)
+    (now (s .args .out)) (l .loop .out) refl (size s) (l .loop .inv .1) (c .loop-test .taken)
 
 part-end : tie.Need-part-put-bytes-end Inv-loop μ-loop
 part-end c = within c
@@ -43,7 +46,7 @@ seed-for-requires c κs =
     let f = s .args .f in
     let long : length (now (d .section .result)) ≡ 32 * f .n =
     lent-length (s .pre .0) PAIRS _ _ (omega arith) (size-pairs f) (d .section .ensures) in
-    omega (arith, c .other .ensures, other-below (f .n) (f .i) (t .before .loop .q) (t .loop-test .taken))
+    omega (arith, c .other .ensures, nth-below (f .n) (f .i) (t .before .loop .q) (t .loop-test .taken))
 
 put-bytes-requires : tie.Need-put-bytes-requires Inv-loop μ-loop
 put-bytes-requires c κs =
@@ -60,10 +63,10 @@ loop-again c =
     let a = s .args in
     let pairs = now (l .before .section .result) in (
       omega (arith, t),
-      sent-turn (a .f .n) (a .f .i) (λ r. verMsg (chunk 32 r pairs)) 40 (now (a .out)) (size s) (l .loop .q) (l .loop .out)
-          (p .put-bytes .last .0) (t .loop-test .taken) (l .loop .inv .1)
+      sent-back (a .f .n) (a .f .i) 40 (λ r. verMsg (chunk 32 r pairs)) 40 (l .loop .q) (now (a .out)) (l .loop .out) refl (size s)
+          (l .loop .inv .1) (o .other .result) (p .put-bytes .last .0) (t .loop-test .taken) (o .other .ensures)
           (ver-put (now (p .before .seed-for .result)) (p .put-bytes .last .0) (p .put-bytes .ensures) (p .before .seed-for .ensures .1)
-          ∙ ap verMsg (p .before .seed-for .ensures .0 ∙ ap (λ r. chunk 32 r pairs) (o .other .ensures)))
+          ∙ ap verMsg (p .before .seed-for .ensures .0))
           (p .put-bytes .kept .0),
     )
 
@@ -76,27 +79,10 @@ returns c =
     let s = l .before .before .before .before in
     let a = s .args in
     rw (← l .before .section .ensures)
-    (sent-end (a .f .n) (a .f .i) _ 40 (now (a .out)) (size s) (l .loop .q) (l .loop .out) (l .loop .inv .1) (omega arith))
+    (sent-end (a .f .n) (a .f .i) 40 _ 40 (l .loop .q) (now (a .out)) (l .loop .out) refl (size s) (l .loop .inv .1) (omega arith))
 
 pub write-pair-seeds-spec : {M : Type 1} → statement M
 write-pair-seeds-spec =
-    tie.close
-    (tie.spec
-    Inv-loop
-    μ-loop
-    (λ c κs. search needs)
-    (λ c. search needs)
-    loop-holds
-    (λ c. search needs)
-    (λ c. search needs)
-    (λ c. search needs)
-    (λ c. search needs)
-    part-end
-    (λ c κs. search needs)
-    seed-for-requires
-    put-bytes-requires
-    (λ c. search needs)
-    (λ c. search needs)
-    loop-again
-    same-length
-    returns)
+    tie.close (tie.spec Inv-loop μ-loop (λ c κs. search needs) (λ c. search needs) loop-holds (λ c. search needs) (λ c. search needs)
+    (λ c. search needs) (λ c. search needs) part-end (λ c κs. search needs) seed-for-requires put-bytes-requires (λ c. search needs)
+    (λ c. search needs) loop-again same-length returns)

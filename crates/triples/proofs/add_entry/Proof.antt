@@ -1,7 +1,7 @@
 use Rattle.lists.specs.Kit.{ap, _+_, _-_, _*_, _≤_, arith, length, replicate, now, needs}
 use lib.ListN.{length-append}
 use Rattle.block.specs.Block.{Small}
-use Rattle.share.specs.Record.{recordLen}
+use Rattle.share.specs.Layout.{RECORD-MOST, recordLen}
 use Rattle.share.specs.Share.{recordOf}
 use Rattle.share.specs.ShareLaws.{length-recordOf}
 use Rattle.rounds.specs.Buckets.{zShare}
@@ -30,7 +30,7 @@ z-long c =
     omega (
       arith,
       ap length (c .z-record .ensures),
-      length-append z (replicate (257 - recordLen (a .f .n)) 0),
+      length-append z (replicate (RECORD-MOST - recordLen (a .f .n)) 0),
       length-recordOf (a .f .n)
           (a .f .i) (zShare (a .f) (a .delta .0) (now (a .recs)) (now (a .zs)) (now (a .es)) (a .t)),
     )
@@ -55,19 +55,12 @@ returns c g w =
     let s = z .before .before .before .before .before .before in
     let a = s .args in
     holds-step (a .f) (a .delta .0) (now (a .recs)) (now (a .zs)) (now (a .es))
-    (λ j. z .before .before .before .before .shared-slice-known .given j .fits) (small s) (a .t) (257 - recordLen (a .f .n))
+    (λ j. z .before .before .before .before .shared-slice-known .given j .fits) (small s) (a .t) (RECORD-MOST - recordLen (a .f .n))
     (z .before .z-record .result) (z .before .z-record .ensures) g (a .d) (now (a .pair)) w (z .record-len .result)
     (a .t * z .record-len .result) (c .before .before .combine-two .last .0)
     (z .record-len .ensures) (ap (λ m. a .t * m) (z .record-len .ensures)) (s .pre .0 .2) (c .before .before .combine-two .ensures)
 
 pub add-entry-spec : {M : Type 1} → statement M
 add-entry-spec =
-    tie.close
-    (tie.spec
-    (λ c κs. search needs)
-    (λ c κs. search needs)
-    mul-combine-two
-    (λ c. search needs)
-    combine-two-requires
-    (λ c. search needs)
-    returns)
+    tie.close (tie.spec (λ c κs. search needs) (λ c κs. search needs) mul-combine-two (λ c. search needs) combine-two-requires
+    (λ c. search needs) returns)

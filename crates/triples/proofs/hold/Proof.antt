@@ -1,12 +1,12 @@
 -- The loop's invariant: the rows of the first j buckets are kept. The other sections are as they were.
 use Rattle.lists.specs.Kit.{_≡_, sym, ap, _∙_, List, _++_, ℕ, _+_, _-_, _*_, _≤_, arith, length, replicate, now, needs}
 use Rattle.block.specs.declared.Block.{Block}
-use Rattle.share.specs.Record.{recordLen}
+use Rattle.share.specs.Layout.{RECORD-MOST, recordLen, record-most}
 use Rattle.engine.specs.declared.Frame.{Frame}
 use Rattle.rounds.specs.Area.{TRIPLES, BITS, ZS, ES, PERM, DS, at, keep, sizeOf}
 use Rattle.rounds.specs.Buckets.{tripleRows}
 use Rattle.area.specs.Sizes.{size-triples}
-use Rattle.buckets.specs.Rows.{Filled, filled-none, filled-work, filled-other, filled-end, row-in, row-long, filled-turn}
+use Rattle.area.specs.Filled.{Filled, filled-none, filled-work, filled-other, filled-end, row-in, row-long, filled-turn}
 use Rattle.triples.specs.Laws.{rowOf, row-kept, length-rowOf, rows-are}
 use Rattle.triples.proofs.hold.Statement.{statement}
 use Rattle.triples.proofs.hold.Tie as tie
@@ -44,7 +44,7 @@ module _ (c : tie.After-delta Inv-loop μ-loop) where
 loop-holds : tie.Need-loop-holds Inv-loop μ-loop
 loop-holds c =
     let d = c .before .before .before in
-    (omega arith, filled-none (s d .pre) TRIPLES (size d) (omega arith) (g d) (full d))
+    (omega arith, filled-none (s d .pre) TRIPLES (size d) (omega arith) (g d) (f d .l) (full d))
 
 -- ---- in a turn
 module _ (c : tie.In-loop Inv-loop μ-loop) where
@@ -71,26 +71,26 @@ module _ (c : tie.In-loop Inv-loop μ-loop) where
 
   inside : rows + j * len + len ≤ length w
   inside =
-      row-in (s given .pre) TRIPLES (size given) (omega arith) (g given) (full given) j w (c .before .loop .inv .1) rows len
+      row-in (s given .pre) TRIPLES (size given) (omega arith) (g given) (f given .l) (full given) j w (c .before .loop .inv .1) rows len
       (placed .section-at .ensures) len-is
       (c .loop-test .taken)
 
 -- the row that is copied
 row-is : (c : tie.After-triple-row Inv-loop μ-loop) → let i = c .before .before in
-    c .triple-row .result ≡ g (given i) (j i) ++ replicate (514 - size (given i)) 0
+    c .triple-row .result ≡ g (given i) (j i) ++ replicate (2 * RECORD-MOST - size (given i)) 0
 row-is c =
     let i = c .before .before in
     let d = given i in
     c .triple-row .ensures
-    ∙ ap (λ (x : List ℕ). x ++ replicate (514 - size d) 0)
-    (row-kept (f d) (delta d) (w₀ d) (w i) (j i) (filled-other (s d .pre) TRIPLES (size d) (omega arith) (g d) (full d) (j i) (w i)
+    ∙ ap (λ (x : List ℕ). x ++ replicate (2 * RECORD-MOST - size d) 0)
+    (row-kept (f d) (delta d) (w₀ d) (w i) (j i) (filled-other (s d .pre) TRIPLES (size d) (omega arith) (g d) (f d .l) (full d) (j i) (w i)
     (i .before .loop .inv .1)))
 
 triple-row-requires : tie.Need-triple-row-requires Inv-loop μ-loop
 triple-row-requires c κs =
     let i = c .before in
     let d = given i in (
-      filled-work (s d .pre) TRIPLES (size d) (omega arith) (g d) (full d) (j i) (w i) (i .before .loop .inv .1),
+      filled-work (s d .pre) TRIPLES (size d) (omega arith) (g d) (f d .l) (full d) (j i) (w i) (i .before .loop .inv .1),
       i .loop-test .taken,
       placed i .before .sections .ensures,
     )
@@ -112,9 +112,9 @@ copy-requires c κs =
     let r = c .before .before in
     let i = r .before .before in
     let d = given i in
-    row-long (s d .pre) TRIPLES (size d) (omega arith) (g d) (full d) (j i) (w i) (i .before .loop .inv .1) (rows i) (len i)
+    row-long (s d .pre) TRIPLES (size d) (omega arith) (g d) (f d .l) (full d) (j i) (w i) (i .before .loop .inv .1) (rows i) (len i)
     (placed i .section-at .ensures) (len-is i) (i .loop-test .taken)
-    (r .triple-row .result) (replicate (514 - size d) 0) (w i) (row-is r) (length-rowOf (f d) (delta d) (w₀ d) (j i))
+    (r .triple-row .result) (replicate (2 * RECORD-MOST - size d) 0) (w i) (row-is r) (length-rowOf (f d) (delta d) (w₀ d) (j i))
 
 loop-again : tie.Need-loop-again Inv-loop μ-loop
 loop-again c =
@@ -123,9 +123,9 @@ loop-again c =
     let i = r .before .before in
     let d = given i in (
       omega (arith, i .loop-test .taken),
-      filled-turn (s d .pre) TRIPLES (size d) (omega arith) (g d) (full d) (j i) (w i) (i .before .loop .inv .1) (rows i) (len i)
+      filled-turn (s d .pre) TRIPLES (size d) (omega arith) (g d) (f d .l) (full d) (j i) (w i) (i .before .loop .inv .1) (rows i) (len i)
           (placed i .section-at .ensures) (len-is i) (i .loop-test .taken)
-          (r .triple-row .result) (replicate (514 - size d) 0) (p .copy .last .0) (row-is r)
+          (r .triple-row .result) (replicate (2 * RECORD-MOST - size d) 0) (p .copy .last .0) (row-is r)
           (length-rowOf (f d) (delta d) (w₀ d) (j i)) (p .copy .ensures),
     )
 
@@ -138,34 +138,16 @@ returns c =
     let l = c .before .loop in
     let F = f d in
     let v = w₀ d in
-    filled-end (s d .pre) TRIPLES (size d) (omega arith) (g d) (full d) (l .j) (l .work) (l .inv .1) (omega arith)
+    filled-end (s d .pre) TRIPLES (size d) (omega arith) (g d) (f d .l) (full d) (l .j) (l .work) (l .inv .1) (omega arith)
     ∙ ap (λ (x : List ℕ). keep F TRIPLES x v) (rows-are F (delta d) v)
     ∙ ap (λ (x : Block). keep F TRIPLES (tripleRows F x (at F BITS v) (at F ZS v) (at F ES v) (at F PERM v) (at F DS v)) v)
     (d .delta .ensures)
 
 pub hold-spec : {M : Type 1} → statement M
 hold-spec =
-    tie.close
-    (tie.spec
-    Inv-loop
-    μ-loop
-    (λ c κs. search needs)
-    (λ c κs. c .before .before .before .pre .ranges)
+    tie.close (tie.spec Inv-loop μ-loop (λ c κs. search needs) (λ c κs. c .before .before .before .pre .ranges)
     (λ c κs. (c .before .before .before .before .pre .ranges .range, omega arith))
     (λ c κs. c .before .before .before .before .before .pre .ranges .range .eight)
-    (λ c. omega (arith, c .record-len .ensures, c .before .before .before .before .before .before .pre .ranges .range .eight))
-    loop-holds
-    triple-row-requires
-    mul-a
-    add-a
-    add-e
-    (λ c. search needs)
-    (λ c. search needs)
-    part-copy-end
-    (λ c. search needs)
-    copy-requires
-    (λ c. search needs)
-    (λ c. search needs)
-    loop-again
-    same-length
-    returns)
+    (λ c. let s = c .before .before .before .before .before .before in omega (arith, c .record-len .ensures, record-most (s .args .f .n) (s .pre .ranges .range .eight)))
+    loop-holds triple-row-requires mul-a add-a add-e (λ c. search needs) (λ c. search needs) part-copy-end (λ c. search needs) copy-requires
+    (λ c. search needs) (λ c. search needs) loop-again same-length returns)

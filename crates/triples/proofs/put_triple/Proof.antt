@@ -152,22 +152,5 @@ returns c =
 
 pub put-triple-spec : {M : Type 1} → statement M
 put-triple-spec =
-    tie.close
-    (tie.spec
-    Inv-loop
-    μ-loop
-    (λ c κs. search needs)
-    entry-requires
-    put-first-requires
-    loop-holds
-    add-entry
-    entry-requires-2
-    mul-bit
-    add-bit
-    bit-requires
-    add-entry-requires
-    (λ c. search needs)
-    (λ c. search needs)
-    loop-again
-    same-length
-    returns)
+    tie.close (tie.spec Inv-loop μ-loop (λ c κs. search needs) entry-requires put-first-requires loop-holds add-entry entry-requires-2
+    mul-bit add-bit bit-requires add-entry-requires (λ c. search needs) (λ c. search needs) loop-again same-length returns)

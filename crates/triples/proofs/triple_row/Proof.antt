@@ -1,6 +1,7 @@
 use Rattle.lists.specs.Kit.{_≡_, sym, ap, ap₂, _∙_, List, _++_, ℕ, _-_, _*_, _≤_, arith, replicate, now, needs}
 use lib.Seq.{length-take-le}
 use Rattle.lists.specs.Over.{drop-replicate}
+use Rattle.share.specs.Layout.{RECORD-MOST, record-most}
 use Rattle.engine.specs.declared.Frame.{Frame}
 use Rattle.rounds.specs.Area.{BITS, ZS, ES, PERM, DS, at}
 use Rattle.area.specs.GivenLaws.{place-at, place-fits}
@@ -9,8 +10,8 @@ use Rattle.triples.specs.Laws.{row-of}
 use Rattle.triples.proofs.triple_row.Statement.{statement}
 use Rattle.triples.proofs.triple_row.Tie as tie
 
-fits : (c : tie.After-record-len) → 2 * c .record-len .result ≤ 514
-fits c = omega (arith, c .record-len .ensures, c .before .before .pre .0 .ranges .range .eight)
+fits : (c : tie.After-record-len) → 2 * c .record-len .result ≤ 2 * RECORD-MOST
+fits c = omega (arith, c .record-len .ensures, let s = c .before .before in record-most (s .args .f .n) (s .pre .0 .ranges .range .eight))
 
 -- what is lent are the sections
 module _ (c : tie.After-lent5) where
@@ -44,7 +45,7 @@ module _ (c : tie.After-lent5) where
 slice-aggregate-put-triple : tie.Need-slice-aggregate-put-triple
 slice-aggregate-put-triple c =
     let z = sized (c .before) in
-    sym (length-take-le (2 * z .record-len .result) (replicate 514 0) (fits z))
+    sym (length-take-le (2 * z .record-len .result) (replicate (2 * RECORD-MOST) 0) (fits z))
 
 put-triple-requires : tie.Need-put-triple-requires
 put-triple-requires c κs =
@@ -54,7 +55,7 @@ put-triple-requires c κs =
       (
         a .pre .0 .ranges,
         a .pre .1,
-        length-take-le (2 * z .record-len .result) (replicate 514 0) (fits z)
+        length-take-le (2 * z .record-len .result) (replicate (2 * RECORD-MOST) 0) (fits z)
             ∙ ap (λ m. 2 * m) (z .record-len .ensures),
       ),
       bucketed-is (a .pre .0) (recs-are p) (zs-are p) (es-are p) (perm-is p) (ds-are p),
@@ -68,20 +69,14 @@ returns c =
     ap₂ _++_
     (row-of (a .f) (a .delta .0) (w p) (a .j) (c .before .put-triple .last .0) (recs-are p) (zs-are p) (es-are p) (perm-is p) (ds-are p)
     (c .before .put-triple .ensures))
-    (drop-replicate (2 * z .record-len .result) 514 0 ∙ ap (λ m. replicate (514 - 2 * m) 0) (z .record-len .ensures))
+    (drop-replicate (2 * z .record-len .result) (2 * RECORD-MOST) 0 ∙ ap (λ m. replicate (2 * RECORD-MOST - 2 * m) 0) (z .record-len .ensures))
 
 pub triple-row-spec : {M : Type 1} → statement M
 triple-row-spec =
-    tie.close
-    (tie.spec
-    (λ c κs. search needs)
-    (λ c. search needs)
+    tie.close (tie.spec (λ c κs. search needs) (λ c. omega (arith, fits c))
     (λ c κs. let s = c .before .before in place-fits (s .pre .0) BITS _ _ (omega arith) (s .pre .2 .recs))
     (λ c κs. let s = c .before .before .before in place-fits (s .pre .0) ZS _ _ (omega arith) (s .pre .2 .zs))
     (λ c κs. let s = c .before .before .before .before in place-fits (s .pre .0) ES _ _ (omega arith) (s .pre .2 .es))
     (λ c κs. let s = c .before .before .before .before .before in place-fits (s .pre .0) PERM _ _ (omega arith) (s .pre .2 .perm))
     (λ c κs. let s = c .before .before .before .before .before .before in place-fits (s .pre .0) DS _ _ (omega arith) (s .pre .2 .opened))
-    (λ c. fits (sized c))
-    slice-aggregate-put-triple
-    put-triple-requires
-    returns)
+    (λ c. fits (sized c)) slice-aggregate-put-triple put-triple-requires returns)

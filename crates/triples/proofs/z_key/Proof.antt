@@ -32,13 +32,5 @@ returns c =
 
 pub z-key-spec : {M : Type 1} → statement M
 z-key-spec =
-    tie.close
-    (tie.spec
-    (λ c κs. search needs)
-    mul-bit
-    add-bit
-    bit-requires
-    (λ c κs. search needs)
-    (λ c κs. search needs)
-    (λ c κs. search needs)
-    returns)
+    tie.close (tie.spec (λ c κs. search needs) mul-bit add-bit bit-requires (λ c κs. search needs) (λ c κs. search needs)
+    (λ c κs. search needs) returns)

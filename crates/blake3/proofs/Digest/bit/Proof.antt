@@ -7,5 +7,4 @@ returns : tie.Need-returns
 returns c = last-bit (c .before .args .t1 .0)
 
 pub bit-spec : {M : Type 1} → statement M
-bit-spec = tie.close (tie.spec
-    (λ c. search needs) returns)
+bit-spec = tie.close (tie.spec (λ c. search needs) returns)

@@ -5,20 +5,12 @@ use Rattle.sessions.proofs.boxes.call_all.Statement.{statement}
 use Rattle.sessions.proofs.boxes.call_all.Tie as tie
 
 abbrev Inv-loop : tie.InvT-loop
-Inv-loop t₀ p k n i₀ t i = i ≤ n
+Inv-loop t₀ works₀ p k n i₀ t works i = i ≤ n
 
 abbrev μ-loop : tie.MeasureT-loop
-μ-loop t₀ p k n i₀ t i = n - i
+μ-loop t₀ works₀ p k n i₀ t works i = n - i
 
 pub call-all-spec : {M : Type 1} → statement M
 call-all-spec =
-    tie.close
-    (tie.spec
-    Inv-loop
-    μ-loop
-    (λ c. search needs)
-    (λ c κs. search needs)
-    (λ c. search needs)
-    (λ c. search needs)
-    (λ c. search needs)
-    (λ c. search needs))
+    tie.close (tie.spec Inv-loop μ-loop (λ c. search needs) (λ c κs. search needs) (λ c. search needs) (λ c. search needs)
+    (λ c. search needs) (λ c. search needs))

@@ -5,20 +5,12 @@ use Rattle.sessions.proofs.report.macs_hold.Statement.{statement}
 use Rattle.sessions.proofs.report.macs_hold.Tie as tie
 
 abbrev Inv-loop : tie.InvT-loop
-Inv-loop t at j n good₀ k₀ good k = k ≤ n
+Inv-loop t at n good₀ q₀ good q = q ≤ 9
 
 abbrev μ-loop : tie.MeasureT-loop
-μ-loop t at j n good₀ k₀ good k = n - k
+μ-loop t at n good₀ q₀ good q = 9 - q
 
 pub macs-hold-spec : {M : Type 1} → statement M
 macs-hold-spec =
-    tie.close
-    (tie.spec
-    Inv-loop
-    μ-loop
-    (λ c. search needs)
-    (λ c κs. search needs)
-    (λ c. search needs)
-    (λ c. search needs)
-    (λ c. search needs)
-    (λ c. search needs))
+    tie.close (tie.spec Inv-loop μ-loop (λ c. search needs) (λ c κs. search needs) (λ c. search needs) (λ c. search needs)
+    (λ c. search needs) (λ c. search needs))

@@ -5,22 +5,12 @@ use Rattle.sessions.proofs.report.positions.Statement.{statement}
 use Rattle.sessions.proofs.report.positions.Tie as tie
 
 abbrev Inv-loop : tie.InvT-loop
-Inv-loop t n len at₀ at = at ≤ 300
+Inv-loop t n len size at₀ at = (at ≤ 300) × (1 ≤ size)
 
 abbrev μ-loop : tie.MeasureT-loop
-μ-loop t n len at₀ at = 300 - at
+μ-loop t n len size at₀ at = 300 - at
 
 pub positions-spec : {M : Type 1} → statement M
 positions-spec =
-    tie.close
-    (tie.spec
-    Inv-loop
-    μ-loop
-    (λ c. search needs)
-    (λ c κs. search needs)
-    (λ c. search needs)
-    (λ c. search needs)
-    (λ c. search needs)
-    (λ c. search needs)
-    (λ c. search needs)
-    (λ c. search needs))
+    tie.close (tie.spec Inv-loop μ-loop (λ c κs. search needs) (λ c. search needs) (λ c κs. search needs) (λ c. search needs)
+    (λ c. search needs) (λ c. search needs) (λ c. search needs))
