@@ -4,7 +4,6 @@ use mathlib.Core.Bool.{Bool, true, false, _&&_, _||_}
 use mathlib.Core.Logic.{_≢_}
 use mathlib.Core.List.{List, [], _∷_}
 use Prim.Native.Nat.{ℕ, zero, suc, _+_, _-_, _*_, _<_, _≤_}
-use native.Mathlib.Nat.{le-refl}
 use native.Mathlib.Omega.{arith}
 use lib.ListN.{getD, replicate}
 use lib.Dec.{ltb, eqb}
@@ -13,8 +12,8 @@ use Rattle.lists.specs.Pick.{pick}
 use Rattle.lists.specs.Rows.{cat-ext}
 use Rattle.plan.specs.Plan.{RNG-VER, PAIR-VER, FABITN, FASHARE-VER, FASHARE-DIBI, FLAAND-HASH, DVALUE, FAAND}
 use Rattle.engine.specs.declared.Frame.{Frame}
-use Rattle.engine.specs.Step.{Fault, none?, other, mask, orElse, scan, byParty}
-use Rattle.engine.specs.StepLaws.{other-cases, or-none, or-first}
+use Rattle.engine.specs.Step.{Fault, none?, other, mask, orElse, byParty}
+use Rattle.engine.specs.StepLaws.{other-cases, or-none, or-first, scan-ext}
 use Rattle.engine.specs.Plain.{rowsOf, waits, waiting, prior, digests, hashes, pending, echoCheck}
 use Rattle.engine.specs.Area.{mem}
 use Rattle.rounds.specs.Area.{PENDING, HASHES, at}
@@ -32,12 +31,6 @@ module _ (f : Frame) (m : ℕ → List ℕ) where
   pub rows-masked : (g : List ℕ → List ℕ) → rowsOf f (λ k. g (mask f m k)) ≡ rowsOf f (λ k. g (m k))
   unfolding rowsOf
   rows-masked g = cat-ext (f .n) _ _ (λ k _. masked g (replicate 16 0) k)
-
-  scan-ext : (n : ℕ) (c d : ℕ → ℕ) → ((k : ℕ) → k < n → c k ≡ d k) → scan n c ≡ scan n d
-  unfolding scan
-  scan-ext zero c d h = refl
-  scan-ext (suc n) c d h =
-      ap₂ orElse (scan-ext n c d (λ k l. h k (omega arith))) (ap (λ x. record { code = x; party = n }) (h n (le-refl (suc n))))
 
   pub party-masked : (c : ℕ → List ℕ → ℕ) → byParty f (λ k. c k (mask f m k)) ≡ byParty f (λ k. c k (m k))
   unfolding byParty
