@@ -17,8 +17,8 @@ extern "C" {
 /* A session: four numbers n, i, l and the round that is due, 0 once it is done or ended. The host keeps them between calls and changes none. */
 #define NUZSDIKE_SESSION 4
 
-/* An answer: 0 accepted; else document 01's number in the low byte, and above it the party that it names. A round call whose session has another
- * length than 4 answers 20 and names no party: nobody gave one. */
+/* An answer: 0 accepted; else the number of docs/REFUSALS.md, 1 to 21, in the low byte, and above it the party that it names. A round call whose session has
+ * another length than 4 answers 20 and names no party: nobody gave one. */
 #define NUZSDIKE_CODE(answer) ((unsigned)((answer) & 0xff))
 #define NUZSDIKE_PARTY(answer) ((uint64_t)(answer) >> 8)
 #define NUZSDIKE_NO_PARTY ((uint64_t)1 << 32)
@@ -33,9 +33,10 @@ uint64_t nuzsdike_open(uint32_t *session, size_t session_len, uint32_t n, uint32
                        const uint8_t *masks, size_t masks_len,
                        uint8_t *work, size_t work_len, uint8_t *out, size_t out_len);
 
-/* The call for a round, with the messages of the others: party k's lies in incoming from starts[k] on, lens[k] bytes; missing[k] other than 0 says that
- * there is none. starts, lens and missing have n entries, the own one is ignored. r and perm are empty but for the calls that nuzsdike_r_len and
- * nuzsdike_perm_len tell. out: the messages of the next round, or the results after the last. */
+/* The call for a round, with the messages of the others: party k's lies in incoming from starts[k] on, lens[k] bytes and not one more (bytes after a
+ * message's value are 21, and end the session); missing[k] other than 0 says that there is none. starts, lens and missing have n entries, the own one
+ * is ignored. r and perm are empty but for the calls that nuzsdike_r_len and nuzsdike_perm_len tell. out: the messages of the next round, or the results
+ * after the last. */
 uint64_t nuzsdike_round(uint32_t *session, size_t session_len, uint32_t round,
                         const uint8_t *incoming, size_t incoming_len, const size_t *starts, size_t starts_len,
                         const size_t *lens, size_t lens_len, const uint8_t *missing, size_t missing_len,

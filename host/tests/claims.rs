@@ -73,23 +73,29 @@ fn within(paragraph: &str, parts: &[String]) -> bool {
     parts.iter().all(|part| rest.find(part.as_str()).map(|at| rest = &rest[at + part.len()..]).is_some())
 }
 
-/// Document 01 and the demands, where they stand beside the repository.
-fn documents() -> Option<[String; 2]> {
+/// Documents 01 and 02 and the demands, where they stand beside the repository.
+fn documents() -> Option<[String; 3]> {
     let read = |name: &str| fs::read_to_string(root().join("../shared/docs").join(name)).ok();
-    let found = read("src/01-scope.md").zip(read("demands.md")).map(|(scope, demands)| [scope, demands]);
+    let found = read("src/01-scope.md").zip(read("src/02-change-requests.md")).zip(read("demands.md"));
+    let found = found.map(|((scope, orders), demands)| [scope, orders, demands]);
     if found.is_none() {
         eprintln!("no documents beside the repository: not compared");
     }
     found
 }
 
-/// With the documents beside the repository: every quotation is theirs, letter by letter; every paragraph of document 01 has a row; and the rows of the
-/// three demands have all of their words.
+/// With the documents beside the repository: every quotation is theirs, letter by letter; every paragraph of document 01 has a row, and every order of
+/// document 02 whose note stands in docs/orders; and the rows of the three demands have all of their words.
 #[test]
 fn every_quotation_is_the_documents() {
-    let Some([scope, demands]) = documents() else { return };
-    // A bar would end the cell; document 01 has none.
-    let paragraphs: Vec<&str> = scope.lines().filter(|line| !line.is_empty() && !line.starts_with('#')).collect();
+    let Some([scope, orders, demands]) = documents() else { return };
+    let landed = |line: &&str| {
+        let number = line.strip_prefix("**order ").and_then(|rest| rest.split_once(':')).and_then(|(number, _)| number.parse::<u32>().ok());
+        number.is_some_and(|number| root().join(format!("docs/orders/{number:02}.md")).exists())
+    };
+    // A bar would end the cell; the documents have none.
+    let mut paragraphs: Vec<&str> = scope.lines().filter(|line| !line.is_empty() && !line.starts_with('#')).collect();
+    paragraphs.extend(orders.lines().filter(landed));
     let mut three: Vec<String> = demands
         .lines()
         .filter(|line| ["> 1. ", "> 2. ", "> 3. "].iter().any(|n| line.starts_with(n)))
@@ -149,9 +155,9 @@ fn files(folder: &Path) -> Vec<PathBuf> {
 /// In the comments of the crates quotation marks are for the documents' own words; ".." marks what is left out.
 #[test]
 fn quotation_marks_are_for_the_documents() {
-    let Some([scope, demands]) = documents() else { return };
+    let Some(documents) = documents() else { return };
     let plain = |text: &str| text.split_whitespace().filter(|word| *word != ">").collect::<Vec<_>>().join(" ");
-    let documents = [plain(&scope), plain(&demands)];
+    let documents = documents.map(|document| plain(&document));
     let mut wrong = vec![];
     for name in fs::read_dir(root().join("crates")).unwrap() {
         let name = name.unwrap().path();

@@ -59,9 +59,10 @@ fn the_worked_example() {
 #[test]
 fn the_names_of_refusals() {
     let rows = table(&doc("REFUSALS.md"), "| no. | name |");
-    for number in 1..=20u8 {
+    for number in 1..=21u8 {
         let row = rows.iter().find(|row| row[0] == number.to_string()).unwrap_or_else(|| panic!("no {number}"));
         assert!(row[1].is_empty() || row[1] == Reason(number).name(), "{row:?}");
     }
-    assert_eq!(rows.len(), 20);
+    assert_eq!(rows.len(), 21);
+    assert_eq!((Reason(21).name(), Reason(22).name()), ("BytesAfterValue", "Unknown"));
 }

@@ -162,7 +162,7 @@ fn bits_that_decide_nothing_for_two_boxes() {
     }
 }
 
-/// A bit of the count: what follows does not decode by it, or is too little.
+/// A bit of the count: what follows does not decode by it, or is more than it counts.
 #[test]
 fn a_flipped_count_is_refused() {
     let deal = Deal::new(2, 2, 23); // 10 leaky ANDs: the count becomes 11
@@ -174,7 +174,8 @@ fn a_flipped_count_is_refused() {
         &["line to box 0 failed", "it ended the session, because box 0 refused 13 Undecodable in round 14 (haand), naming box 1"],
     );
     let ends = flipped(&Deal::new(2, 1, 24), 14, 0); // 5 become 4
-    has(ends[0].error(), &["refused 6 InvalidLength in round 14 (haand), names box 1"]);
+    has(ends[0].error(), &["refused 21 BytesAfterValue in round 14 (haand), names box 1: a message has bytes after its value"]);
+    has(ends[1].error(), &["it ended the session, because box 0 refused 21 BytesAfterValue in round 14 (haand), naming box 1"]);
 }
 
 // ---- a flipped bit in a frame's head
@@ -259,6 +260,33 @@ fn a_frame_that_is_too_long() {
     });
     let errors = errors(&ends);
     has(errors[0], &["line to box 1 failed in round 10 (fashare ver): it announced a message of 1649 bytes, at most 1648 are due"]);
+}
+
+/// A byte of filler behind a list that is an item short, in every round of two and three boxes: the frame is not too long, so it is the library that refuses.
+/// Without the byte it is another count. (tests/filler.rs has filler behind whole messages.)
+#[test]
+fn a_byte_of_filler_is_refused() {
+    let short = |deal: &Deal, due: usize, filler: usize| {
+        tampered(deal, move |round, frame| {
+            if round != due {
+                return Act::Pass;
+            }
+            let message = &frame[HEAD..];
+            let count = u64::from_le_bytes(message[..8].try_into().unwrap());
+            let echo = [2, 7, 9, 11, 13, 16, 18, 20].contains(&round);
+            // What box 1 sends to box 0 of three ends with box 2's hash.
+            let item = if echo { 17 } else { (message.len() - 8) / count as usize };
+            let list = [&(count - 1).to_le_bytes()[..], &message[8..message.len() - item], &vec![0; filler]].concat();
+            Act::Instead([&head(MESSAGE, round, list.len())[..], &list].concat())
+        })
+    };
+    for n in [2, 3] {
+        let deal = Deal::new(n, 2, 32);
+        for round in deal.plan.rounds() {
+            refused(&errors(&short(&deal, round, 1)), 21, round, 1);
+        }
+        refused(&errors(&short(&deal, 14, 0)), 6, 14, 1);
+    }
 }
 
 #[test]

@@ -305,7 +305,7 @@ fn received_faults_end_the_session() {
     ended(faulty(3, 6, 2, |message| message.clear()), 13, 2);
     ended(faulty(2, 21, 1, |message| *message.last_mut().unwrap() ^= 128), 11, 1);
     ended(faulty(2, 22, 1, |message| *message.last_mut().unwrap() ^= 128), 12, 1);
-    // A list of another count, whole.
+    // A list of another count, whole; and with an element more than it counts.
     ended(
         faulty(3, 14, 1, |message| {
             message[0] -= 1;
@@ -314,6 +314,7 @@ fn received_faults_end_the_session() {
         6,
         1,
     );
+    ended(faulty(3, 14, 1, |message| message[0] -= 1), 21, 1);
     // Missing: parties in ascending order.
     let mut run = Run::new(4, 2, 6).until(8);
     let mut mail = run.mail(1);
@@ -332,6 +333,25 @@ fn received_faults_end_the_session() {
     assert!(run.sessions[1].is_wiped());
     refused(result, 14, 3, true);
     refused(run.call(1, &Mail::new(Plan::new(4, 2), 1, 8)), 20, 1, true);
+}
+
+/// A byte of filler, by the kit: every round's call refuses it, whoever sent it. (tests/filler.rs looks closer.)
+#[test]
+fn filler_is_refused_in_every_round() {
+    for n in [2, 3] {
+        for round in Plan::new(n, 2).rounds() {
+            let mut run = Run::new(n, 2, 15).until(round);
+            for i in 0..n {
+                let from = (i + 1 + round % (n - 1)) % n;
+                let mut mail = run.mail(i);
+                mail.put(from, &[run.outgoing[from].to(i), &[0]].concat());
+                let refusal = run.call(i, &mail).err().unwrap();
+                assert_eq!(refusal, Refusal { reason: Reason(21), party: from, call: Call::Round(round), over: true });
+                assert!(run.sessions[i].due() == 0 && run.sessions[i].is_wiped());
+                refused(run.call(i, &mail), 20, i, true);
+            }
+        }
+    }
 }
 
 /// The own entry may be anything.
@@ -366,8 +386,8 @@ fn refusals_say_what_and_where() {
     assert_eq!(refusal, Refusal { reason: Reason(14), party: 2, call: Call::Round(9), over: true });
     assert_eq!(refusal.to_string(), "refused 14 MissingMessage in round 9 (echo of fashare comm), names box 2: a message is missing");
     assert_eq!(
-        (Reason(7).name(), Reason(20).name(), Reason(21).name(), Reason(0).name()),
-        ("InconsistentBroadcast", "SessionOver", "Unknown", "Unknown")
+        [7, 20, 21, 22, 0].map(|number| Reason(number).name()),
+        ["InconsistentBroadcast", "SessionOver", "BytesAfterValue", "Unknown", "Unknown"]
     );
 }
 

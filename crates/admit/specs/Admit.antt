@@ -1,6 +1,6 @@
 -- What a call is given as one record, and the tests of it that the code makes one by one.
 use mathlib.Core.Bool.{Bool, true, _&&_}
-use mathlib.Core.List.{List, _++_}
+use mathlib.Core.List.{List, [], _++_}
 use Prim.Native.Nat.{ℕ}
 use lib.ListN.{getD, drop, replicate}
 use lib.Dec.{eqb}
@@ -11,7 +11,6 @@ use Rattle.message.specs.declared.Kind.{Kind}
 use Rattle.message.specs.Format as Format
 use Rattle.plan.specs.Plan.{outLen}
 use Rattle.engine.specs.Step.{Lent, Loan, frame, gone, part, inside}
-use Rattle.engine.specs.declared.Frame.{Frame}
 use Rattle.rounds.specs.Area.{workLen}
 use Rattle.rounds.specs.declared.Mail.{Mail}
 
@@ -32,21 +31,18 @@ lengthsFit n l k work out starts lens missing =
 unfoldable pub fits : ℕ → Lent → ℕ → Bool
 fits i q k = pick (neq i k) (pick (gone q k) true (inside q k)) true
 
--- 14, 13 or 6 of party k, where items of a kind are due
+-- 14, 13, 21 or 6 of party k, where items of a kind are due
 unfoldable pub kindFault : Kind → ℕ → Lent → ℕ → ℕ
 kindFault kind count q k = pick (gone q k) 14 (Format.formOf kind count (part q k))
-
--- the bytes of the list in party k's message, where items of a kind are due; 0 for the own one
-unfoldable pub usedAt : ℕ → Kind → Lent → ℕ → ℕ
-usedAt i kind q k = pick (neq i k) (pick (gone q k) 0 (Format.listLen kind (part q k))) 0
 
 -- a number for each of n parties, in eight
 abbrev pub eight : ℕ → (ℕ → ℕ) → List ℕ
 eight n g = tab n g ++ drop n (replicate 8 0)
 
-abbrev pub noMail : Mail
-noMail = record { starts = replicate 8 0; lens = replicate 8 0 }
+-- where the messages lie: the starts and the lengths that are lent, by value
+unfoldable pub mailOf : ℕ → List ℕ → List ℕ → Mail
+mailOf n starts lens = record { starts = eight n (λ k. getD starts k 0); lens = eight n (λ k. getD lens k 0) }
 
--- where the lists lie: each from its message's start on
-unfoldable pub mailOf : Frame → Kind → Lent → Mail
-mailOf f kind q = record { starts = eight (f .n) (λ k. getD (q .starts) k 0); lens = eight (f .n) (usedAt (f .i) kind q) }
+-- the messages, given by a mail
+abbrev pub posted : List ℕ → Mail → List ℕ → Lent
+posted incoming mail missing = given incoming (mail .starts) (mail .lens) missing [] [] []

@@ -1,4 +1,4 @@
--- The lengths and forms as the table has them are those of the plan; what follows for a call that is not refused.
+-- The lengths and forms as the table has them are those of the plan; what follows for a call that is not refused; messages by a mail.
 use mathlib.Core.Path.{_≡_, refl, sym, ap, ap₂, _∙_, subst, fun-ext}
 use mathlib.Core.Logic.{_≢_}
 use mathlib.Core.Bool.{Bool, true, false, not, _&&_, _||_}
@@ -17,8 +17,6 @@ use Rattle.algebra.specs.Sum.{neq-true}
 use Rattle.message.specs.declared.Kind.{Kind}
 use Rattle.message.specs.declared.Kind.the-variants.{Options}
 use Rattle.message.specs.Format as Format
-use Rattle.message.specs.FormatLaws.{list-le}
-use Rattle.message.specs.PrefixLaws.{list-form}
 use Rattle.message.specs.Read as Read
 use Rattle.permutation.specs.Permutation.{isPerm}
 use Rattle.plan.specs.Plan as Plan
@@ -26,12 +24,12 @@ use Rattle.plan.specs.Plan.{FABITN, DVALUE, echo?, isRound, nextRound, kindOf, 
 use Rattle.plan.specs.PlanLaws.{Rest, kind-rest, count-rest, out-len-last, out-len}
 use Rattle.engine.specs.declared.Frame.{Frame}
 use Rattle.engine.specs.declared.Session.{Session}
-use Rattle.engine.specs.Step.{Lent, Loan, frame, mask, gone, part, heard, inside, partsIn, lengthsDue, reasonOf, orElse, scan, byParty}
-use Rattle.engine.specs.Step.{formFault}
-use Rattle.engine.specs.StepLaws.{other-neq, other-is, mask-ext}
+use Rattle.engine.specs.Step.{Lent, Loan, frame, other, mask, gone, part, inside, partsIn, lengthsDue, reasonOf, orElse, byParty, formFault}
+use Rattle.engine.specs.Step.{faultOf}
+use Rattle.engine.specs.StepLaws.{other-neq, other-is, mask-ext, by-ext, by-clean}
 use Rattle.engine.specs.Area.{mem}
 use Rattle.engine.specs.Order.{echoIn, roundIn}
-use Rattle.engine.specs.Plain.{lenOf, outLenOf, lentOf, formAt, listAt, ruleOf, protocolOf}
+use Rattle.engine.specs.Plain.{lenOf, outLenOf, lentOf, formAt, checkOf, ruleOf, protocolOf}
 use Rattle.rounds.specs.Area as Area
 use Rattle.rounds.specs.Area.{workLen, sizeOf}
 use Rattle.rounds.specs.declared.Mail.{Mail}
@@ -42,7 +40,7 @@ use Rattle.rounds.specs.Echo.{echo}
 use Rattle.rounds.specs.EchoLaws.{Received}
 use Rattle.rounds.specs.Table.{table, noLoan, lent, fine}
 use Rattle.area.specs.Given.{Ranged}
-use Rattle.admit.specs.Admit.{loan, given, lengthsFit, fits, kindFault, usedAt, eight, mailOf}
+use Rattle.admit.specs.Admit.{loan, given, lengthsFit, fits, kindFault, eight, mailOf, posted}
 
 -- ---- the order of the rounds
 -- an echo is none of the plain rounds
@@ -152,15 +150,6 @@ form-is k n l i m = go (echo? k) refl
     go true e = sym (ap₂ (λ K c. Format.formOf K c m) (echo-kind k e l) (echo-count k e n l))
     go false e = refl
 
--- the list in one message
-list-is : (k n l i : ℕ) (m : List ℕ) → listAt table k (frame n l i) m ≡ Format.listOf (kindOf l k) m
-unfolding listAt echo
-list-is k n l i m = go (echo? k) refl
-  where
-    go : (b : Bool) → echo? k ≡ b → pick b (Format.listOf Options m) (Format.listOf (kindOf l k) m) ≡ Format.listOf (kindOf l k) m
-    go true e = ap (λ K. Format.listOf K m) (sym (echo-kind k e l))
-    go false e = refl
-
 pub fault-is : (k n l i : ℕ) (q : Lent) (j : ℕ) → formFault (ruleOf table k) (frame n l i) q j ≡ kindFault (kindOf l k) (countDue n l k) q j
 unfolding formFault kindFault
 fault-is k n l i q j = ap (pick (gone q j) 14) (form-is k n l i (part q j))
@@ -171,21 +160,10 @@ unfolding part
 part-is q k = refl
 
 -- what is lent besides, and the outgoing buffer, play no part in it
-module _ (incoming starts lens missing r perm out : List ℕ) where
-  pub parts-any : (f : Frame)
-      → partsIn f (given incoming starts lens missing [] [] []) ≡ partsIn f (given incoming starts lens missing r perm out)
-  unfolding partsIn gone inside
-  parts-any f = refl
-
-  pub fault-any : (K : Kind) (c j : ℕ)
-      → kindFault K c (given incoming starts lens missing [] [] []) j ≡ kindFault K c (given incoming starts lens missing r perm out) j
-  unfolding kindFault gone part
-  fault-any K c j = refl
-
-  pub mail-any : (f : Frame) (K : Kind)
-      → mailOf f K (given incoming starts lens missing [] [] []) ≡ mailOf f K (given incoming starts lens missing r perm out)
-  unfolding mailOf usedAt gone part
-  mail-any f K = refl
+pub parts-any : (incoming starts lens missing r perm out : List ℕ) (f : Frame)
+    → partsIn f (given incoming starts lens missing [] [] []) ≡ partsIn f (given incoming starts lens missing r perm out)
+unfolding partsIn gone inside
+parts-any incoming starts lens missing r perm out f = refl
 
 -- ---- the parts lie inside
 module _ (n l i : ℕ) (q : Lent) where
@@ -239,21 +217,6 @@ module _ (i : ℕ) (q : Lent) (k : ℕ) where
   unfolding kindFault gone
   fault-there K c h x e = rw (eq-eqb _ _ h) (e ∙ ap (Format.formOf K c) (sym (part-is q k)))
 
-  module _ (K : Kind) where
-    pub used-own : k ≡ i → 0 ≡ usedAt i K q k
-    unfolding usedAt
-    used-own e = ap (λ b. pick b (pick (gone q k) 0 (Format.listLen K (part q k))) 0) (sym (neq-same i k e))
-
-    pub used-gone : k ≢ i → getD (q .missing) k 0 ≢ 0 → 0 ≡ usedAt i K q k
-    unfolding usedAt gone
-    used-gone ne h = rw (neq-true i k (λ e. ne (sym e)), ne-eqb _ _ h) refl
-
-    pub used-there : k ≢ i → getD (q .missing) k 0 ≡ 0 → (x : ℕ)
-        → x ≡ Format.listLen K (get (getD (q .starts) k 0) (getD (q .lens) k 0) (q .incoming))
-        → x ≡ usedAt i K q k
-    unfolding usedAt gone
-    used-there ne h x e = rw (neq-true i k (λ e. ne (sym e)), eq-eqb _ _ h) (e ∙ ap (Format.listLen K) (sym (part-is q k)))
-
 -- ---- a number for each party, one after another in eight
 module _ (g : ℕ → ℕ) where
   pub eight-none : replicate 8 0 ≡ eight 0 g
@@ -268,103 +231,74 @@ module _ (g : ℕ → ℕ) where
   eight-at : (n j : ℕ) → j < n → getD (eight n g) j 0 ≡ g j
   eight-at n j h = List·getD-append (tab n g) _ 0 j (omega (arith, length-tab n g)) ∙ getD-tab n j g 0 h
 
--- the loop's answer
-module _ (incoming starts lens missing : List ℕ) (n i l k : ℕ) (K : Kind) (c : ℕ) (kind-is : K ≡ kindOf l k)
-    (count-is : c ≡ countDue n l k) where
-  faults-are : (r perm out : List ℕ) → kindFault K c (given incoming starts lens missing [] [] [])
-      ≡ formFault (ruleOf table k) (frame n l i) (given incoming starts lens missing r perm out)
-  faults-are r perm out = fun-ext (λ j.
-      fault-any incoming starts lens missing r perm out K c j
-      ∙ ap₂ (λ X x. kindFault X x (given incoming starts lens missing r perm out) j) kind-is count-is
-      ∙ sym (fault-is k n l i (given incoming starts lens missing r perm out) j))
+-- ---- the messages by a mail
+-- what the loop looks at is what the table says
+pub form-found : (n i l k : ℕ) (q : Lent) (K : Kind) (c : ℕ) → K ≡ kindOf l k → c ≡ countDue n l k → (x p : ℕ)
+    → Finds x p (byParty (frame n l i) (kindFault K c q)) → Finds x p (byParty (frame n l i) (formFault (ruleOf table k) (frame n l i) q))
+form-found n i l k q K c eK ec x p h =
+    subst (λ (g : ℕ → ℕ). Finds x p (byParty (frame n l i) g))
+    (fun-ext (λ j. ap₂ (λ X y. kindFault X y q j) eK ec ∙ sym (fault-is k n l i q j))) h
 
-  pub form-found : (x p : ℕ) → Finds x p (byParty (frame n l i) (kindFault K c (given incoming starts lens missing [] [] [])))
-      → (r perm out : List ℕ)
-      → Finds x p (byParty (frame n l i) (formFault (ruleOf table k) (frame n l i) (given incoming starts lens missing r perm out)))
-  form-found x p h r perm out = subst (λ (g : ℕ → ℕ). Finds x p (byParty (frame n l i) g)) (faults-are r perm out) h
-
--- ---- what follows where no message has a fault of form
-parts-inside : (n l i : ℕ) (q : Lent) → partsIn (frame n l i) q ≡ true → (j : ℕ) → j < n → i ≢ j → gone q j ≡ false
-    → getD (q .starts) j 0 + getD (q .lens) j 0 ≤ length (q .incoming)
-unfolding partsIn inside
-parts-inside n l i q p j h ne g =
-    leb-true _ _
-    (sym (ap₂ (λ a b. pick a (pick b true (inside q j)) true) (other-is (frame n l i) j h ne) g)
-    ∙ of-all n _ p j h)
-
-scan-clear : (n : ℕ) (c : ℕ → ℕ) → scan n c .code ≡ 0 → (j : ℕ) → j < n → c j ≡ 0
-unfolding scan orElse
-scan-clear zero c h j l = absurd (omega arith)
-scan-clear (suc n) c h j l = go (eqb (scan n c .code) 0) refl h (scan-clear n c)
-  where
-    go : (b : Bool) → eqb (scan n c .code) 0 ≡ b → pick b (record { code = c n; party = n }) (scan n c) .code ≡ 0
-        → (scan n c .code ≡ 0 → (j : ℕ) → j < n → c j ≡ 0) → c j ≡ 0
-    go true e w ih = by-eq _ j n (λ q. ap c q ∙ w) (λ ne. ih (eqb-true _ _ e) j (omega arith))
-    go false e w ih = absurd (eqb-false _ _ e w)
-
-by-clear : (f : Frame) (c : ℕ → ℕ) → byParty f c .code ≡ 0 → (j : ℕ) → j < f .n → f .i ≢ j → c j ≡ 0
-unfolding byParty
-by-clear f c h j l ne = sym (ap (λ b. pick b (c j) 0) (other-is f j l ne)) ∙ scan-clear (f .n) _ h j l
-
-module _ (f : Frame) (k : ℕ) (q : Lent) (z : byParty f (formFault (ruleOf table k) f q) .code ≡ 0) where
-  abbrev K : Kind
-  K = kindOf (f .l) k
-
-  abbrev mail : Mail
-  mail = mailOf f K q
+-- where no message has a fault of form, a round is lent this
+module _ (f : Frame) (k : ℕ) (incoming : List ℕ) (mail : Mail) (missing : List ℕ)
+    (z : byParty f (formFault (ruleOf table k) f (posted incoming mail missing)) .code ≡ 0) where
+  abbrev q : Lent
+  q = posted incoming mail missing
 
   clean : (j : ℕ) → j < f .n → f .i ≢ j → (gone q j ≡ false) × (formAt table k f (part q j) ≡ 0)
   unfolding formFault
   clean j h ne =
-      pick-else (gone q j) 14 (formAt table k f (part q j)) 0 (λ e. omega arith)
-      (by-clear f (formFault (ruleOf table k) f q) z j h ne)
+      pick-else (gone q j) 14 (formAt table k f (part q j)) 0 (λ e. omega arith) (by-clean f (formFault (ruleOf table k) f q) z j h ne)
 
-  pub none-gone : (j : ℕ) → j < f .n → f .i ≢ j → gone q j ≡ false
-  none-gone j h ne = clean j h ne .0
+  inside-is : partsIn f q ≡ true → (j : ℕ) → j < f .n → f .i ≢ j → getD (mail .starts) j 0 + getD (mail .lens) j 0 ≤ length incoming
+  unfolding partsIn inside
+  inside-is p j h ne =
+      leb-true _ _
+      (sym (ap₂ (λ a b. pick a (pick b true (inside q j)) true) (other-is f j h ne) (clean j h ne .0)) ∙ of-all (f .n) _ p j h)
 
-  start-is : (j : ℕ) → j < f .n → getD (mail .starts) j 0 ≡ getD (q .starts) j 0
+  formed-is : (j : ℕ) → j < f .n → f .i ≢ j → Format.formOf (kindOf (f .l) k) (countDue (f .n) (f .l) k) (letter incoming mail j) ≡ 0
+  unfolding letter part
+  formed-is j h ne = sym (form-is k (f .n) (f .l) (f .i) (part q j)) ∙ clean j h ne .1
+
+  pub received : f .n ≤ 8 → partsIn f q ≡ true → Received (kindOf (f .l) k) (countDue (f .n) (f .l) k) f incoming mail
+  received e p = record { arrived = record { eight = e; inside = inside-is p; long = λ j h ne. omega arith }; formed-is = formed-is }
+
+-- the mail of what is lent says the same; what is lent besides, and the outgoing buffer, play no part in it
+module _ (f : Frame) (incoming starts lens missing r perm out : List ℕ) where
+  abbrev mail : Mail
+  mail = mailOf (f .n) starts lens
+
+  abbrev there : Lent
+  there = given incoming starts lens missing r perm out
+
+  start-is : (j : ℕ) → j < f .n → getD (mail .starts) j 0 ≡ getD starts j 0
   unfolding mailOf
-  start-is j h = eight-at (λ k. getD (q .starts) k 0) (f .n) j h
+  start-is j h = eight-at (λ k. getD starts k 0) (f .n) j h
 
-  -- the bytes of the lists
-  used-is : (j : ℕ) → j < f .n → f .i ≢ j → getD (mail .lens) j 0 ≡ Format.listLen K (part q j)
-  unfolding mailOf usedAt
-  used-is j h ne =
-      eight-at (usedAt (f .i) K q) (f .n) j h
-      ∙ ap₂ (λ a b. pick a (pick b 0 (Format.listLen K (part q j))) 0) (neq-true (f .i) j ne) (none-gone j h ne)
+  long-is : (j : ℕ) → j < f .n → getD (mail .lens) j 0 ≡ getD lens j 0
+  unfolding mailOf
+  long-is j h = eight-at (λ k. getD lens k 0) (f .n) j h
 
-  -- a list is no longer than its message
-  used-le : (j : ℕ) → j < f .n → f .i ≢ j → getD (mail .lens) j 0 ≤ getD (q .lens) j 0
-  unfolding part
-  used-le j h ne =
-      omega (arith, used-is j h ne, list-le K (part q j), length-take (getD (q .lens) j 0) (drop (getD (q .starts) j 0) (q .incoming)))
+  letter-is : (j : ℕ) → j < f .n → letter incoming mail j ≡ part there j
+  unfolding letter part
+  letter-is j h = ap₂ (λ a b. get a b incoming) (start-is j h) (long-is j h)
 
-  -- "Reading hands back the part of the incoming buffer that holds one list"
-  used-letter : (j : ℕ) → j < f .n → f .i ≢ j → letter (q .incoming) mail j ≡ Format.listOf K (part q j)
-  unfolding letter Format.listOf part
-  used-letter j h ne =
-      let d : List ℕ = drop (getD (q .starts) j 0) (q .incoming) in
-      let e = used-is j h ne in
-      ap₂ (λ v s. take v (drop s (q .incoming))) e (start-is j h)
-      ∙ sym (take-take (Format.listLen K (part q j)) (getD (q .lens) j 0) d (omega (arith, e, used-le j h ne)))
+  pub letters-are : mask f (letter incoming mail) ≡ mask f (part there)
+  letters-are = mask-ext f _ _ (λ j h ne. letter-is j h)
 
-  used-inside : partsIn f q ≡ true → (j : ℕ) → j < f .n → f .i ≢ j → getD (mail .starts) j 0 + getD (mail .lens) j 0 ≤ length (q .incoming)
-  used-inside p j h ne = omega (arith, start-is j h, parts-inside (f .n) (f .l) (f .i) q p j h ne (none-gone j h ne), used-le j h ne)
+  pub parts-posted : partsIn f there ≡ true → partsIn f (posted incoming mail missing) ≡ true
+  unfolding partsIn gone inside
+  parts-posted p =
+      all-ext (f .n) _ _ (λ j h. ap₂ (λ a b. pick (other f j) (pick (gone there j) true (leb (a + b) (length incoming))) true)
+      (start-is j h) (long-is j h)) ∙ p
 
-  used-formed : (j : ℕ) → j < f .n → f .i ≢ j → Format.formOf K (countDue (f .n) (f .l) k) (letter (q .incoming) mail j) ≡ 0
-  used-formed j h ne =
-      ap (Format.formOf K (countDue (f .n) (f .l) k)) (used-letter j h ne)
-      ∙ list-form K (countDue (f .n) (f .l) k) (part q j) (sym (form-is k (f .n) (f .l) (f .i) (part q j)) ∙ clean j h ne .1)
-
-  -- what a round is lent
-  pub received : f .n ≤ 8 → partsIn f q ≡ true
-      → Received (kindOf (f .l) k) (countDue (f .n) (f .l) k) f (q .incoming) (mailOf f (kindOf (f .l) k) q)
-  received e p = record { arrived = record { eight = e; inside = used-inside p; long = λ j h ne. omega arith }; formed-is = used-formed }
-
-  -- they are the lists that the definition speaks of
-  pub lists-heard : mask f (letter (q .incoming) (mailOf f (kindOf (f .l) k) q)) ≡ mask f (heard (ruleOf table k) f q)
-  unfolding heard
-  lists-heard = mask-ext f _ _ (λ j h ne. used-letter j h ne ∙ sym (list-is k (f .n) (f .l) (f .i) (part q j)))
+  pub fault-posted : (k : ℕ) (w : List ℕ)
+      → faultOf (ruleOf table k) f (posted incoming mail missing) w ≡ faultOf (ruleOf table k) f there w
+  unfolding faultOf formFault gone letter part
+  fault-posted k w =
+      ap₂ orElse
+      (by-ext f _ _ (λ j h ne. ap (λ (x : List ℕ). pick (gone there j) 14 (formAt table k f x)) (letter-is j h)))
+      (ap (checkOf table k f w) letters-are)
 
 -- ---- a call that is not refused
 fine-ranges : (f : Frame) → fine f ≡ true → Ranged f

@@ -19,7 +19,7 @@ use Rattle.message.specs.declared.Kind.the-variants.{Options}
 use Rattle.message.specs.Format.{itemAt}
 use Rattle.encode.specs.Encode.{encode, noneItem, someItem}
 use Rattle.encode.specs.Coded.{Coded, coded-none, coded-some}
-use Rattle.encode.specs.RoundTrip.{Trip, trip-whole, whole-length}
+use Rattle.encode.specs.RoundTrip.{Trip, trip, whole-length}
 use Rattle.plan.specs.Plan.{kindOf, countDue, listLen, msgLen, InRange}
 use Rattle.engine.specs.StepLaws.{scan-none}
 use Rattle.engine.specs.Area.{mem}
@@ -55,10 +55,10 @@ module _ (n i r : ℕ) (rows : List ℕ) (h : length rows ≡ n * 16) where
   coded-opt false k l = coded-none
 
   echo-trip : n < 2 ^ 64 → Trip Options n entry (encode n entry)
-  echo-trip small = trip-whole Options n entry small (λ k l. coded-opt (neq i k && neq r k) k l)
+  echo-trip small = trip Options n entry small (λ k l. coded-opt (neq i k && neq r k) k l)
 
   echo-length : i < n → r < n → i ≢ r → length (encode n entry) ≡ 8 + n + 16 * (n - 2)
-  echo-length li lr ne = whole-length n entry [] ∙ entries-length n i r rows h li lr ne ∙ echo-len n
+  echo-length li lr ne = whole-length n entry ∙ entries-length n i r rows h li lr ne ∙ echo-len n
 
   -- an entry that is there is read as the row it was written of
   entry-passes : n < 2 ^ 64 → (own : List ℕ) (k : ℕ) → k < n → i ≢ k → r ≢ k → chunk 16 k own ≡ chunk 16 k rows
@@ -83,7 +83,6 @@ unfolding echo echoMsg echoFault msgLen listLen kindOf countDue
 echo-laws n small = record {
   lens = λ i r li lr ne rows h. echo-length n i r rows h li lr ne;
   formed = λ i r li lr ne rows h. echo-trip n i r rows h small .form-is;
-  whole = λ i r li lr ne rows h. echo-trip n i r rows h small .list-is;
   passes = λ i j li lj ne own sent ho hs e. scan-none n _ (λ k lk. go i j own sent hs e k lk (neq i k) (apart? i k) (neq j k) (apart? j k));
 }
   where

@@ -17,14 +17,13 @@ use Rattle.algebra.specs.Sum.{neq, Same, apart, apart?}
 use Rattle.encode.specs.Encode.{noneItem, someItem}
 use Rattle.message.specs.declared.Kind.the-variants.{Options}
 use Rattle.message.specs.Format as Format
-use Rattle.message.specs.PrefixLaws.{list-form}
 use Rattle.plan.specs.Plan.{kindOf, countDue}
 use Rattle.engine.specs.declared.Session.{Session}
-use Rattle.engine.specs.Step.{frame, Loan, Outcome, other, mask, part, heard}
+use Rattle.engine.specs.Step.{frame, Loan, Outcome, other, mask, part}
 use Rattle.engine.specs.World.{Box, sessionOf}
 use Rattle.engine.specs.Area.{toOthers, toOthers-ext, mem, also}
 use Rattle.engine.specs.Order.{echoIn}
-use Rattle.engine.specs.Plain.{rowsOf, prior, isEcho, numberOf, listAt, digests, protocolOf}
+use Rattle.engine.specs.Plain.{rowsOf, prior, isEcho, numberOf, digests, protocolOf}
 use Rattle.engine.specs.PlainLaws.{chunk-rows}
 use Rattle.engine.specs.Honest.{due, plainAfter}
 use Rattle.engine.specs.Alone.{Tale, wroteFor, sureAt, Lives, State, lives, over, Told, Duties, AsTold, first, all-told}
@@ -72,7 +71,6 @@ module _ (a : Args) (q : ℕ → Loan) (m : ℕ → ℕ → List ℕ) where
       grows = λ s t u le r. le-leb (since s) u (omega (arith, leb-true (since s) t r));
       digest-len = length-hashVec;
       finds = judge-found f (I .own);
-      reads = λ k x. list-form (kindOf (f .l) k) (countDue (f .n) (f .l) k) x;
       plain = 1 ∷ 3 ∷ 4 ∷ 5 ∷ 6 ∷ 8 ∷ 10 ∷ 12 ∷ 14 ∷ 15 ∷ 17 ∷ 19 ∷ 21 ∷ [];
       whole = refl;
       recv =
@@ -147,31 +145,18 @@ ByteCalls (c ∷ cs) = Bytes (c .lent .incoming) × ByteCalls cs
 
 -- so is what is received
 received-bytes : (n l i : ℕ) (x : Box) (cs : List Turn) → ByteCalls cs → (k j : ℕ) → Bytes (received table n l i x cs k j)
-unfolding mask heard listAt part Format.listOf echo
+unfolding mask part
 received-bytes n l i x [] h k j = bytes-nil
 received-bytes n l i x (c ∷ cs) h k j =
     go (taken (answer table n l i x c) && eqb k (c .number)) (received-bytes n l i (turnBox (protocolOf table) x c) cs (h .1) k j)
   where
-    from : List ℕ
-    from = part (c .lent) j
-
-    bytes : Bytes (part (c .lent) j)
-    bytes = bytes-take (getD (c .lent .lens) j 0) _ (bytes-drop (getD (c .lent .starts) j 0) (c .lent .incoming) (h .0))
-
-    -- of an echo and of a plain round
-    either : (e : Bool) (a b : ℕ) → Bytes (pick e (take a from) (take b from))
-    either true a b = bytes-take a from bytes
-    either false a b = bytes-take b from bytes
-
-    masked : (b e : Bool) (c d : ℕ) → Bytes (pick b (pick e (take c from) (take d from)) [])
-    masked true e c d = either e c d
-    masked false e c d = bytes-nil
+    masked : (b : Bool) → Bytes (pick b (part (c .lent) j) [])
+    masked true = bytes-take (getD (c .lent .lens) j 0) _ (bytes-drop (getD (c .lent .starts) j 0) (c .lent .incoming) (h .0))
+    masked false = bytes-nil
 
     go : (b : Bool) → Bytes (received table n l i (turnBox (protocolOf table) x c) cs k j)
-        → Bytes (pick b (mask (frame n l i) (heard (protocolOf table .rule (c .number)) (frame n l i) (c .lent)) j)
-        (received table n l i (turnBox (protocolOf table) x c) cs k j))
-    go true r =
-        masked (other (frame n l i) j) (isEcho table (c .number)) (Format.listLen Options from) (Format.listLen (kindOf l (c .number)) from)
+        → Bytes (pick b (mask (frame n l i) (part (c .lent)) j) (received table n l i (turnBox (protocolOf table) x c) cs k j))
+    go true r = masked (other (frame n l i) j)
     go false r = r
 
 module _ (a : Args) (cs : List Turn) where

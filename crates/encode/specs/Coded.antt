@@ -18,15 +18,15 @@ use Rattle.block.specs.Block.{wordAt, le8, bytesOf}
 use Rattle.block.specs.Trip.{length-le8, length-bytesOf, word-le8, word-drop, bytes-le8, bytes-bytesOf}
 use Rattle.message.specs.declared.Kind.{Kind}
 use Rattle.message.specs.declared.Kind.the-variants.{Items, Dms, Dvalues, Options}
-use Rattle.message.specs.Format.{bools, vecLen, itemLen, innerDue}
-use Rattle.message.specs.FormatLaws.{and-true, bools-of, vec-some, items-some, bucket-some}
+use Rattle.message.specs.Format.{bools, vecLen, itemLen, itemOf, itemDue}
+use Rattle.message.specs.FormatLaws.{and-true, bools-of, vec-some, items-some, bucket-some, bucket-due}
 use Rattle.encode.specs.Encode.{encode, bitBlock, twoBits, threeHashes, twoBitsTwoBlocks, dmItem, dvalueItem, noneItem, someItem}
 
 -- x is an item of kind K
 pub record Coded (K : Kind) (x : List ℕ) : Type 0 where
   pub len : (rest : List ℕ) → itemLen K (x ++ rest) ≡ length x
   pub some : 0 < length x
-  pub due : (rest : List ℕ) → innerDue K (x ++ rest) ≡ true
+  pub due : (rest : List ℕ) → itemDue K (itemOf K (x ++ rest)) ≡ true
 
 pub num-le : (b : Bool) → num b ≤ 1
 num-le true = omega arith
@@ -35,7 +35,7 @@ num-le false = omega arith
 -- ---- a fixed number of bytes, the first c of them bools
 pub coded-items : (size c : ℕ) (x : List ℕ) → 0 < size → c ≤ size → length x ≡ size → ((k : ℕ) → k < c → getD x k 0 ≤ 1)
     → Coded (Items size c) x
-unfolding innerDue
+unfolding itemDue
 coded-items size c x h l e b = record {
   len = λ rest. items-some size c (x ++ rest) (omega (arith, length-append x rest)) (bools-of (x ++ rest) c (λ k j. bit rest k j)) ∙ sym e;
   some = omega arith;
@@ -138,7 +138,7 @@ unfolding dmItem
 count-dm x rest h = ap (λ (s : List ℕ). wordAt s 0) (append-assoc (le8 (length x)) x rest) ∙ word-le8 (length x) (x ++ rest) h
 
 pub coded-dm : (x : List ℕ) → length x < 2 ^ 64 → Coded Dms (dmItem x)
-unfolding itemLen innerDue
+unfolding itemLen itemDue
 coded-dm x h = record { len = long; some = omega (arith, length-dm x); due = λ rest. refl }
   where
     long : (rest : List ℕ) → vecLen 1 (dmItem x ++ rest) ≡ length (dmItem x)
@@ -209,21 +209,24 @@ module _ (c : ℕ) (d : ℕ → Bool) (x : ℕ → Block) where
             ∙ sym (getD-chunk 1 k (cat c (λ k. num (d k) ∷ [])) 0 0 (omega arith))
             ∙ ap (λ (l : List ℕ). getD l 0 0) (chunk-cat 1 c (λ k. num (d k) ∷ []) (λ t l. refl) k l)
 
+  dvalue-len : (rest : List ℕ) → c < 2 ^ 64 → itemLen (Dvalues c) (dvalueItem c d x ++ rest) ≡ length (dvalueItem c d x)
+  dvalue-len rest h =
+      bucket-some c (s rest h) (omega (arith, long-ds rest h)) (bits rest h) (omega (arith, long-macs rest h))
+      ∙ omega (arith, long-ds rest h, long-macs rest h, length-dvalue)
+
   pub coded-dvalue : c < 2 ^ 64 → Coded (Dvalues c) (dvalueItem c d x)
-  unfolding innerDue
   coded-dvalue h = record {
-    len = λ rest.
-        bucket-some c (s rest h) (omega (arith, long-ds rest h)) (bits rest h) (omega (arith, long-macs rest h))
-        ∙ omega (arith, long-ds rest h, long-macs rest h, length-dvalue);
+    len = λ rest. dvalue-len rest h;
     some = omega (arith, length-dvalue);
     due = λ rest.
-        and-true (eqb (wordAt (s rest h) 0) c) (eqb (wordAt (s rest h) (8 + wordAt (s rest h) 0)) c)
+        bucket-due c (s rest h) (omega (arith, dvalue-len rest h, length-dvalue))
+        ∙ and-true (eqb (wordAt (s rest h) 0) c) (eqb (wordAt (s rest h) (8 + wordAt (s rest h) 0)) c)
         (eq-eqb (wordAt (s rest h) 0) c (first rest h)) (eq-eqb (wordAt (s rest h) (8 + wordAt (s rest h) 0)) c (second rest h));
   }
 
 -- ---- an option
 pub coded-none : Coded Options noneItem
-unfolding itemLen innerDue noneItem
+unfolding itemLen itemDue noneItem
 coded-none = record { len = λ rest. rw (lt-ltb 0 (suc (length rest)) (omega arith)); some = omega arith; due = λ rest. refl }
 
 pub length-some : (h : List ℕ) → length h ≡ 16 → length (someItem h) ≡ 17
@@ -231,7 +234,7 @@ unfolding someItem
 length-some h e = ap suc e
 
 pub coded-some : (h : List ℕ) → length h ≡ 16 → Coded Options (someItem h)
-unfolding itemLen innerDue someItem
+unfolding itemLen itemDue someItem
 coded-some h e = record {
   len = λ rest.
       rw (lt-ltb 0 (suc (length (h ++ rest))) (omega arith), le-leb 17 (suc (length (h ++ rest))) (omega (arith, length-append h rest)))

@@ -1,13 +1,14 @@
 -- What a message's bytes are (document 01, "Messages"): bincode legacy. A bool is one byte, a Block and a hash are bare, a tuple is its
 -- fields one after another.
 use Prim.Native.Nat.{ℕ}
-use mathlib.Core.Bool.{Bool}
+use mathlib.Core.Bool.{Bool, false}
 use mathlib.Core.List.{List, [], _∷_, _++_}
-use lib.ListN.{length}
+use lib.ListN.{length, getD}
 use Rattle.lists.specs.Over.{cat}
 use Rattle.algebra.specs.Group.{num}
 use Rattle.block.specs.declared.Block.{Block}
 use Rattle.block.specs.Block.{le8, bytesOf}
+use Rattle.message.specs.Format.{Item, Fields, Inner, Inners, Absent, Present}
 
 -- a list of c items: the count as 8 bytes, low byte first, then g 0, g 1, .., g (c - 1)
 unfoldable pub encode : ℕ → (ℕ → List ℕ) → List ℕ
@@ -43,3 +44,16 @@ noneItem = 0 ∷ []
 
 unfoldable pub someItem : List ℕ → List ℕ
 someItem h = 1 ∷ h
+
+-- ---- a value that the reader gave, written again
+-- an item
+unfoldable pub itemBytes : Item → List ℕ
+itemBytes (Fields b x) = cat (length b) (λ k. num (getD b k false) ∷ []) ++ x
+itemBytes (Inner x) = dmItem x
+itemBytes (Inners d x) = encode (length d) (λ k. num (getD d k false) ∷ []) ++ encode (length x) (λ k. getD x k [])
+itemBytes Absent = noneItem
+itemBytes (Present x) = someItem x
+
+-- a list
+unfoldable pub messageOf : List Item → List ℕ
+messageOf v = encode (length v) (λ t. itemBytes (getD v t Absent))

@@ -5,3 +5,4 @@ pub mod Fields
 pub mod Kinds
 pub mod Stretch
 pub mod Bucket
+pub mod OneToOne

@@ -1,4 +1,4 @@
--- Reading what was written gives back the value: one law over items of any kind and length.
+-- Reading what was written gives back the value, and uses the message to its last byte: one law over items of any kind and length.
 use mathlib.Core.Path.{_≡_, refl, sym, ap, ap₂, _∙_, subst}
 use mathlib.Core.Bool.{Bool, true}
 use mathlib.Core.List.{List, [], _++_, append-assoc, append-nil}
@@ -12,18 +12,17 @@ use Rattle.lists.specs.Rows.{cat-part, cat-inside}
 use Rattle.block.specs.Block.{le8}
 use Rattle.block.specs.Trip.{length-le8}
 use Rattle.message.specs.declared.Kind.{Kind}
-use Rattle.message.specs.Format.{itemLen, itemAt, countOf, decodes, listLen, listOf, innerDue, innersDue, formOf}
-use Rattle.message.specs.FormatLaws.{decodes-of, list-some, form-of}
+use Rattle.message.specs.Format.{itemLen, itemAt, countOf, decodes, itemOf, itemDue, formOf}
+use Rattle.message.specs.FormatLaws.{decodes-of, innersDue, form-of}
 use Rattle.encode.specs.Encode.{encode}
 use Rattle.encode.specs.Coded.{Coded, count-encode}
 
--- m begins with the list of the c items g, and is read so
+-- m is the list of the c items g, and is read so
 pub record Trip (K : Kind) (c : ℕ) (g : ℕ → List ℕ) (m : List ℕ) : Type 0 where
   pub decodes-is : decodes K m ≡ true
   pub count-is : countOf m ≡ c
   pub at : (t : ℕ) → t ≤ c → itemAt K m t ≡ 8 + length (cat t g)
   pub form-is : formOf K c m ≡ 0
-  pub list-is : listOf K m ≡ encode c g
   pub item : (t : ℕ) → t < c → take (length (g t)) (drop (itemAt K m t) m) ≡ g t
 
 -- ---- item t stands behind those before it
@@ -55,13 +54,16 @@ module _ (c : ℕ) (g : ℕ → List ℕ) (rest : List ℕ) where
       ap (λ a. take size (drop (8 + a) (encode c g ++ rest))) (sym (length-cat t size g (λ j k. long j (omega arith))))
       ∙ ap (take size) (item-front t l) ∙ take-at (g t) (behind t) size (long t l)
 
-  pub whole-length : length (encode c g) ≡ 8 + length (cat c g)
-  unfolding encode
-  whole-length = length-append (le8 c) (cat c g) ∙ ap (λ n. n + length (cat c g)) (length-le8 c)
+pub whole-length : (c : ℕ) (g : ℕ → List ℕ) → length (encode c g) ≡ 8 + length (cat c g)
+unfolding encode
+whole-length c g = length-append (le8 c) (cat c g) ∙ ap (λ n. n + length (cat c g)) (length-le8 c)
 
-module _ (K : Kind) (c : ℕ) (g : ℕ → List ℕ) (small : c < 2 ^ 64) (coded : (t : ℕ) → t < c → Coded K (g t)) (rest : List ℕ) where
+module _ (K : Kind) (c : ℕ) (g : ℕ → List ℕ) (small : c < 2 ^ 64) (coded : (t : ℕ) → t < c → Coded K (g t)) where
   abbrev m : List ℕ
-  m = encode c g ++ rest
+  m = encode c g
+
+  front : (t : ℕ) → t < c → drop (8 + length (cat t g)) m ≡ g t ++ behind c g [] t
+  front t l = ap (drop (8 + length (cat t g))) (sym (append-nil m)) ∙ item-front c g [] t l
 
   starts : (t : ℕ) → t ≤ c → itemAt K m t ≡ 8 + length (cat t g)
   unfolding itemAt cat
@@ -69,45 +71,40 @@ module _ (K : Kind) (c : ℕ) (g : ℕ → List ℕ) (small : c < 2 ^ 64) (coded
   starts (suc t) h =
       let e = starts t (omega arith) in
       let n : itemLen K (drop (itemAt K m t) m) ≡ length (g t) =
-      ap (λ a. itemLen K (drop a m)) e ∙ ap (itemLen K) (item-front c g rest t h) ∙ coded t h .len (behind c g rest t) in
+      ap (λ a. itemLen K (drop a m)) e ∙ ap (itemLen K) (front t h) ∙ coded t h .len (behind c g [] t) in
       omega (arith, e, n, length-append (cat t g) (g t))
 
-  here : (t : ℕ) → t < c → drop (itemAt K m t) m ≡ g t ++ behind c g rest t
-  here t l = ap (λ a. drop a m) (starts t (omega arith)) ∙ item-front c g rest t l
+  here : (t : ℕ) → t < c → drop (itemAt K m t) m ≡ g t ++ behind c g [] t
+  here t l = ap (λ a. drop a m) (starts t (omega arith)) ∙ front t l
 
   counted : countOf m ≡ c
-  counted = count-encode c g rest small
+  counted = ap countOf (sym (append-nil m)) ∙ count-encode c g [] small
 
   read : decodes K m ≡ true
   read =
       decodes-of K m (record {
-        head = omega (arith, length-append (encode c g) rest, whole-length c g rest);
+        head = omega (arith, whole-length c g);
         item = λ t l. let l′ : t < c = omega (arith, counted) in rw (here t l′, coded t l′ .len) (coded t l′ .some);
       })
 
+  -- to the last byte
+  used : itemAt K m (countOf m) ≡ length m
+  used = ap (itemAt K m) counted ∙ starts c (omega arith) ∙ sym (whole-length c g)
+
   inner : innersDue K c m ≡ true
   unfolding innersDue
-  inner = all-of c (λ t. innerDue K (drop (itemAt K m t) m)) (λ t l. ap (innerDue K) (here t l) ∙ coded t l .due (behind c g rest t))
+  inner =
+      all-of c (λ t. itemDue K (itemOf K (drop (itemAt K m t) m)))
+      (λ t l. ap (λ (s : List ℕ). itemDue K (itemOf K s)) (here t l) ∙ coded t l .due (behind c g [] t))
 
-  listed : listOf K m ≡ encode c g
-  unfolding listOf
-  listed =
-      take-at (encode c g) rest (listLen K m)
-      (whole-length c g rest ∙ sym (starts c (omega arith)) ∙ sym (list-some K m read ∙ ap (itemAt K m) counted))
-
-  pub trip : Trip K c g m
+  pub trip : Trip K c g (encode c g)
   trip = record {
     decodes-is = read;
     count-is = counted;
     at = starts;
-    form-is = form-of K c m (record { decodes-is = read; count-is = counted; inner-is = inner });
-    list-is = listed;
-    item = λ t l. ap (take (length (g t))) (here t l) ∙ take-at (g t) (behind c g rest t) (length (g t)) refl;
+    form-is = form-of K c m (record { decodes-is = read; used-is = used; count-is = counted; inner-is = inner });
+    item = λ t l. ap (take (length (g t))) (here t l) ∙ take-at (g t) (behind c g [] t) (length (g t)) refl;
   }
-
--- nothing follows
-pub trip-whole : (K : Kind) (c : ℕ) (g : ℕ → List ℕ) → c < 2 ^ 64 → ((t : ℕ) → t < c → Coded K (g t)) → Trip K c g (encode c g)
-trip-whole K c g small coded = subst (Trip K c g) (append-nil (encode c g)) (trip K c g small coded [])
 
 -- ---- items of one length
 module _ (K : Kind) (size c : ℕ) (g : ℕ → List ℕ) (long : (t : ℕ) → t < c → length (g t) ≡ size) (m : List ℕ) (w : Trip K c g m) where

@@ -11,7 +11,7 @@ use lib.Dec.{leb, eqb}
 use borrow.Author.Tests.{le-leb, eqb-true, eqb-false, eq-eqb, ne-eqb}
 use Rattle.lists.specs.Pick.{pick}
 use Rattle.lists.specs.All.{allOf, of-all, true-false, and-false}
-use Rattle.engine.specs.Step.{Frame, frame, Session, Loan, Lent, Accepted, Outcome, Fault, Protocol, mask, part, heard, reasonOf}
+use Rattle.engine.specs.Step.{Frame, frame, Session, Loan, Lent, Accepted, Outcome, Fault, Protocol, mask, part, reasonOf}
 use Rattle.engine.specs.Step.{faultOf, accepted, roundSpec}
 use Rattle.engine.specs.StepLaws.{round-faults, round-cases, Due, due-of, last-or, or-zero, fault-clean, mask-at}
 use Rattle.engine.specs.World.{Box, turnedBox, sessionOf}
@@ -19,7 +19,7 @@ use Rattle.engine.specs.OneBox.{Turn, turnBox, turns, Reads, AllRead, al
 use Rattle.engine.specs.Area.{off, putSec, length-putSec, sec-other, toOthers, toOthers-ext, mem, Every, every-mem}
 use Rattle.engine.specs.Sheet.{Store, Known}
 use Rattle.engine.specs.Order.{nextIn}
-use Rattle.engine.specs.Plain.{Table, prior, isEcho, nextOf, numberOf, toEcho, lentOf, formAt, listAt, pending, digests, echoCheck}
+use Rattle.engine.specs.Plain.{Table, prior, isEcho, nextOf, numberOf, toEcho, lentOf, formAt, pending, digests, echoCheck}
 use Rattle.engine.specs.Plain.{checkOf, waits, ifClean, forEcho, made, keepOf, writeOf, protocolOf}
 use Rattle.engine.specs.Honest.{Lawful, before, due, plainAfter}
 use Rattle.engine.specs.PlainLaws.{length-rows, held-waits, first-plain, no-two, echo-not-last, next-on, next-echo, next-plain}
@@ -129,8 +129,6 @@ module _ (T : Table) (n l i : ℕ) (U : Tale) (m : ℕ → ℕ → List ℕ) (q 
     -- a content check finds one of its round's numbers, and names a party of the session
     pub finds : (k : ℕ) (w : List ℕ) (x : ℕ → List ℕ) → T .recv k .judge f w x .code ≢ 0
         → (mem (T .recv k .judge f w x .code) (T .recv k .faults) ≡ true) × (T .recv k .judge f w x .party < n)
-    -- the list that is read of a message is of the right form too
-    pub reads : (k : ℕ) (x : List ℕ) → T .recv k .form f x ≡ 0 → T .recv k .form f (T .recv k .list f x) ≡ 0
     pub plain : List ℕ
     pub whole : allOf (T .order .last) (λ k. pick (eqb k 0) true (pick (isEcho T k) true (mem k plain))) ≡ true
     pub recv : Every RecvAt plain
@@ -433,19 +431,18 @@ module _ (T : Table) (n l i : ℕ) (U : Tale) (m : ℕ → ℕ → List ℕ) (q 
     number-over d (suc k) w (echoing e E) ne = e
     number-over d zero w (ends b) ne = absurd (ne refl)
 
-    -- what is read of a message of the right form is of that form
+    -- a message of a plain round is of that round's form
     formed-at : (k : ℕ) (lt : Lent) → isEcho T k ≡ false → (j : ℕ) → j < n → i ≢ j → formAt T k f (part lt j) ≡ 0
-        → T .recv k .form f (mask f (heard (P .rule k) f lt) j) ≡ 0
-    unfolding heard formAt listAt
+        → T .recv k .form f (mask f (part lt) j) ≡ 0
+    unfolding formAt
     formed-at k lt e j lj ne h =
-        ap (T .recv k .form f)
-        (mask-at f (heard (P .rule k) f lt) j lj ne ∙ ap (λ b. pick b (T .echo .list (part lt j)) (T .recv k .list f (part lt j))) e)
-        ∙ D .reads k (part lt j) (sym (ap (λ b. pick b (T .echo .form n (part lt j)) (T .recv k .form f (part lt j))) e) ∙ h)
+        ap (T .recv k .form f) (mask-at f (part lt) j lj ne)
+        ∙ sym (ap (λ b. pick b (T .echo .form n (part lt j)) (T .recv k .form f (part lt j))) e) ∙ h
 
     -- after it
     module _ (x : Box) (k : ℕ) (S : Stands (x .rounds) k (x .work)) (lt : Lent) where
       abbrev M : ℕ → List ℕ
-      M = mask f (heard (P .rule k) f lt)
+      M = mask f (part lt)
 
       abbrev next : Box
       next = record {
@@ -477,26 +474,26 @@ module _ (T : Table) (n l i : ℕ) (U : Tale) (m : ℕ → ℕ → List ℕ) (q 
       s = sessionOf n l i k
 
       abbrev Read : Outcome → Type 0
-      Read r = r .reply ≡ Accepted → ((j : ℕ) → mask f (heard (P .rule a) f lt) j ≡ m a j) × (lt .loan ≡ q (nextOf T two a))
+      Read r = r .reply ≡ Accepted → ((j : ℕ) → mask f (part lt) j ≡ m a j) × (lt .loan ≡ q (nextOf T two a))
 
       abbrev Q : Outcome → Type 0
       Q r = Read r → AsTold (turnedBox x r (r .reply))
 
-      takes : (a : ℕ) → a ≡ k → Allowed k (x .work) (mask f (heard (P .rule k) f lt)) (lt .loan)
-          → ((j : ℕ) → mask f (heard (P .rule a) f lt) j ≡ m a j) × (lt .loan ≡ q (nextOf T two a))
+      takes : (a : ℕ) → a ≡ k → Allowed k (x .work) (mask f (part lt)) (lt .loan)
+          → ((j : ℕ) → mask f (part lt) j ≡ m a j) × (lt .loan ≡ q (nextOf T two a))
           → AsTold (record {
             session = sessionOf n l i (nextOf T two a);
-            work = keepOf T a f (lt .loan) (x .work) (mask f (heard (P .rule a) f lt));
+            work = keepOf T a f (lt .loan) (x .work) (mask f (part lt));
             rounds = suc (x .rounds);
-            wrote = writeOf T a f (lt .loan) (x .work) (mask f (heard (P .rule a) f lt));
+            wrote = writeOf T a f (lt .loan) (x .work) (mask f (part lt));
           })
       takes a e t =
-          subst (λ a. ((j : ℕ) → mask f (heard (P .rule a) f lt) j ≡ m a j) × (lt .loan ≡ q (nextOf T two a))
+          subst (λ a. ((j : ℕ) → mask f (part lt) j ≡ m a j) × (lt .loan ≡ q (nextOf T two a))
           → AsTold (record {
             session = sessionOf n l i (nextOf T two a);
-            work = keepOf T a f (lt .loan) (x .work) (mask f (heard (P .rule a) f lt));
+            work = keepOf T a f (lt .loan) (x .work) (mask f (part lt));
             rounds = suc (x .rounds);
-            wrote = writeOf T a f (lt .loan) (x .work) (mask f (heard (P .rule a) f lt));
+            wrote = writeOf T a f (lt .loan) (x .work) (mask f (part lt));
           })) (sym e) (λ r. goes x k S lt t (r .0) (r .1))
 
       accepts : reasonOf P s a lt (x .work) ≡ 0 → faultOf (P .rule a) f lt (x .work) .code ≡ 0 → Q (accepted P s a lt (x .work))
@@ -506,8 +503,8 @@ module _ (T : Table) (n l i : ℕ) (U : Tale) (m : ℕ → ℕ → List ℕ) (q 
           let c = fault-clean (P .rule a) f lt (x .work) g in
           takes a (v .number)
           (subst (λ a. lentOf T a n l (lt .loan) ≡ 0 → ((j : ℕ) → j < n → i ≢ j → formAt T a f (part lt j) ≡ 0)
-          → checkOf T a f (x .work) (mask f (heard (P .rule a) f lt)) .code ≡ 0
-          → Allowed k (x .work) (mask f (heard (P .rule k) f lt)) (lt .loan)) (sym (v .number))
+          → checkOf T a f (x .work) (mask f (part lt)) .code ≡ 0
+          → Allowed k (x .work) (mask f (part lt)) (lt .loan)) (sym (v .number))
           (λ h1 h2 h3. record {
             alive = v .alive;
             lent = h1;
@@ -533,7 +530,7 @@ module _ (T : Table) (n l i : ℕ) (U : Tale) (m : ℕ → ℕ → List ℕ) (q 
     pub still-told : (x : Box) (c : Turn) → AsTold x → Reads T n l i m q x c → AsTold (turnBox P x c)
     still-told x c F =
         subst (λ s. (roundSpec P s (c .number) (c .lent) (x .work) .reply ≡ Accepted
-        → ((j : ℕ) → mask f (heard (P .rule (c .number)) f (c .lent)) j ≡ m (c .number) j) × (c .lent .loan ≡ q (nextOf T two (c .number))))
+        → ((j : ℕ) → mask f (part (c .lent)) j ≡ m (c .number) j) × (c .lent .loan ≡ q (nextOf T two (c .number))))
         → AsTold (turnedBox x (roundSpec P s (c .number) (c .lent) (x .work)) (roundSpec P s (c .number) (c .lent) (x .work) .reply)))
         (sym (F .session-is)) (any-call x (F .number) (F .stands) (F .wrote-is) (c .number) (c .lent))
 

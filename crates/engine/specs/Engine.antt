@@ -14,7 +14,7 @@ use borrow.Author.Tests.{ltb-true, ltb-false}
 use Rattle.lists.specs.All.{true-false}
 use Rattle.algebra.specs.Sum.{neq, apart?, Same, same}
 use Rattle.engine.specs.Step.{Frame, frame, Session, Loan, nothing, Lent, Reply, Accepted, Refused, Outcome, outcome, Rule, Protocol}
-use Rattle.engine.specs.Step.{mask, part, heard}
+use Rattle.engine.specs.Step.{mask, part}
 use Rattle.engine.specs.Step.{stretch, reasonOf, faultOf, accepted, roundSpec}
 use Rattle.engine.specs.StepLaws.{round-cases, due-of, over-20, other-19, mask-ext, no-fault, round-accepts}
 use Rattle.engine.specs.World.{In, here, there, All, update, Box, Note, World, Call, opening, turn, start, logged, openedBox}
@@ -44,8 +44,6 @@ module _ (P : Protocol) (n l : ℕ) (loans : ℕ → Loan) where
     pub sized : (G : Joint) → Holds k G → (i : ℕ) → i < n → length (G .work i) ≡ P .workLen (frame n l i)
     pub formed : (G : Joint) → Holds k G → (i j : ℕ) → i < n → j < n → i ≢ j
         → P .rule k .form (frame n l i) (stretch (P .msgLen n l k) j i (G .out j)) ≡ 0
-    pub whole : (G : Joint) → Holds k G → (i j : ℕ) → i < n → j < n → i ≢ j
-        → P .rule k .list (frame n l i) (stretch (P .msgLen n l k) j i (G .out j)) ≡ stretch (P .msgLen n l k) j i (G .out j)
     pub passes : (G : Joint) → Holds k G → (i : ℕ) → i < n
         → P .rule k .check (frame n l i) (loans k) (G .work i) (mailOf k G i) .code ≡ 0
     pub goes : (G : Joint) → Holds k G → Holds (P .next n k) (together k G)
@@ -163,17 +161,9 @@ module _ {Args : Type 0} (S : Scene Args) (D : Duty S) where
           let o : c .0 ≡ ideal d .out j = all-in NoteOk (B .notes) (c .1) in
           c .2 ∙ ap₂ (λ m x. stretch (P .msgLen (S .n) (S .l) m) j b x) (due-is z) o
 
-      -- all of a message is read
-      heard-is : Z → (j : ℕ) → j < S .n → b ≢ j
-          → heard (P .rule k) (fr b) q j ≡ stretch (P .msgLen (S .n) (S .l) (C .number d)) j b (ideal d .out j)
-      unfolding heard
-      heard-is z j lj ne =
-          ap₂ (λ m x. P .rule m .list (fr b) x) (due-is z) (part-is z j lj ne)
-          ∙ D .rounds d (not-over z) .whole (ideal d) (holds d (B .step)) b j (B .box) lj ne
-
-      mail-is : Z → mask (fr b) (heard (P .rule k) (fr b) q) ≡ mailOf P (S .n) (S .l) (D .loans) (C .number d) (ideal d) b
+      mail-is : Z → mask (fr b) (part q) ≡ mailOf P (S .n) (S .l) (D .loans) (C .number d) (ideal d) b
       unfolding mailOf
-      mail-is z = mask-ext (fr b) (heard (P .rule k) (fr b) q) _ (heard-is z)
+      mail-is z = mask-ext (fr b) (part q) _ (part-is z)
 
       alike : Z → Alike (P .rule k) (S .n) (S .l) (q .loan) (D .loans k)
       alike z = D .agreed k (q .loan) (due-of P s k q wk z .lent) (fair z .1)

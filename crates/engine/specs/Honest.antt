@@ -16,12 +16,10 @@ use Rattle.engine.specs.Order.{roundIn}
 use Rattle.engine.specs.Plain.{Recv, Send, Echo, Table, rowsOf, prior, isEcho, nextOf, numberOf, stepsOf}
 
 -- ---- what the echo's messages owe
--- an honest echo is as long as it should, is formed, is read to its end, and has no fault
+-- an honest echo is as long as it should be, is formed, and has no fault
 pub record EchoLaws (E : Echo) (n : ℕ) : Type 0 where
   pub lens : (i r : ℕ) → i < n → r < n → i ≢ r → (rows : List ℕ) → length rows ≡ n * 16 → length (E .write n i rows r) ≡ E .len n
   pub formed : (i r : ℕ) → i < n → r < n → i ≢ r → (rows : List ℕ) → length rows ≡ n * 16 → E .form n (E .write n i rows r) ≡ 0
-  pub whole : (i r : ℕ) → i < n → r < n → i ≢ r → (rows : List ℕ) → length rows ≡ n * 16
-      → E .list (E .write n i rows r) ≡ E .write n i rows r
   pub passes : (i j : ℕ) → i < n → j < n → i ≢ j → (own sent : List ℕ) → length own ≡ n * 16 → length sent ≡ n * 16
       → ((k : ℕ) → k < n → i ≢ k → j ≢ k → chunk 16 k own ≡ chunk 16 k sent) → E .fault n i j own (E .write n j sent i) ≡ 0
 
@@ -31,11 +29,10 @@ module _ (n l : ℕ) (C : Store) where
   abbrev pub Gets : (ℕ → ℕ → List ℕ) → ℕ → (ℕ → List ℕ → (ℕ → List ℕ) → Type 0) → Type 0
   Gets sent t Q = (i : ℕ) → i < n → (w : List ℕ) → Known n l C t i w → (m : ℕ → List ℕ) → Mail n sent i m → Q i w m
 
-  -- its messages are len bytes long, are formed, are read to their ends, and have no fault
+  -- its messages are len bytes long, are formed, and have no fault
   pub record Heard (R : Recv) (len : ℕ) (sent : ℕ → ℕ → List ℕ) (t : ℕ) : Type 0 where
     pub lens : (j r : ℕ) → j < n → r < n → j ≢ r → length (sent j r) ≡ len
     pub formed : (i j : ℕ) → i < n → j < n → i ≢ j → R .form (frame n l i) (sent j i) ≡ 0
-    pub whole : (i j : ℕ) → i < n → j < n → i ≢ j → R .list (frame n l i) (sent j i) ≡ sent j i
     pub judged : Gets sent t (λ i w m. R .judge (frame n l i) w m .code ≡ 0)
 
   -- a round but the last, received at moment t: besides, what it keeps for moment u

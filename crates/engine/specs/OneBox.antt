@@ -10,7 +10,7 @@ use lib.Dec.{leb, eqb}
 use borrow.Author.Tests.{eq-eqb, ne-eqb, eqb-true, eqb-false}
 use Rattle.lists.specs.Pick.{pick}
 use Rattle.lists.specs.All.{true-false, and-false}
-use Rattle.engine.specs.Step.{Frame, frame, Session, Loan, nothing, Lent, Reply, Accepted, Refused, Outcome, Protocol, mask, heard}
+use Rattle.engine.specs.Step.{Frame, frame, Session, Loan, nothing, Lent, Reply, Accepted, Refused, Outcome, Protocol, mask, part}
 use Rattle.engine.specs.Step.{accepted, roundSpec}
 use Rattle.engine.specs.StepLaws.{round-faults, round-cases, Due, due-of}
 use Rattle.engine.specs.World.{Box, turnedBox, sessionOf}
@@ -37,7 +37,7 @@ module _ (T : Table) (n l i : ℕ) (m : ℕ → ℕ → List ℕ) (q : ℕ → L
   -- an accepted call reads m and is lent q
   abbrev pub Reads : Box → Turn → Type 0
   Reads x c = roundSpec (protocolOf T) (x .session) (c .number) (c .lent) (x .work) .reply ≡ Accepted
-      → ((j : ℕ) → mask (frame n l i) (heard (protocolOf T .rule (c .number)) (frame n l i) (c .lent)) j ≡ m (c .number) j)
+      → ((j : ℕ) → mask (frame n l i) (part (c .lent)) j ≡ m (c .number) j)
       × (c .lent .loan ≡ q (nextOf T (eqb n 2) (c .number)))
 
   abbrev pub AllRead : Box → List Turn → Type 0
@@ -67,7 +67,7 @@ module _ (T : Table) (n l i : ℕ) where
   abbrev pub received : Box → List Turn → ℕ → ℕ → List ℕ
   received x [] k j = []
   received x (c ∷ cs) k j =
-      pick (taken (answer x c) && eqb k (c .number)) (mask f (heard (P .rule (c .number)) f (c .lent)) j) (received (turnBox P x c) cs k j)
+      pick (taken (answer x c) && eqb k (c .number)) (mask f (part (c .lent)) j) (received (turnBox P x c) cs k j)
 
   -- what the accepted call that makes the messages of round k is lent
   abbrev pub lentWith : Box → List Turn → ℕ → Loan

@@ -14,12 +14,10 @@ use Rattle.engine.specs.Area.{off, sec, putSec, toOthers, mem}
 use Rattle.engine.specs.Order.{Order, echoIn, roundIn, nextIn}
 
 -- ---- what a round gives
--- What is done with its messages. form: 13 or 6 of one message, or 0; list: the part of it that holds the list; judge: the content, from
--- the lists; faults: the numbers that the content check can find; keep: the work area afterwards; digest: the 16 bytes of `hash_vec` of a
--- list, for a round that has an echo
+-- What is done with its messages. form: 13, 21 or 6 of one message, or 0; judge: the content; faults: the numbers that the content check can
+-- find; keep: the work area afterwards; digest: the 16 bytes of `hash_vec` of a message's list, for a round that has an echo
 pub record Recv : Type 0 where
   pub form : Frame → List ℕ → ℕ
-  pub list : Frame → List ℕ → List ℕ
   pub judge : Frame → List ℕ → (ℕ → List ℕ) → Fault
   pub faults : List ℕ
   pub keep : Frame → List ℕ → (ℕ → List ℕ) → List ℕ
@@ -33,13 +31,11 @@ pub record Send : Type 0 where
   pub keep : Frame → Loan → List ℕ → List ℕ
   pub write : Frame → Loan → List ℕ → ℕ → List ℕ
 
--- The echo's messages: lists of n options of 16 bytes. rows: n rows of 16 bytes, row k the hash of k's list. form n m: 13 or 6, or 0;
--- list m: the part of m that holds the list; write n i rows r: what i sends to r; fault n i j rows m: 3 or 7 of the list m that j sent to
--- i, or 0
+-- The echo's messages: lists of n options of 16 bytes. rows: n rows of 16 bytes, row k the hash of k's list. form n m: 13, 21 or 6, or 0;
+-- write n i rows r: what i sends to r; fault n i j rows m: 3 or 7 of the message m that j sent to i, or 0
 pub record Echo : Type 0 where
   pub len : ℕ → ℕ
   pub form : ℕ → List ℕ → ℕ
-  pub list : List ℕ → List ℕ
   pub write : ℕ → ℕ → List ℕ → ℕ → List ℕ
   pub fault : ℕ → ℕ → ℕ → List ℕ → List ℕ → ℕ
 
@@ -115,13 +111,9 @@ module _ (T : Table) where
   unfoldable pub lentOf : ℕ → ℕ → ℕ → Loan → ℕ
   lentOf k n l q = T .send (nextOf (eqb n 2) k) .lent n l q
 
-  -- 13 or 6 of a message of round k
+  -- 13, 21 or 6 of a message of round k
   unfoldable pub formAt : ℕ → Frame → List ℕ → ℕ
   formAt k f m = pick (isEcho k) (T .echo .form (f .n) m) (T .recv k .form f m)
-
-  -- the list in a message of round k
-  unfoldable pub listAt : ℕ → Frame → List ℕ → List ℕ
-  listAt k f m = pick (isEcho k) (T .echo .list m) (T .recv k .list f m)
 
   -- ---- the sections of the echoes
   -- the fault of the round before that waits for echo k
@@ -177,7 +169,6 @@ module _ (T : Table) where
     outLen = outLenOf k;
     lent = lentOf k;
     form = formAt k;
-    list = listAt k;
     check = λ f q w m. checkOf k f w m;
     keep = keepOf k;
     write = writeOf k;

@@ -23,7 +23,7 @@ use Rattle.engine.specs.Honest.{orderTest, courseTest, Lawful, before, d
 use Rattle.engine.specs.Honest.{ListAt, SendAt, LastAt, Honest, momentOf, readyOf, valOf, sentOf, sheetOf, loansOf}
 use Rattle.engine.specs.Order.{echoIn, roundIn, nextIn}
 use Rattle.engine.specs.Plain.{Table, rowsOf, prior, isEcho, nextOf, numberOf, stepsOf, toEcho, lenOf, formAt}
-use Rattle.engine.specs.Plain.{listAt, pending, hashes, digests, echoCheck, checkOf, waits, waiting, ifClean, forEcho, made, keepOf}
+use Rattle.engine.specs.Plain.{pending, hashes, digests, echoCheck, checkOf, waits, waiting, ifClean, forEcho, made, keepOf}
 use Rattle.engine.specs.Plain.{writeOf, protocolOf}
 
 -- ---- rows of 16 bytes
@@ -339,11 +339,10 @@ module _ (T : Table) (U : Script) (n l : ℕ) (W : Lawful T n l) where
 
   pass-plain : (k : ℕ) → isEcho T k ≡ false → Heard n l (storeOf T U n l) (T .recv k) (T .send k .len n l) (U .sent k) (due k)
       → Passes P n l L S k
-  unfolding lenOf formAt listAt sentOf checkOf
+  unfolding lenOf formAt sentOf checkOf
   pass-plain k e H = record {
     lens = λ j r lj lr ne. rw e (H .lens j r lj lr ne);
     formed = λ i j li lj ne. rw e (H .formed i j li lj ne);
-    whole = λ i j li lj ne. rw e (H .whole i j li lj ne);
     passes = λ i li w K m M. rw e (go (toEcho T two k) i li w K m M);
   }
     where
@@ -374,11 +373,10 @@ module _ (T : Table) (U : Script) (n l : ℕ) (W : Lawful T n l) where
             (λ r lr ni nj. row-at i r lr ni ∙ sym (row-at j r lr nj))
 
     pass-echo : Passes P n l L S (suc k)
-    unfolding lenOf formAt listAt sentOf checkOf
+    unfolding lenOf formAt sentOf checkOf
     pass-echo = record {
       lens = λ j r lj lr ne. rw e (W .echo .lens j r lj lr ne (rows k j) (full j));
       formed = λ i j li lj ne. rw e (W .echo .formed j i lj li (λ q. ne (sym q)) (rows k j) (full j));
-      whole = λ i j li lj ne. rw e (W .echo .whole j i lj li (λ q. ne (sym q)) (rows k j) (full j));
       passes = λ i li w K m M. rw e (echo-clean i li w K m M);
     }
 

@@ -161,7 +161,6 @@ module _ (P : Protocol) (n l : ℕ) (loans : ℕ → Loan) (T : Sheet) where
   pub record Passes (k : ℕ) : Type 0 where
     pub lens : (j r : ℕ) → j < n → r < n → j ≢ r → length (T .sent k j r) ≡ P .msgLen n l k
     pub formed : (i j : ℕ) → i < n → j < n → i ≢ j → P .rule k .form (frame n l i) (T .sent k j i) ≡ 0
-    pub whole : (i j : ℕ) → i < n → j < n → i ≢ j → P .rule k .list (frame n l i) (T .sent k j i) ≡ T .sent k j i
     pub passes : Each k (λ i w m. P .rule k .check (frame n l i) (loans k) w m .code ≡ 0)
 
   -- of a round that another one follows
@@ -202,8 +201,6 @@ module _ (P : Protocol) (n l : ℕ) (loans : ℕ → Loan) (T : Sheet) where
       honest-by goes = record {
         sized = λ G h i li. h .0 i li .long ∙ sym (area i);
         formed = λ G h i j li lj ne. ap (P .rule (suc k) .form (frame n l i)) (arrives G h i j li lj ne) ∙ A .formed i j li lj ne;
-        whole = λ G h i j li lj ne. ap (P .rule (suc k) .list (frame n l i)) (arrives G h i j li lj ne) ∙ A .whole i j li lj ne
-            ∙ sym (arrives G h i j li lj ne);
         passes = λ G h i li. A .passes i li (G .work i) (h .0 i li) (mailOf P n l loans (suc k) G i) (mail-ok G h i li);
         goes = goes;
       }

@@ -67,14 +67,12 @@ none? = record { code = 0; party = 0 }
 
 -- ---- what the rounds are
 -- One round. outLen: the length of the outgoing buffer; lent: 17 or 18 of the r Blocks and the permutation, or 0, by n and l alone, so
--- that it is the same for every box; form: 13 or 6 of one message, or 0; list: "the part of the incoming buffer that holds one list", of a
--- message; check: the content; keep: the work area afterwards; write: the outgoing buffer. `m k` is the list that was read of party k's
--- message, [] for the own one.
+-- that it is the same for every box; form: 13, 21 or 6 of one message, or 0; check: the content; keep: the work area afterwards; write: the
+-- outgoing buffer. `m k` is party k's message, [] for the own one.
 pub record Rule : Type 0 where
   pub outLen : Frame → ℕ
   pub lent : ℕ → ℕ → Loan → ℕ
   pub form : Frame → List ℕ → ℕ
-  pub list : Frame → List ℕ → List ℕ
   pub check : Frame → Loan → List ℕ → (ℕ → List ℕ) → Fault
   pub keep : Frame → Loan → List ℕ → (ℕ → List ℕ) → List ℕ
   pub write : Frame → Loan → List ℕ → (ℕ → List ℕ) → List ℕ
@@ -105,10 +103,6 @@ gone q k = not (eqb (getD (q .missing) k 0) 0)
 unfoldable pub part : Lent → ℕ → List ℕ
 part q k = get (getD (q .starts) k 0) (getD (q .lens) k 0) (q .incoming)
 
--- what is read of it
-unfoldable pub heard : Rule → Frame → Lent → ℕ → List ℕ
-heard R f q k = R .list f (part q k)
-
 -- "The outgoing buffer holds just the messages that call writes, by party, own left out": the one for party i in what party j wrote, of
 -- m bytes
 unfoldable pub stretch : ℕ → ℕ → ℕ → List ℕ → List ℕ
@@ -136,7 +130,7 @@ reasonOf P s k q w =
     (pick (not (lengthsDue (P .workLen (s .party)) (P .rule k .outLen (s .party)) (s .party) q w)) 17
     (P .rule k .lent (s .party .n) (s .party .l) (q .loan))))
 
--- ---- received faults: "then party by party 14, 13, 6, then content"
+-- ---- received faults: "then party by party 14, 13, 6, then content", and 21 "straight after 13 and before the count" (02, order 1)
 unfoldable pub orElse : Fault → Fault → Fault
 orElse a b = pick (eqb (a .code) 0) b a
 
@@ -149,12 +143,12 @@ scan (suc n) c = orElse (scan n c) (record { code = c n; party = n })
 unfoldable pub byParty : Frame → (ℕ → ℕ) → Fault
 byParty f c = scan (f .n) (λ k. pick (other f k) (c k) 0)
 
--- 14, 13 or 6 of party k
+-- 14, 13, 21 or 6 of party k
 unfoldable pub formFault : Rule → Frame → Lent → ℕ → ℕ
 formFault R f q k = pick (gone q k) 14 (R .form f (part q k))
 
 unfoldable pub faultOf : Rule → Frame → Lent → List ℕ → Fault
-faultOf R f q w = orElse (byParty f (formFault R f q)) (R .check f (q .loan) w (mask f (heard R f q)))
+faultOf R f q w = orElse (byParty f (formFault R f q)) (R .check f (q .loan) w (mask f (part q)))
 
 -- ---- the call
 -- a session that is done or ended
@@ -172,8 +166,8 @@ faulted s e q w = outcome (ended s) (Refused (e .code) (e .party)) (replicate (l
 unfoldable pub accepted : Protocol → Session → ℕ → Lent → List ℕ → Outcome
 accepted P s k q w =
     outcome (record { party = s .party; due = P .next (s .party .n) k }) Accepted
-    (P .rule k .keep (s .party) (q .loan) w (mask (s .party) (heard (P .rule k) (s .party) q)))
-    (P .rule k .write (s .party) (q .loan) w (mask (s .party) (heard (P .rule k) (s .party) q)))
+    (P .rule k .keep (s .party) (q .loan) w (mask (s .party) (part q)))
+    (P .rule k .write (s .party) (q .loan) w (mask (s .party) (part q)))
 
 -- the round call for round k
 unfoldable pub roundSpec : Protocol → Session → ℕ → Lent → List ℕ → Outcome

@@ -13,7 +13,7 @@ use borrow.Author.Tests.{ltb-true, ltb-false, eqb-true, eqb-false, eq-eqb, ne-eq
 use Rattle.lists.specs.Pick.{pick, pick-else}
 use Rattle.lists.specs.All.{all-of, not-false}
 use Rattle.algebra.specs.Sum.{neq, neq-true, apart?, Same, apart}
-use Rattle.engine.specs.Step.{Frame, Session, Lent, Refused, Outcome, outcome, Fault, Rule, Protocol, other, mask, gone, part, heard}
+use Rattle.engine.specs.Step.{Frame, Session, Lent, Refused, Outcome, outcome, Fault, Rule, Protocol, other, mask, gone, part}
 use Rattle.engine.specs.Step.{inside, partsIn, lengthsDue, reasonOf, orElse, scan, byParty, formFault, faultOf, ended, refused}
 use Rattle.engine.specs.Step.{faulted}
 use Rattle.engine.specs.Step.{accepted, roundSpec}
@@ -199,6 +199,11 @@ scan-clean (suc n) c z k h =
     let w = or-zero (scan n c) (record { code = c n; party = n }) z in
     last-or k n (λ j. c j ≡ 0) h (scan-clean n c (w .0) k) (w .1)
 
+-- checks that agree on the others
+pub by-ext : (f : Frame) (c d : ℕ → ℕ) → ((k : ℕ) → k < f .n → f .i ≢ k → c k ≡ d k) → byParty f c ≡ byParty f d
+unfolding byParty
+by-ext f c d h = scan-ext (f .n) _ _ (λ k l. other-cases f k (λ b. pick b (c k) 0 ≡ pick b (d k) 0) (λ l′ ne. h k l′ ne) refl)
+
 pub by-clean : (f : Frame) (c : ℕ → ℕ) → byParty f c .code ≡ 0 → (k : ℕ) → k < f .n → f .i ≢ k → c k ≡ 0
 unfolding byParty
 by-clean f c z k h ne =
@@ -206,20 +211,20 @@ by-clean f c z k h ne =
 
 -- no fault: every other message is well formed, and the check passes
 pub fault-clean : (R : Rule) (f : Frame) (q : Lent) (w : List ℕ) → faultOf R f q w .code ≡ 0
-    → ((j : ℕ) → j < f .n → f .i ≢ j → R .form f (part q j) ≡ 0) × (R .check f (q .loan) w (mask f (heard R f q)) .code ≡ 0)
+    → ((j : ℕ) → j < f .n → f .i ≢ j → R .form f (part q j) ≡ 0) × (R .check f (q .loan) w (mask f (part q)) .code ≡ 0)
 unfolding faultOf formFault
 fault-clean R f q w z =
-    let v = or-zero (byParty f (formFault R f q)) (R .check f (q .loan) w (mask f (heard R f q))) z in
+    let v = or-zero (byParty f (formFault R f q)) (R .check f (q .loan) w (mask f (part q))) z in
     (λ j l ne. pick-else (gone q j) 14 (R .form f (part q j)) 0 (λ e. omega arith) (by-clean f (formFault R f q) (v .0) j l ne) .1, v .1)
 
 -- no fault: every other message is there and well formed, and the check passes
 pub no-fault : (R : Rule) (f : Frame) (q : Lent) (w : List ℕ)
     → ((j : ℕ) → j < f .n → f .i ≢ j → (gone q j ≡ false) × (R .form f (part q j) ≡ 0))
-    → R .check f (q .loan) w (mask f (heard R f q)) .code ≡ 0 → faultOf R f q w .code ≡ 0
+    → R .check f (q .loan) w (mask f (part q)) .code ≡ 0 → faultOf R f q w .code ≡ 0
 unfolding faultOf formFault
 no-fault R f q w h c =
     ap (λ (e : Fault). e .code)
-    (or-none (byParty f (formFault R f q)) (R .check f (q .loan) w (mask f (heard R f q)))
+    (or-none (byParty f (formFault R f q)) (R .check f (q .loan) w (mask f (part q)))
     (by-none f (formFault R f q) (λ j l ne. ap (λ b. pick b 14 (R .form f (part q j))) (h j l ne .0) ∙ h j l ne .1)))
     ∙ c
 

@@ -5,10 +5,10 @@
 --  * a section of a Known work area: `bits-at R K : at (box R i) BITS w ≡ R .inputs i .bits`. For a section that a round fills
 --    there is one argument more, that it is ready: `comms-at R K refl`, computed at the moments `due 3`, `before 4`, ..
 --  * what is kept: `keep-one`, `keep-two`, `keep-none`. Their tests are closed by `refl` under `unfolding staysTest allOf mem since`.
---  * messages: `rows-ext` of alone/Base, `by-ext`, `first-ext` here and `others-ext` of algebra/Sum turn a definition on `m` into the one
+--  * messages: `rows-ext` of alone/Base, `by-ext` of engine/StepLaws, `first-ext` here and `others-ext` of algebra/Sum turn a definition on `m` into the one
 --    on the script's mail; `by-none` of engine/StepLaws, `first-none` here show that a check passes.
---  * a message that is a list: `list-form`, `list-len` from Coded items (encode/Coded), `trip-whole` of encode/RoundTrip for what is read
---    of it.
+--  * a message that is a list: `list-form`, `list-len` from Coded items (encode/Coded), `trip` of encode/RoundTrip for what is read
+--    of it: it is used to its last byte.
 use mathlib.Core.Path.{_≡_, refl, ap, ap₂, _∙_}
 use mathlib.Core.Bool.{true, false}
 use mathlib.Core.Logic.{_≢_}
@@ -23,14 +23,14 @@ use Rattle.lists.specs.Pick.{pick}
 use Rattle.block.specs.Block.{blockAt}
 use Rattle.message.specs.declared.Kind.{Kind}
 use Rattle.message.specs.declared.Kind.the-variants.{Items}
-use Rattle.message.specs.Format.{listOf, formOf}
+use Rattle.message.specs.Format.{formOf}
 use Rattle.encode.specs.Encode.{encode}
 use Rattle.encode.specs.Coded.{Coded, length-encode}
-use Rattle.encode.specs.RoundTrip.{Trip, trip-whole}
+use Rattle.encode.specs.RoundTrip.{trip}
 use Rattle.plan.specs.Plan.{listLen}
 use Rattle.engine.specs.declared.Frame.{Frame}
-use Rattle.engine.specs.Step.{Fault, orElse, byParty}
-use Rattle.engine.specs.StepLaws.{other-cases, or-none, scan-ext}
+use Rattle.engine.specs.Step.{Fault, orElse}
+use Rattle.engine.specs.StepLaws.{or-none}
 use Rattle.engine.specs.Sheet.{Store, Known, staysTest}
 use Rattle.engine.specs.Honest.{before, due, storeOf, SendAt, RecvAt, ListAt, LastAt}
 use Rattle.rounds.specs.Area.{DELTA, SEED, PAIRS, MASKS, BITS, ALPHA, BETA, COMMS, PAIR-COMMS, KEY-SUMS, SHARE-COMMS, DMS, LEAKY, ZS, ES}
@@ -42,11 +42,7 @@ use Rattle.honest.specs.Subject.{subject}
 use Rattle.honest.specs.Script as S
 use Rattle.honest.specs.Inputs.{Run, box}
 
--- ---- checks by party
-pub by-ext : (f : Frame) (c d : ℕ → ℕ) → ((k : ℕ) → k < f .n → f .i ≢ k → c k ≡ d k) → byParty f c ≡ byParty f d
-unfolding byParty
-by-ext f c d h = scan-ext (f .n) _ _ (λ k l. other-cases f k (λ b. pick b (c k) 0 ≡ pick b (d k) 0) (λ l′ ne. h k l′ ne) refl)
-
+-- ---- checks item by item
 pub first-ext : (c : ℕ) (g h : ℕ → Fault) → ((j : ℕ) → j < c → g j ≡ h j) → firstOf c g ≡ firstOf c h
 unfolding firstOf
 first-ext zero g h e = refl
@@ -59,16 +55,8 @@ first-none (suc c) g e =
     ap (λ (x : Fault). x .code) (or-none (firstOf c g) (g c) (first-none c g (λ j l. e j (omega arith)))) ∙ e c (le-refl (suc c))
 
 -- ---- a message that is a list
--- it is of the right form, and read to its end
-pub record Reads (K : Kind) (c : ℕ) (m : List ℕ) : Type 0 where
-  pub form-is : formOf K c m ≡ 0
-  pub list-is : listOf K m ≡ m
-
-pub reads : (K : Kind) (c : ℕ) (g : ℕ → List ℕ) → Trip K c g (encode c g) → Reads K c (encode c g)
-reads K c g T = record { form-is = T .form-is; list-is = T .list-is }
-
-pub list-form : (K : Kind) (c : ℕ) (g : ℕ → List ℕ) → c < 2 ^ 64 → ((t : ℕ) → t < c → Coded K (g t)) → Reads K c (encode c g)
-list-form K c g small coded = reads K c g (trip-whole K c g small coded)
+pub list-form : (K : Kind) (c : ℕ) (g : ℕ → List ℕ) → c < 2 ^ 64 → ((t : ℕ) → t < c → Coded K (g t)) → formOf K c (encode c g) ≡ 0
+list-form K c g small coded = trip K c g small coded .form-is
 
 pub list-len : (n size bools c : ℕ) (g : ℕ → List ℕ) → ((t : ℕ) → t < c → length (g t) ≡ size)
     → length (encode c g) ≡ listLen n c (Items size bools)

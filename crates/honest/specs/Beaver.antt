@@ -22,9 +22,10 @@ use Rattle.share.specs.Share.{Share, shares, recordOf}
 use Rattle.share.specs.ShareLaws.{SmallShare, small-share-at, small-share-op, small-share-sel, Agree, agree-record, agree-op, agree-refl}
 use Rattle.share.specs.Parties.{shareOf, share-of-op, share-of-sel, share-of-at}
 use Rattle.message.specs.declared.Kind.the-variants.{Items}
+use Rattle.message.specs.Format.{formOf}
 use Rattle.encode.specs.Encode.{encode, twoBitsTwoBlocks}
 use Rattle.encode.specs.Coded.{length-twoBitsTwoBlocks, coded-twoBitsTwoBlocks}
-use Rattle.encode.specs.RoundTrip.{trip-whole, even-item}
+use Rattle.encode.specs.RoundTrip.{trip, even-item}
 use Rattle.plan.specs.Plan.{kindOf, countDue, msgLen}
 use Rattle.engine.specs.StepLaws.{by-none}
 use Rattle.engine.specs.Area.{mem}
@@ -40,7 +41,7 @@ use Rattle.alone.specs.BeaverLaws.{agree-finish}
 use Rattle.honest.specs.Script as S
 use Rattle.honest.specs.Inputs.{Run, box, Boxes, Inputs, deltas, alphasOf, betasOf, small-bits, small-alpha, small-beta}
 use Rattle.honest.specs.Base.{Sends, Ends, list-form, list-len, Fit, delta-is, bits-at, alpha-at, beta-at, zs-at, es-at, perm-at}
-use Rattle.honest.specs.Base.{ds-at, triples-at, keep-one, Reads}
+use Rattle.honest.specs.Base.{ds-at, triples-at, keep-one}
 use Rattle.honest.specs.Values.{share-y, LeakyTriples}
 use Rattle.honest.specs.Buckets.{item-byte, item-block, open-all, passes, aOf, bOf, cOf, place, entry-is, good-y, l-small}
 use Rattle.honest.specs.Buckets.{length-triples, bytes-triples, a-read, c-read, small-a, small-c, abc-triple}
@@ -56,7 +57,7 @@ module _ (c : ℕ) (p q : ℕ → Bool) (x y : ℕ → Block) (small : c < 2 ^ 6
   item : take 34 (drop (8 + t * 34) msg) ≡ items t
   item =
       even-item (Items 34 2) 34 c items (λ t l. length-twoBitsTwoBlocks (p t) (q t) (x t) (y t)) msg
-      (trip-whole (Items 34 2) c items small (λ t l. coded-twoBitsTwoBlocks (p t) (q t) (x t) (y t))) t lt
+      (trip (Items 34 2) c items small (λ t l. coded-twoBitsTwoBlocks (p t) (q t) (x t) (y t))) t lt
 
   first-read : odd (getD (encode c (λ t. twoBitsTwoBlocks (p t) (q t) (x t) (y t))) (8 + t * 34) 0) ≡ p t
   unfolding twoBitsTwoBlocks
@@ -170,7 +171,7 @@ module _ (R : Run) (I : Inputs R) where
   unfolding S.sent22 B.faandMsg msgLen kindOf countDue
   faand-len j r = list-len n 34 2 l _ (λ t i. length-twoBitsTwoBlocks _ _ _ _)
 
-  faand-form : (j r : ℕ) → Reads (kindOf l 22) (countDue n l 22) (S.sent22 R j r)
+  faand-form : (j r : ℕ) → formOf (kindOf l 22) (countDue n l 22) (S.sent22 R j r) ≡ 0
   unfolding S.sent22 B.faandMsg kindOf countDue
   faand-form j r = list-form (Items 34 2) l _ (l-small R I) (λ t i. coded-twoBitsTwoBlocks _ _ _ _)
 
@@ -290,8 +291,7 @@ module _ (R : Run) (I : Inputs R) where
   last-22 L = record {
     heard = record {
       lens = λ j r lj lr ne. faand-len j r;
-      formed = λ i j li lj ne. faand-form j i .form-is;
-      whole = λ i j li lj ne. faand-form j i .list-is;
+      formed = λ i j li lj ne. faand-form j i;
       judged = λ i li w K m M.
           (λ q. B.deFaults (box R i) (delta-is R K q) (bits-at R K q) (perm-at R K refl q) (triples-at R K refl q) (alpha-at R K q)
           (beta-at R K q) m .code)

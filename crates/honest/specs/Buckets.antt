@@ -26,9 +26,10 @@ use Rattle.share.specs.Share.{Share, shares, recordOf}
 use Rattle.share.specs.ShareLaws.{SmallShare, small-share-op, Agree, bytes-recordOf}
 use Rattle.share.specs.Parties.{shareOf, share-of-op}
 use Rattle.message.specs.declared.Kind.the-variants.{Dvalues}
+use Rattle.message.specs.Format.{formOf}
 use Rattle.encode.specs.Encode.{encode, dvalueItem}
 use Rattle.encode.specs.Coded.{ds, macs, length-ds, length-dvalue, coded-dvalue, length-encode}
-use Rattle.encode.specs.RoundTrip.{trip-whole, even-item}
+use Rattle.encode.specs.RoundTrip.{trip, even-item}
 use Rattle.plan.specs.Plan.{kindOf, countDue, listLen, msgLen, leaky, bucketSize, bitsCount}
 use Rattle.plan.specs.PlanLaws.{bucket-high}
 use Rattle.engine.specs.StepLaws.{by-none}
@@ -48,7 +49,7 @@ use Rattle.alone.specs.BucketsLaws.{Ordered, length-perm, first-in, later-in, a
 use Rattle.alone.specs.BucketsLaws as A
 use Rattle.honest.specs.Script as S
 use Rattle.honest.specs.Inputs.{Run, box, Boxes, Inputs, deltas, small-bits}
-use Rattle.honest.specs.Base.{Receives, Sends, list-form, Fit, delta-is, bits-at, perm-at, keep-one, Reads}
+use Rattle.honest.specs.Base.{Receives, Sends, list-form, Fit, delta-is, bits-at, perm-at, keep-one}
 use Rattle.honest.specs.Values.{xOf, yOf, zOf, share-x, share-y, share-z, small-z, LeakyTriples}
 use Rattle.honest.specs.Combining.{sumX, sumZ, sum-triple, tripleOf, combined, small-sumX, small-sumZ}
 
@@ -102,7 +103,7 @@ module _ (l c : ℕ) (b : ℕ → ℕ → Bool) (x : ℕ → ℕ → Block) (sma
   item =
       even-item (Dvalues c) size l (λ j. dvalueItem c (b j) (x j))
       (λ t lt. length-dvalue c (b t) (x t) ∙ (let q : 16 + c * 17 ≡ 8 + c + (8 + 16 * c) = omega arith in q)) msg
-      (trip-whole (Dvalues c) l (λ j. dvalueItem c (b j) (x j)) small (λ t lt. coded-dvalue c (b t) (x t) few)) j lj
+      (trip (Dvalues c) l (λ j. dvalueItem c (b j) (x j)) small (λ t lt. coded-dvalue c (b t) (x t) few)) j lj
 
   split : (a : ℕ) → a + 8 + e ≡ a + (8 + e)
   split a = omega arith
@@ -218,7 +219,7 @@ module _ (R : Run) (I : Inputs R) where
       length-encode (8 + more l + (8 + 16 * more l)) l _
       (λ t i. length-dvalue (more l) _ _ ∙ (let q : 16 + more l * 17 ≡ 8 + more l + (8 + 16 * more l) = omega arith in q))
 
-  dvalue-form : (j r : ℕ) → Reads (kindOf l 21) (countDue n l 21) (S.sent21 R j r)
+  dvalue-form : (j r : ℕ) → formOf (kindOf l 21) (countDue n l 21) (S.sent21 R j r) ≡ 0
   unfolding S.sent21 dvalueMsg later kindOf countDue
   dvalue-form j r = list-form (Dvalues (more l)) l _ l-small (λ t i. coded-dvalue (more l) _ _ more-small)
 
@@ -307,8 +308,7 @@ module _ (R : Run) (I : Inputs R) where
   recv-21 = record {
     heard = record {
       lens = λ j r lj lr ne. dvalue-len j r;
-      formed = λ i j li lj ne. dvalue-form j i .form-is;
-      whole = λ i j li lj ne. dvalue-form j i .list-is;
+      formed = λ i j li lj ne. dvalue-form j i;
       judged = λ i li w K m M.
           (λ q. dFaults (box R i) (delta-is R K q) (bits-at R K q) (perm-at R K refl q) m .code)
           ∙ d-passes i li m M;

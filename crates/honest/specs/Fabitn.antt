@@ -19,6 +19,7 @@ use Rattle.share.specs.Record.{recordLen}
 use Rattle.share.specs.Parties.{sharedAt}
 use Rattle.share.specs.RecordLaws.{small-mac, small-key}
 use Rattle.message.specs.declared.Kind.the-variants.{Items}
+use Rattle.message.specs.Format.{formOf}
 use Rattle.encode.specs.Coded.{length-bitBlock}
 use Rattle.plan.specs.Plan.{kindOf, countDue, msgLen, bitsCount}
 use Rattle.engine.specs.StepLaws.{by-none}
@@ -33,7 +34,6 @@ use Rattle.rounds.specs.EchoLaws.{length-hashVec}
 use Rattle.honest.specs.Script as S
 use Rattle.honest.specs.Inputs.{Run, box, Boxes, deltas, bitsOf}
 use Rattle.honest.specs.Base.{Receives, Sends, Hashes, first-none, list-len, Fit, delta-is, bits-at, key-sums-at, keep-none, keep-one}
-use Rattle.honest.specs.Base.{Reads, reads}
 use Rattle.alone.specs.Cells.{length-cells, cell}
 use Rattle.honest.specs.Firsts.{pairs-trip, bit-read, block-read, hash-bits}
 
@@ -72,9 +72,9 @@ module _ (R : Run) (X : Boxes R) where
   unfolding abitMsg msgLen kindOf countDue
   abit-len j r = list-len n 17 1 120 _ (λ t i. length-bitBlock (bitOf j t) (macOf j r t))
 
-  abit-form : (j r : ℕ) → Reads (kindOf l 6) (countDue n l 6) (abitMsg (box R j) strings (inputs j .bits) r)
+  abit-form : (j r : ℕ) → formOf (kindOf l 6) (countDue n l 6) (abitMsg (box R j) strings (inputs j .bits) r) ≡ 0
   unfolding abitMsg kindOf countDue
-  abit-form j r = reads (Items 17 1) 120 _ (pairs-trip 120 (bitOf j) (macOf j r) (omega arith))
+  abit-form j r = pairs-trip 120 (bitOf j) (macOf j r) (omega arith) .form-is
 
   -- ---- the sums of keys
   fit-key-sums : Fit R KEY-SUMS
@@ -119,8 +119,7 @@ module _ (R : Run) (X : Boxes R) where
   recv-6 = record {
     heard = record {
       lens = λ j r lj lr ne. abit-len j r;
-      formed = λ i j li lj ne. abit-form j i .form-is;
-      whole = λ i j li lj ne. abit-form j i .list-is;
+      formed = λ i j li lj ne. abit-form j i;
       judged = λ i li w K m M.
           ap₂ (λ (d : Block) (x : List ℕ). abits (box R i) d x m .code) (delta-is R K) (key-sums-at R K refl)
           ∙ first-none 120 _ (λ j lj. by-none (box R i) _ (λ k lk ne. abit-passes i j m li lj k lk ne (M k lk ne)));

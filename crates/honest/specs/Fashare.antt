@@ -29,10 +29,10 @@ use Rattle.share.specs.RecordLaws.{small-mac}
 use Rattle.share.specs.Share.{shareAt}
 use Rattle.share.specs.Parties.{sharedAt}
 use Rattle.message.specs.declared.Kind.the-variants.{Items, Dms}
-use Rattle.message.specs.Format.{itemAt}
+use Rattle.message.specs.Format.{itemAt, formOf}
 use Rattle.encode.specs.Encode.{threeHashes, dmItem}
 use Rattle.encode.specs.Coded.{length-threeHashes, coded-threeHashes, length-encode, length-dm, coded-dm, coded-block, num-le}
-use Rattle.encode.specs.RoundTrip.{Trip, trip-whole, even-item}
+use Rattle.encode.specs.RoundTrip.{Trip, trip, even-item}
 use Rattle.plan.specs.Plan.{kindOf, countDue, listLen, msgLen, leaky, bitsCount, dmLen}
 use Rattle.engine.specs.declared.Frame.{Frame}
 use Rattle.engine.specs.StepLaws.{by-none}
@@ -51,7 +51,7 @@ use Rattle.rounds.specs.EchoLaws.{length-hashVec}
 use Rattle.honest.specs.Script as S
 use Rattle.honest.specs.Inputs.{Run, box, Boxes, deltas, bitsOf}
 use Rattle.honest.specs.Base.{Receives, Sends, Hashes, first-none, list-form, list-len, Fit, delta-is, bits-at, share-comms-at}
-use Rattle.honest.specs.Base.{dms-at, keep-none, keep-one, Reads, reads}
+use Rattle.honest.specs.Base.{dms-at, keep-none, keep-one}
 use Rattle.alone.specs.Cells.{head-part, items-row, length-cells, cell}
 
 -- ---- the commitments
@@ -67,7 +67,7 @@ module _ (f : Frame) (delta : Block) (recs : List ℕ) where
   unfolding commMsg msgLen kindOf countDue
   comm-len n l = list-len n 96 0 40 hashes (λ q i. length-hashes q)
 
-  comm-form : (n l : ℕ) → Reads (kindOf l 8) (countDue n l 8) (commMsg f delta recs)
+  comm-form : (n l : ℕ) → formOf (kindOf l 8) (countDue n l 8) (commMsg f delta recs) ≡ 0
   unfolding commMsg kindOf countDue threeHashes
   comm-form n l =
       list-form (Items 96 0) 40 hashes (omega arith)
@@ -116,15 +116,15 @@ module _ (f : Frame) (recs : List ℕ) (most : f .n ≤ 8) where
 
   ver-trip : Trip Dms 40 items (verMsg f recs)
   unfolding verMsg
-  ver-trip = trip-whole Dms 40 items (omega arith) (λ q l. coded-dm (dm f recs q) (small-dm q))
+  ver-trip = trip Dms 40 items (omega arith) (λ q l. coded-dm (dm f recs q) (small-dm q))
 
   ver-len : (l : ℕ) → length (verMsg f recs) ≡ msgLen (f .n) l 10
   unfolding verMsg msgLen kindOf countDue listLen
   ver-len l = length-encode (8 + dmLen (f .n)) 40 items (λ q i. length-dm (dm f recs q) ∙ ap (λ k. 8 + k) (length-own-dm f recs q))
 
-  ver-form : (l : ℕ) → Reads (kindOf l 10) (countDue (f .n) l 10) (verMsg f recs)
+  ver-form : (l : ℕ) → formOf (kindOf l 10) (countDue (f .n) l 10) (verMsg f recs) ≡ 0
   unfolding kindOf countDue verMsg
-  ver-form l = reads Dms 40 _ ver-trip
+  ver-form l = ver-trip .form-is
 
   ver-word : (q : ℕ) → q < 40 → wordAt (verMsg f recs) (itemAt Dms (verMsg f recs) q) ≡ dmLen (f .n)
   ver-word q l = dm-word 40 (dm f recs) (verMsg f recs) ver-trip q l (small-dm q) ∙ length-own-dm f recs q
@@ -239,8 +239,7 @@ module _ (R : Run) (X : Boxes R) where
   recv-8 = record {
     heard = record {
       lens = λ j r lj lr ne. comm-len (box R j) (deltas R j) (inputs j .bits) n l;
-      formed = λ i j li lj ne. comm-form (box R j) (deltas R j) (inputs j .bits) n l .form-is;
-      whole = λ i j li lj ne. comm-form (box R j) (deltas R j) (inputs j .bits) n l .list-is;
+      formed = λ i j li lj ne. comm-form (box R j) (deltas R j) (inputs j .bits) n l;
       judged = λ i li w K m M. refl;
     };
     keeps = λ i li w K m M. keep-one R (due 8) (before 10) i li K SHARE-COMMS _ refl fit-share-comms
@@ -300,8 +299,7 @@ module _ (R : Run) (X : Boxes R) where
   recv-10 = record {
     heard = record {
       lens = λ j r lj lr ne. ver-len (box R j) (inputs j .bits) (X .range .eight) l;
-      formed = λ i j li lj ne. ver-form (box R j) (inputs j .bits) (X .range .eight) l .form-is;
-      whole = λ i j li lj ne. ver-form (box R j) (inputs j .bits) (X .range .eight) l .list-is;
+      formed = λ i j li lj ne. ver-form (box R j) (inputs j .bits) (X .range .eight) l;
       judged = λ i li w K m M. first-none 40 _ (λ q lq. by-none (box R i) _ (λ k lk ne. dm-passes i q m lq k (M k lk ne)));
     };
     keeps = λ i li w K m M. keep-one R (due 10) (before 12) i li K DMS _ refl fit-dms (dms-are i m M ∙ sym (kept-dms i));
@@ -388,7 +386,7 @@ module _ (R : Run) (X : Boxes R) where
   unfolding dibiMsg msgLen kindOf countDue
   dibi-len k = list-len n 16 0 40 _ (λ q i. length-bytesOf (opens k q))
 
-  dibi-form : (k : ℕ) → Reads (kindOf l 12) (countDue n l 12) (dibi k)
+  dibi-form : (k : ℕ) → formOf (kindOf l 12) (countDue n l 12) (dibi k) ≡ 0
   unfolding dibiMsg kindOf countDue
   dibi-form k = list-form (Items 16 0) 40 _ (omega arith) (λ q i. coded-block (opens k q))
 
@@ -397,7 +395,7 @@ module _ (R : Run) (X : Boxes R) where
   dibi-read k q lk lq =
       block-here _ (8 + q * 16) (opens k q)
       (even-item (Items 16 0) 16 40 (λ q. bytesOf (opens k q)) (λ q i. length-bytesOf (opens k q)) _
-      (trip-whole (Items 16 0) 40 (λ q. bytesOf (opens k q)) (omega arith) (λ q i. coded-block (opens k q))) q lq)
+      (trip (Items 16 0) 40 (λ q. bytesOf (opens k q)) (omega arith) (λ q i. coded-block (opens k q))) q lq)
       (small-opens k q lk lq)
 
   -- ---- the check
@@ -449,8 +447,7 @@ module _ (R : Run) (X : Boxes R) where
   recv-12 = record {
     heard = record {
       lens = λ j r lj lr ne. dibi-len j;
-      formed = λ i j li lj ne. dibi-form j .form-is;
-      whole = λ i j li lj ne. dibi-form j .list-is;
+      formed = λ i j li lj ne. dibi-form j;
       judged = λ i li w K m M.
           (λ t. dibiFaults (box R i) (bits-at R K t) (share-comms-at R K refl t) (dms-at R K refl t) m .code)
           ∙ first-none 40 _ (λ q lq. by-none (box R i) _ (λ k lk ne. dibi-passes i q m li lq k lk ne (M k lk ne)));

@@ -20,7 +20,7 @@ use Rattle.blake3.specs.Firsts.{firsts}
 use Rattle.message.specs.declared.Kind.the-variants.{Items}
 use Rattle.encode.specs.Encode.{encode, bitBlock}
 use Rattle.encode.specs.Coded.{length-encode, length-bitBlock, coded-bitBlock}
-use Rattle.encode.specs.RoundTrip.{Trip, trip-whole, even-item}
+use Rattle.encode.specs.RoundTrip.{Trip, trip, even-item}
 use Rattle.rounds.specs.Echo.{hashVec}
 use Rattle.honest.specs.Toss.{cat-tab}
 use Rattle.alone.specs.Cells.{head-part}
@@ -30,7 +30,7 @@ module _ (c : ℕ) (b : ℕ → Bool) (x : ℕ → Block) (small : c < 2 ^ 64) w
   msg = encode c (λ t. bitBlock (b t) (x t))
 
   pub pairs-trip : Trip (Items 17 1) c (λ t. bitBlock (b t) (x t)) (encode c (λ t. bitBlock (b t) (x t)))
-  pairs-trip = trip-whole (Items 17 1) c (λ t. bitBlock (b t) (x t)) small (λ t l. coded-bitBlock (b t) (x t))
+  pairs-trip = trip (Items 17 1) c (λ t. bitBlock (b t) (x t)) small (λ t l. coded-bitBlock (b t) (x t))
 
   -- item t
   item : (t : ℕ) → t < c → take 17 (drop (8 + t * 17) msg) ≡ bitBlock (b t) (x t)

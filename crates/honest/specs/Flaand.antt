@@ -24,8 +24,9 @@ use Rattle.blake3.specs.Tree.{hash}
 use Rattle.share.specs.Share.{shareAt}
 use Rattle.share.specs.Parties.{sharedAt, shareOf}
 use Rattle.message.specs.declared.Kind.the-variants.{Items}
+use Rattle.message.specs.Format.{formOf}
 use Rattle.encode.specs.Coded.{length-bitBlock, coded-hash, coded-block}
-use Rattle.encode.specs.RoundTrip.{trip-whole, even-item}
+use Rattle.encode.specs.RoundTrip.{trip, even-item}
 use Rattle.plan.specs.Plan.{kindOf, countDue, msgLen, leaky, bitsCount}
 use Rattle.engine.specs.declared.Frame.{Frame}
 use Rattle.engine.specs.Step.{Fault}
@@ -48,7 +49,7 @@ use Rattle.rounds.specs.EchoLaws.{length-hashVec}
 use Rattle.honest.specs.Script as S
 use Rattle.honest.specs.Inputs.{Run, box, Boxes, deltas, small-delta}
 use Rattle.honest.specs.Base.{stored, Receives, Sends, Hashes, list-form, list-len, Fit, delta-is, bits-at, leaky-at, zs-at, hs-at}
-use Rattle.honest.specs.Base.{h-comms-at, keep-none, keep-free, keep-one, keep-two, Reads, reads}
+use Rattle.honest.specs.Base.{h-comms-at, keep-none, keep-free, keep-one, keep-two}
 use Rattle.alone.specs.Cells.{items-row, length-cells, cell}
 use Rattle.honest.specs.Firsts.{pairs-trip, bit-read, block-read, hash-bits}
 use Rattle.honest.specs.Haand.{leaky-small, and-z}
@@ -207,9 +208,9 @@ module _ (R : Run) (X : Boxes R) where
   unfolding S.sent15 flaandMsg msgLen kindOf countDue
   flaand-len j r = list-len n 17 1 (leaky l) _ (λ t i. length-bitBlock _ _)
 
-  flaand-form : (j r : ℕ) → Reads (kindOf l 15) (countDue n l 15) (S.sent15 R j r)
+  flaand-form : (j r : ℕ) → formOf (kindOf l 15) (countDue n l 15) (S.sent15 R j r) ≡ 0
   unfolding S.sent15 flaandMsg kindOf countDue
-  flaand-form j r = reads (Items 17 1) (leaky l) _ (pairs-trip (leaky l) (eOf j) _ small)
+  flaand-form j r = pairs-trip (leaky l) (eOf j) _ small .form-is
 
   pub send-15 : Sends R 15
   unfolding staysTest allOf mem S.since S.sent S.sent15 held written
@@ -224,8 +225,7 @@ module _ (R : Run) (X : Boxes R) where
   recv-15 = record {
     heard = record {
       lens = λ j r lj lr ne. flaand-len j r;
-      formed = λ i j li lj ne. flaand-form j i .form-is;
-      whole = λ i j li lj ne. flaand-form j i .list-is;
+      formed = λ i j li lj ne. flaand-form j i;
       judged = λ i li w K m M. refl;
     };
     keeps = λ i li w K m M. keep-two R (due 15) (before 17) i li K HS ES _ _ refl fit-hs fit-es
@@ -254,7 +254,7 @@ module _ (R : Run) (X : Boxes R) where
   unfolding S.sent17 commMsg msgLen kindOf countDue
   comm-len j r = list-len n 32 0 (leaky l) (comm j) (λ t i. length-hash _)
 
-  comm-form : (j r : ℕ) → Reads (kindOf l 17) (countDue n l 17) (S.sent17 R j r)
+  comm-form : (j r : ℕ) → formOf (kindOf l 17) (countDue n l 17) (S.sent17 R j r) ≡ 0
   unfolding S.sent17 commMsg kindOf countDue
   comm-form j r = list-form (Items 32 0) (leaky l) (comm j) small (λ t i. coded-hash (comm j t) (length-hash _))
 
@@ -292,8 +292,7 @@ module _ (R : Run) (X : Boxes R) where
   recv-17 = record {
     heard = record {
       lens = λ j r lj lr ne. comm-len j r;
-      formed = λ i j li lj ne. comm-form j i .form-is;
-      whole = λ i j li lj ne. comm-form j i .list-is;
+      formed = λ i j li lj ne. comm-form j i;
       judged = λ i li w K m M. refl;
     };
     keeps = λ i li w K m M. keep-one R (due 17) (before 19) i li K H-COMMS _ refl fit-comms
@@ -312,7 +311,7 @@ module _ (R : Run) (X : Boxes R) where
   unfolding S.sent19 hashMsg msgLen kindOf countDue
   hash-len j r = list-len n 16 0 (leaky l) (λ t. bytesOf (own j t)) (λ t i. length-bytesOf _)
 
-  hash-form : (j r : ℕ) → Reads (kindOf l 19) (countDue n l 19) (S.sent19 R j r)
+  hash-form : (j r : ℕ) → formOf (kindOf l 19) (countDue n l 19) (S.sent19 R j r) ≡ 0
   unfolding S.sent19 hashMsg kindOf countDue
   hash-form j r = list-form (Items 16 0) (leaky l) (λ t. bytesOf (own j t)) small (λ t i. coded-block (own j t))
 
@@ -322,7 +321,7 @@ module _ (R : Run) (X : Boxes R) where
       ap (λ (s : List ℕ). blockAt s (8 + t * 16)) e
       ∙ block-here _ (8 + t * 16) (own k t)
       (even-item (Items 16 0) 16 (leaky l) (λ t. bytesOf (own k t)) (λ t l. length-bytesOf _) _
-      (trip-whole (Items 16 0) (leaky l) (λ t. bytesOf (own k t)) small (λ t i. coded-block (own k t))) t lt)
+      (trip (Items 16 0) (leaky l) (λ t. bytesOf (own k t)) small (λ t i. coded-block (own k t))) t lt)
       (rw (h-at k t lk lt) (small-h k t lk))
 
   -- each is opened first
@@ -357,8 +356,7 @@ module _ (R : Run) (X : Boxes R) where
   recv-19 = record {
     heard = record {
       lens = λ j r lj lr ne. hash-len j r;
-      formed = λ i j li lj ne. hash-form j i .form-is;
-      whole = λ i j li lj ne. hash-form j i .list-is;
+      formed = λ i j li lj ne. hash-form j i;
       judged = λ i li w K m M.
           ap₂ (λ (o c : List ℕ). hFaults (box R i) o c m .code) (hs-at R K refl) (h-comms-at R K refl)
           ∙ ap (λ (x : Fault). x .code) (or-none (opening (box R i) (S.hComms R i) m) (zeroSum (box R i) (S.hs R i) m) (h-opens i m M))

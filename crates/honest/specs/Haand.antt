@@ -19,9 +19,10 @@ use Rattle.block.specs.Group.{blocks}
 use Rattle.share.specs.Share.{shareAt}
 use Rattle.share.specs.Parties.{sharedAt}
 use Rattle.message.specs.declared.Kind.the-variants.{Items}
+use Rattle.message.specs.Format.{formOf}
 use Rattle.encode.specs.Encode.{encode, twoBits}
 use Rattle.encode.specs.Coded.{length-twoBits, coded-twoBits}
-use Rattle.encode.specs.RoundTrip.{trip-whole, even-item}
+use Rattle.encode.specs.RoundTrip.{trip, even-item}
 use Rattle.plan.specs.Plan.{kindOf, countDue, msgLen, leaky, bitsCount}
 use Rattle.plan.specs.PlanLaws.{leaky-most}
 use Rattle.engine.specs.declared.Frame.{Frame}
@@ -35,7 +36,7 @@ use Rattle.rounds.specs.Haand.{x, y, H, G, mask, h0, h1, haandMsg, leakyRows, v
 use Rattle.alone.specs.HaandLaws.{length-leakyRows, length-zRows, z-read}
 use Rattle.honest.specs.Script as S
 use Rattle.honest.specs.Inputs.{Run, box, Boxes, deltas}
-use Rattle.honest.specs.Base.{Receives, Sends, list-form, list-len, Fit, delta-is, masks-at, bits-at, keep-one, Reads}
+use Rattle.honest.specs.Base.{Receives, Sends, list-form, list-len, Fit, delta-is, masks-at, bits-at, keep-one}
 use Rattle.honest.specs.Values.{xOf, yOf, zOf}
 
 -- ---- a message of two bits each
@@ -46,7 +47,7 @@ module _ (c : ℕ) (a b : ℕ → Bool) (small : c < 2 ^ 64) (t : ℕ) (lt : t <
   item : take 2 (drop (8 + t * 2) msg) ≡ twoBits (a t) (b t)
   item =
       even-item (Items 2 2) 2 c (λ t. twoBits (a t) (b t)) (λ t l. length-twoBits (a t) (b t)) msg
-      (trip-whole (Items 2 2) c (λ t. twoBits (a t) (b t)) small (λ t l. coded-twoBits (a t) (b t))) t lt
+      (trip (Items 2 2) c (λ t. twoBits (a t) (b t)) small (λ t l. coded-twoBits (a t) (b t))) t lt
 
   byte : (o : ℕ) → o < 2 → getD msg (8 + t * 2 + o) 0 ≡ getD (twoBits (a t) (b t)) o 0
   byte o w =
@@ -82,7 +83,7 @@ module _ (R : Run) (X : Boxes R) where
   unfolding S.sent14 haandMsg msgLen kindOf countDue
   haand-len j r = list-len n 2 2 (leaky l) _ (λ t i. length-twoBits _ _)
 
-  haand-form : (j r : ℕ) → Reads (kindOf l 14) (countDue n l 14) (S.sent14 R j r)
+  haand-form : (j r : ℕ) → formOf (kindOf l 14) (countDue n l 14) (S.sent14 R j r) ≡ 0
   unfolding S.sent14 haandMsg kindOf countDue
   haand-form j r = list-form (Items 2 2) (leaky l) _ leaky-small (λ t i. coded-twoBits _ _)
 
@@ -109,8 +110,7 @@ module _ (R : Run) (X : Boxes R) where
   recv-14 = record {
     heard = record {
       lens = λ j r lj lr ne. haand-len j r;
-      formed = λ i j li lj ne. haand-form j i .form-is;
-      whole = λ i j li lj ne. haand-form j i .list-is;
+      formed = λ i j li lj ne. haand-form j i;
       judged = λ i li w K m M. refl;
     };
     keeps = λ i li w K m M. keep-one R (due 14) (before 15) i li K ZS _ refl fit-zs

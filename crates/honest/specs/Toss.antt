@@ -19,9 +19,10 @@ use Rattle.algebra.specs.Sum.{others-ext}
 use Rattle.block.specs.Block.{le8, xorInplace}
 use Rattle.block.specs.Trip.{length-le8}
 use Rattle.message.specs.declared.Kind.the-variants.{Items}
+use Rattle.message.specs.Format.{formOf}
 use Rattle.encode.specs.Encode.{encode}
 use Rattle.encode.specs.Coded.{coded-hash, coded-byte}
-use Rattle.encode.specs.RoundTrip.{trip-whole, even-item}
+use Rattle.encode.specs.RoundTrip.{trip, even-item}
 use Rattle.plan.specs.Plan.{kindOf, countDue, msgLen}
 use Rattle.engine.specs.declared.Frame.{Frame}
 use Rattle.engine.specs.StepLaws.{by-none}
@@ -38,7 +39,7 @@ use Rattle.rounds.specs.EchoLaws.{length-hashVec}
 use Rattle.honest.specs.Script as S
 use Rattle.honest.specs.Inputs.{Run, box, Boxes}
 use Rattle.honest.specs.Base.{Receives, Sends, Hashes, list-form, list-len, Fit, seed-at, pairs-at, comms-at, pair-comms-at}
-use Rattle.honest.specs.Base.{keep-none, keep-one, Reads}
+use Rattle.honest.specs.Base.{keep-none, keep-one}
 
 -- ---- a message with a commitment, and one with a seed
 pub length-commitment : (seed : List ℕ) (j : ℕ) → length (commitment seed j) ≡ 32
@@ -53,7 +54,7 @@ module _ (seed : List ℕ) (j : ℕ) where
   unfolding commMsg msgLen kindOf countDue
   comm-len n l = list-len n 32 0 1 comm (λ t i. length-commitment seed j)
 
-  comm-form : (n l : ℕ) → Reads (kindOf l 1) (countDue n l 1) (commMsg seed j)
+  comm-form : (n l : ℕ) → formOf (kindOf l 1) (countDue n l 1) (commMsg seed j) ≡ 0
   unfolding commMsg kindOf countDue
   comm-form n l = list-form (Items 32 0) 1 comm (omega arith) (λ t i. coded-hash (commitment seed j) (length-commitment seed j))
 
@@ -61,7 +62,7 @@ module _ (seed : List ℕ) (j : ℕ) where
   unfolding told commMsg
   told-comm =
       even-item (Items 32 0) 32 1 comm (λ t l. length-commitment seed j) (encode 1 comm)
-      (trip-whole (Items 32 0) 1 comm (omega arith) (λ t l. coded-hash (commitment seed j) (length-commitment seed j))) 0 (omega arith)
+      (trip (Items 32 0) 1 comm (omega arith) (λ t l. coded-hash (commitment seed j) (length-commitment seed j))) 0 (omega arith)
 
 pub cat-tab : (n : ℕ) (f : ℕ → ℕ) → cat n (λ t. f t ∷ []) ≡ tab n f
 unfolding cat tab
@@ -76,7 +77,7 @@ module _ (seed : List ℕ) where
   unfolding verMsg msgLen kindOf countDue
   ver-len n l = list-len n 1 0 32 byte (λ t i. refl)
 
-  ver-form : (n l : ℕ) → Reads (kindOf l 3) (countDue n l 3) (verMsg seed)
+  ver-form : (n l : ℕ) → formOf (kindOf l 3) (countDue n l 3) (verMsg seed) ≡ 0
   unfolding verMsg kindOf countDue
   ver-form n l = list-form (Items 1 0) 32 byte (omega arith) (λ t i. coded-byte (getD seed t 0))
 
@@ -148,8 +149,7 @@ module _ (R : Run) (X : Boxes R) where
   recv-1 = record {
     heard = record {
       lens = λ j r lj lr ne. comm-len (inputs j .seed) j n l;
-      formed = λ i j li lj ne. comm-form (inputs j .seed) j n l .form-is;
-      whole = λ i j li lj ne. comm-form (inputs j .seed) j n l .list-is;
+      formed = λ i j li lj ne. comm-form (inputs j .seed) j n l;
       judged = λ i li w K m M. refl;
     };
     keeps = λ i li w K m M. keep-one R (due 1) (before 3) i li K COMMS _ refl fit-comms (told-ext (box R i) _ _ M);
@@ -182,8 +182,7 @@ module _ (R : Run) (X : Boxes R) where
   recv-3 = record {
     heard = record {
       lens = λ j r lj lr ne. ver-len (inputs j .seed) n l;
-      formed = λ i j li lj ne. ver-form (inputs j .seed) n l .form-is;
-      whole = λ i j li lj ne. ver-form (inputs j .seed) n l .list-is;
+      formed = λ i j li lj ne. ver-form (inputs j .seed) n l;
       judged = λ i li w K m M.
           ap (λ (c : List ℕ). opening (box R i) c m .code) (comms-at R K refl)
           ∙ told-opens (box R i) _ (λ k. inputs k .seed) (λ k lk ne. refl) m (λ k lk ne. told-seed k lk (m k) (M k lk ne));
@@ -216,8 +215,7 @@ module _ (R : Run) (X : Boxes R) where
   recv-4 = record {
     heard = record {
       lens = λ j r lj lr ne. comm-len (pair j r) j n l;
-      formed = λ i j li lj ne. comm-form (pair j i) j n l .form-is;
-      whole = λ i j li lj ne. comm-form (pair j i) j n l .list-is;
+      formed = λ i j li lj ne. comm-form (pair j i) j n l;
       judged = λ i li w K m M. refl;
     };
     keeps = λ i li w K m M.
@@ -245,8 +243,7 @@ module _ (R : Run) (X : Boxes R) where
   recv-5 = record {
     heard = record {
       lens = λ j r lj lr ne. ver-len (pair j r) n l;
-      formed = λ i j li lj ne. ver-form (pair j i) n l .form-is;
-      whole = λ i j li lj ne. ver-form (pair j i) n l .list-is;
+      formed = λ i j li lj ne. ver-form (pair j i) n l;
       judged = λ i li w K m M.
           ap (λ (c : List ℕ). opening (box R i) c m .code) (pair-comms-at R K refl)
           ∙ told-opens (box R i) _ (λ k. pair k i) (λ k lk ne. refl) m (λ k lk ne. told-pair i k li lk (m k) (M k lk ne));

@@ -12,10 +12,10 @@ use Rattle.lists.specs.All.{all-turn, all-zero}
 use Rattle.block.specs.Block.{wordAt}
 use Rattle.block.specs.Trip.{word-drop}
 use Rattle.message.specs.declared.Kind.the-variants.{Items, Dvalues, Options}
-use Rattle.message.specs.Format.{bools, vecLen, itemLen, innerDue}
+use Rattle.message.specs.Format.{bools, vecLen, itemLen, itemOf, itemDue}
 use Rattle.message.specs.FormatLaws.{word-at, and-true, first-false, bools-false, bools-past, Held, vec-some, vec-none, vec-held}
 use Rattle.message.specs.FormatLaws.{vec-le, items-some, items-short, items-not, bucket-some, bucket-short, bucket-not, bucket-bare}
-use Rattle.message.specs.FormatLaws.{bucket-held}
+use Rattle.message.specs.FormatLaws.{bucket-held, bucket-due}
 
 -- ---- bools
 pub bools-none : (s : List ℕ) → bools 0 s ≡ true
@@ -90,19 +90,20 @@ inside-test total start len h = go (leb len (total - start)) refl
 
 -- ---- a bucket's two counts
 module _ (s : List ℕ) (at due : ℕ) where
-  pub due-not : (w : ℕ) → w ≡ wordAt s at → (w ≡ due → ⊥) → false ≡ innerDue (Dvalues due) (drop at s)
-  unfolding innerDue
-  due-not w e n =
-      sym (first-false (eqb (wordAt (drop at s) 0) due) _ (ne-eqb (wordAt (drop at s) 0) due (λ q. n (e ∙ sym (word-at s at) ∙ q))))
+  pub due-not : 0 < itemLen (Dvalues due) (drop at s) → (w : ℕ) → w ≡ wordAt s at → (w ≡ due → ⊥)
+      → false ≡ itemDue (Dvalues due) (itemOf (Dvalues due) (drop at s))
+  due-not h w e n =
+      sym (bucket-due due (drop at s) h
+      ∙ first-false (eqb (wordAt (drop at s) 0) due) _ (ne-eqb (wordAt (drop at s) 0) due (λ q. n (e ∙ sym (word-at s at) ∙ q))))
 
-  pub due-both : (w v : ℕ) → w ≡ wordAt s at → w ≡ due → v ≡ wordAt s (at + 8 + due) → eqb v due ≡ innerDue (Dvalues due) (drop at s)
-  unfolding innerDue
-  due-both w v e q f =
+  pub due-both : 0 < itemLen (Dvalues due) (drop at s) → (w v : ℕ) → w ≡ wordAt s at → w ≡ due → v ≡ wordAt s (at + 8 + due)
+      → eqb v due ≡ itemDue (Dvalues due) (itemOf (Dvalues due) (drop at s))
+  due-both h w v e q f =
       let p : wordAt (drop at s) 0 ≡ due = word-at s at ∙ sym e ∙ q in
       let k : wordAt (drop at s) (8 + wordAt (drop at s) 0) ≡ v =
       word-drop s at (8 + wordAt (drop at s) 0)
       ∙ ap (wordAt s) (let r : at + (8 + wordAt (drop at s) 0) ≡ at + 8 + due = omega (arith, p) in r) ∙ sym f in
-      sym (ap₂ (λ a b. eqb a due && eqb b due) p k ∙ ap (λ (b : Bool). b && eqb v due) (eq-eqb due due refl))
+      sym (bucket-due due (drop at s) h ∙ ap₂ (λ a b. eqb a due && eqb b due) p k ∙ ap (λ (b : Bool). b && eqb v due) (eq-eqb due due refl))
 
   -- the first list and the second's count lie within
   pub bucket-head : 0 < itemLen (Dvalues due) (drop at s) → at + 8 + wordAt s at + 8 ≤ length s

@@ -2,12 +2,14 @@
 use Rattle.lists.specs.Kit.{_≡_, refl, sym, ap, ap₂, subst, _∙_, List, Bool, true, false, _&&_, ℕ, _+_, _<_, _≤_, arith, length, drop}
 use lib.ListN.{length-drop}
 use lib.Dec.{ltb, eqb}
-use borrow.Author.Tests.{ltb-true, ltb-false, eqb-true}
+use borrow.Author.Tests.{ltb-true, ltb-false, eq-eqb, ne-eqb}
 use Rattle.lists.specs.Pick.{pick}
 use Rattle.lists.specs.All.{all-zero, all-turn}
 use Rattle.message.specs.declared.Kind.{Kind}
-use Rattle.message.specs.Format.{itemLen, itemAt, countOf, decodes, listLen, innerDue, innersDue, formOf}
-use Rattle.message.specs.FormatLaws.{item-le, at-zero, at-next, decoded, decodes-of, decodes-bad, list-some, list-none, form-bad}
+use Rattle.message.specs.Format.{itemLen, itemAt, countOf, decodes, itemOf, valueOf, Value, readOf, itemDue, formBy, formOf, usedOf}
+use Rattle.message.specs.Format.{dueOf}
+use Rattle.message.specs.FormatLaws.{item-le, at-zero, at-next, decoded, decodes-of, decodes-bad, used-some, read-none, read-some}
+use Rattle.message.specs.FormatLaws.{innersDue, counts-are}
 
 -- the first t items decode, and item t begins at pos
 pub record Walked (K : Kind) (m : List ℕ) (t pos : ℕ) : Type 0 where
@@ -50,32 +52,56 @@ module _ (K : Kind) (m : List ℕ) where
 module _ (K : Kind) (m : List ℕ) where
   pub inners-none : true ≡ innersDue K 0 m
   unfolding innersDue
-  inners-none = sym (all-zero (λ t. innerDue K (drop (itemAt K m t) m)))
+  inners-none = sym (all-zero (λ t. itemDue K (itemOf K (drop (itemAt K m t) m))))
 
-  pub inners-turn : (t pos : ℕ) → Walked K m t pos → (a b : Bool) → a ≡ innersDue K t m → b ≡ innerDue K (drop pos m)
+  pub inners-turn : (t pos : ℕ) → Walked K m t pos → (a b : Bool) → a ≡ innersDue K t m → b ≡ itemDue K (itemOf K (drop pos m))
       → (a && b) ≡ innersDue K (t + 1) m
   unfolding innersDue
   inners-turn t pos w a b ea eb =
-      ap₂ _&&_ ea (eb ∙ ap (λ x. innerDue K (drop x m)) (w .here)) ∙ sym (all-turn t (λ t. innerDue K (drop (itemAt K m t) m)))
+      ap₂ _&&_ ea (eb ∙ ap (λ x. itemDue K (itemOf K (drop x m))) (w .here))
+      ∙ sym (all-turn t (λ t. itemDue K (itemOf K (drop (itemAt K m t) m))))
 
 -- ---- what the reader tells
 module _ (K : Kind) (count : ℕ) (m : List ℕ) where
-  pub read-bad : decodes K m ≡ false → (13 ≡ formOf K count m) × (0 ≡ listLen K m)
-  read-bad e = (sym (form-bad K count m e), sym (list-none K m e))
+  pub read-bad : decodes K m ≡ false → (0 ≡ usedOf (readOf K m)) × (false ≡ dueOf K count (readOf K m))
+  unfolding usedOf dueOf
+  read-bad e = (sym (ap usedOf (read-none K m e)), sym (ap (dueOf K count) (read-none K m e)))
 
-  pub read-end : (t pos found code : ℕ) (inner : Bool) → Walked K m t pos → 8 ≤ length m → t ≡ found → found ≡ countOf m
-      → inner ≡ innersDue K t m → code ≡ pick (eqb found count && inner) 0 6 → (code ≡ formOf K count m) × (pos ≡ listLen K m)
-  unfolding formOf
-  read-end t pos found code inner w h e f i c = (
-    c ∙ go (eqb found count) refl ∙ ap (λ n. pick (eqb n count && innersDue K count m) 0 6) f
-        ∙ sym (ap (λ b. pick b (pick (eqb (countOf m) count && innersDue K count m) 0 6) 13) d),
-    w .here ∙ ap (itemAt K m) (e ∙ f) ∙ sym (list-some K m d),
+  pub read-end : (t pos found : ℕ) (inner : Bool) → Walked K m t pos → 8 ≤ length m → t ≡ found → found ≡ countOf m
+      → inner ≡ innersDue K t m → (pos ≡ usedOf (readOf K m)) × ((eqb found count && inner) ≡ dueOf K count (readOf K m))
+  unfolding usedOf dueOf
+  read-end t pos found inner w h e f i = (
+    w .here ∙ ap (itemAt K m) (e ∙ f) ∙ sym (ap usedOf r),
+    ap₂ (λ (n : ℕ) (b : Bool). eqb n count && b) f (i ∙ ap (λ n. innersDue K n m) (e ∙ f)) ∙ sym (counts-are K count m)
+        ∙ sym (ap (dueOf K count) r),
   )
     where
-      d : decodes K m ≡ true
-      d = decodes-of K m (record { head = h; item = λ j l. w .items j (omega arith) })
+      r : readOf K m ≡ Value (valueOf K m) (itemAt K m (countOf m))
+      r = read-some K m (decodes-of K m (record { head = h; item = λ j l. w .items j (omega arith) }))
 
-      go : (b : Bool) → eqb found count ≡ b
-          → _≡_ {A = ℕ} (pick (eqb found count && inner) 0 6) (pick (eqb found count && innersDue K count m) 0 6)
-      go true q = ap (λ x. pick (eqb found count && x) 0 6) (i ∙ ap (λ n. innersDue K n m) (e ∙ eqb-true found count q))
-      go false q = rw q refl
+  -- ---- 13, 21, 6 or 0
+  module _ (used : ℕ) (due : Bool) (eu : used ≡ usedOf (readOf K m)) (ed : due ≡ dueOf K count (readOf K m)) where
+    pub form-none : used ≡ 0 → 13 ≡ formOf K count m
+    unfolding formOf formBy usedOf
+    form-none z = go (decodes K m) refl
+      where
+        go : (b : Bool) → decodes K m ≡ b → 13 ≡ formOf K count m
+        go false e = sym (ap (formBy K count (length m)) (read-none K m e))
+        go true e = absurd (omega (arith, used-some K m e, eu ∙ ap usedOf (read-some K m e), z))
+
+    form-some : (used ≡ 0 → ⊥) → pick (eqb used (length m)) (pick due 0 6) 21 ≡ formOf K count m
+    unfolding formOf formBy usedOf dueOf
+    form-some ne = go (decodes K m) refl
+      where
+        go : (b : Bool) → decodes K m ≡ b → pick (eqb used (length m)) (pick due 0 6) 21 ≡ formOf K count m
+        go false e = absurd (ne (eu ∙ ap usedOf (read-none K m e)))
+        go true e =
+            let r = read-some K m e in
+            ap₂ (λ (n : ℕ) (b : Bool). pick (eqb n (length m)) (pick b 0 6) 21) (eu ∙ ap usedOf r) (ed ∙ ap (dueOf K count) r)
+            ∙ sym (ap (formBy K count (length m)) r)
+
+    pub form-after : (used ≡ 0 → ⊥) → (used ≡ length m → ⊥) → 21 ≡ formOf K count m
+    form-after ne n = sym (ap (λ (b : Bool). pick b (pick due 0 6) 21) (ne-eqb used (length m) n)) ∙ form-some ne
+
+    pub form-whole : (used ≡ 0 → ⊥) → used ≡ length m → (x : ℕ) → pick due 0 6 ≡ x → x ≡ formOf K count m
+    form-whole ne e x p = sym p ∙ sym (ap (λ (b : Bool). pick b (pick due 0 6) 21) (eq-eqb used (length m) e)) ∙ form-some ne

@@ -12,13 +12,15 @@ use lib.Seq.{getD-drop}
 use lib.Dec.{ltb, leb, eqb}
 use borrow.Author.Tests.{lt-ltb, le-ltb, le-leb, lt-leb, eq-eqb, ne-eqb, ltb-true, ltb-false, leb-true, leb-false, eqb-true, eqb-false}
 use Rattle.lists.specs.Pick.{pick, pick-then}
-use Rattle.lists.specs.All.{all-of, of-all, all-false, and-first, and-second}
+use Rattle.lists.specs.All.{allOf, all-of, of-all, all-false, all-ext, and-first, and-second}
+use Rattle.lists.specs.Over.{length-tab, getD-tab}
+use Rattle.lists.specs.Sect.{length-get}
 use Rattle.block.specs.Block.{wordAt}
 use Rattle.block.specs.Trip.{word-drop}
 use Rattle.message.specs.declared.Kind.{Kind}
 use Rattle.message.specs.declared.Kind.the-variants.{Items, Dms, Dvalues, Options}
-use Rattle.message.specs.Format.{bools, vecLen, bothLen, itemLen, itemAt, countOf, decodes, listLen, listOf, innerDue, innersDue}
-use Rattle.message.specs.Format.{formOf}
+use Rattle.message.specs.Format.{bools, vecLen, bothLen, itemLen, itemAt, countOf, decodes, Absent, bits, itemOf, valueOf}
+use Rattle.message.specs.Format.{Decoding, Undecoded, Value, readOf, bothDue, itemDue, countsDue, formBy, formOf, usedOf, dueOf}
 
 -- ---- two tests at once
 pub and-true : (a b : Bool) → a ≡ true → b ≡ true → (a && b) ≡ true
@@ -195,6 +197,16 @@ module _ (due : ℕ) (s : List ℕ) where
   pub bucket-le : (w : Bucket due s) → itemLen (Dvalues due) s ≤ length s
   bucket-le w = omega (arith, bucket-bytes w, w .ds .fits, w .macs .fits, length-drop (8 + wordAt s 0) s)
 
+-- the counts of a bucket's lists, as the bytes tell them
+pub bucket-due : (due : ℕ) (s : List ℕ) → 0 < itemLen (Dvalues due) s
+    → itemDue (Dvalues due) (itemOf (Dvalues due) s) ≡ (eqb (wordAt s 0) due && eqb (wordAt s (8 + wordAt s 0)) due)
+unfolding itemDue bothDue itemOf bits
+bucket-due due s h =
+    let w = bucket-held due s h in
+    ap₂ (λ a b. eqb a due && eqb b due)
+    (length-tab (length (take (wordAt s 0) (drop 8 s))) _ ∙ length-get 8 (wordAt s 0) s (omega (arith, w .ds .fits)))
+    (length-tab (wordAt s (8 + wordAt s 0)) _)
+
 option-le : (s : List ℕ) → itemLen Options s ≤ length s
 unfolding itemLen
 option-le s = go (ltb 0 (length s)) refl (eqb (getD s 0 0) 0) (eqb (getD s 0 0) 1) (leb 17 (length s)) refl
@@ -280,48 +292,82 @@ module _ (K : Kind) (m : List ℕ) where
       go true e = absurd (omega (arith, at-ge (countOf m) (decoded e .item), at-le (decoded e .head) (countOf m)))
       go false e = refl
 
-  pub list-some : decodes K m ≡ true → listLen K m ≡ itemAt K m (countOf m)
-  unfolding listLen
-  list-some e = ap (λ (b : Bool). pick b (itemAt K m (countOf m)) 0) e
+  -- an item takes a byte at least, and the count eight
+  pub used-some : decodes K m ≡ true → 0 < itemAt K m (countOf m)
+  used-some e = omega (arith, at-ge (countOf m) (decoded e .item))
 
-  pub list-none : decodes K m ≡ false → listLen K m ≡ 0
-  unfolding listLen
-  list-none e = ap (λ (b : Bool). pick b (itemAt K m (countOf m)) 0) e
+  -- ---- what is read
+  pub read-none : decodes K m ≡ false → readOf K m ≡ Undecoded
+  unfolding readOf
+  read-none e = ap (λ (b : Bool). pick b (Value (valueOf K m) (itemAt K m (countOf m))) Undecoded) e
 
-  pub list-le : listLen K m ≤ length m
-  list-le = go (decodes K m) refl
-    where
-      go : (b : Bool) → decodes K m ≡ b → listLen K m ≤ length m
-      go true e = omega (arith, list-some e, at-le (decoded e .head) (countOf m))
-      go false e = omega (arith, list-none e)
+  pub read-some : decodes K m ≡ true → readOf K m ≡ Value (valueOf K m) (itemAt K m (countOf m))
+  unfolding readOf
+  read-some e = ap (λ (b : Bool). pick b (Value (valueOf K m) (itemAt K m (countOf m))) Undecoded) e
+
+  pub value-count : length (valueOf K m) ≡ countOf m
+  unfolding valueOf
+  value-count = length-tab (countOf m) (λ t. itemOf K (drop (itemAt K m t) m))
+
+  pub value-item : (t : ℕ) → t < countOf m → getD (valueOf K m) t Absent ≡ itemOf K (drop (itemAt K m t) m)
+  unfolding valueOf
+  value-item t l = getD-tab (countOf m) t (λ t. itemOf K (drop (itemAt K m t) m)) Absent l
+
+-- the first t items of m have the inner counts that are due
+unfoldable pub innersDue : Kind → ℕ → List ℕ → Bool
+innersDue K t m = allOf t (λ j. itemDue K (itemOf K (drop (itemAt K m j) m)))
+
+-- the value's counts, as the bytes tell them
+pub counts-are : (K : Kind) (count : ℕ) (m : List ℕ)
+    → countsDue K count (valueOf K m) ≡ (eqb (countOf m) count && innersDue K (countOf m) m)
+unfolding countsDue innersDue
+counts-are K count m =
+    ap₂ (λ (c : ℕ) (b : Bool). eqb c count && b) (value-count K m)
+    (ap (λ c. allOf c (λ t. itemDue K (getD (valueOf K m) t Absent))) (value-count K m)
+    ∙ all-ext (countOf m) _ _ (λ t l. ap (itemDue K) (value-item K m t l)))
 
 -- ---- a message of the right form
 pub record Formed (K : Kind) (count : ℕ) (m : List ℕ) : Type 0 where
   pub decodes-is : decodes K m ≡ true
+  pub used-is : itemAt K m (countOf m) ≡ length m
   pub count-is : countOf m ≡ count
   pub inner-is : innersDue K count m ≡ true
 
 module _ (K : Kind) (count : ℕ) (m : List ℕ) where
   pub form-bad : decodes K m ≡ false → formOf K count m ≡ 13
-  unfolding formOf
-  form-bad e = ap (λ (b : Bool). pick b (pick (eqb (countOf m) count && innersDue K count m) 0 6) 13) e
+  unfolding formOf formBy
+  form-bad e = ap (formBy K count (length m)) (read-none K m e)
+
+  -- of a message that decodes: 21, 6 or 0
+  pub form-read : decodes K m ≡ true → formOf K count m
+      ≡ pick (eqb (itemAt K m (countOf m)) (length m)) (pick (eqb (countOf m) count && innersDue K (countOf m) m) 0 6) 21
+  unfolding formOf formBy
+  form-read e =
+      ap (formBy K count (length m)) (read-some K m e)
+      ∙ ap (λ (b : Bool). pick (eqb (itemAt K m (countOf m)) (length m)) (pick b 0 6) 21) (counts-are K count m)
 
   pub form-of : Formed K count m → formOf K count m ≡ 0
-  unfolding formOf
   form-of w =
-      ap₂ (λ (a b : Bool). pick a (pick b 0 6) 13) (w .decodes-is)
-      (and-true (eqb (countOf m) count) (innersDue K count m) (eq-eqb (countOf m) count (w .count-is)) (w .inner-is))
+      form-read (w .decodes-is)
+      ∙ ap₂ (λ (a b : Bool). pick a (pick b 0 6) 21) (eq-eqb (itemAt K m (countOf m)) (length m) (w .used-is))
+      (and-true (eqb (countOf m) count) (innersDue K (countOf m) m) (eq-eqb (countOf m) count (w .count-is))
+      (ap (λ c. innersDue K c m) (w .count-is) ∙ w .inner-is))
 
   pub formed : formOf K count m ≡ 0 → Formed K count m
-  unfolding formOf
-  formed h =
-      let p = pick-then (decodes K m) _ 13 0 (λ e. omega arith) h in
-      let q = pick-then (eqb (countOf m) count && innersDue K count m) 0 6 0 (λ e. omega arith) (p .1) in
-      record {
-        decodes-is = p .0;
-        count-is = eqb-true (countOf m) count (and-first (eqb (countOf m) count) (innersDue K count m) (q .0));
-        inner-is = and-second (eqb (countOf m) count) (innersDue K count m) (q .0);
-      }
+  formed h = go (decodes K m) refl
+    where
+      go : (b : Bool) → decodes K m ≡ b → Formed K count m
+      go false e = absurd (omega (arith, form-bad e, h))
+      go true e =
+          let p = pick-then (eqb (itemAt K m (countOf m)) (length m)) _ 21 0 (λ e. omega arith) (sym (form-read e) ∙ h) in
+          let q = pick-then (eqb (countOf m) count && innersDue K (countOf m) m) 0 6 0 (λ e. omega arith) (p .1) in
+          let c : countOf m ≡ count = eqb-true (countOf m) count (and-first (eqb (countOf m) count) (innersDue K (countOf m) m) (q .0)) in
+          record {
+            decodes-is = e;
+            used-is = eqb-true (itemAt K m (countOf m)) (length m) (p .0);
+            count-is = c;
+            inner-is = ap (λ k. innersDue K k m) (sym c) ∙ and-second (eqb (countOf m) count) (innersDue K (countOf m) m) (q .0);
+          }
 
 -- ---- items of a fixed size
 pub level-at : (K : Kind) (m : List ℕ) (size t : ℕ) → ((j : ℕ) → j < t → itemLen K (drop (itemAt K m j) m) ≡ size)
@@ -342,10 +388,8 @@ pub record Fixed (size c count : ℕ) (m : List ℕ) : Type 0 where
   pub fits : 8 + count * size ≤ length m
   pub at : (t : ℕ) → t ≤ count → itemAt (Items size c) m t ≡ 8 + t * size
   pub bits : (t k : ℕ) → t < count → k < c → getD m (8 + t * size + k) 0 ≤ 1
-  pub list-is : listOf (Items size c) m ≡ take (8 + count * size) m
 
 pub fixed : (size c count : ℕ) (m : List ℕ) → formOf (Items size c) count m ≡ 0 → Fixed size c count m
-unfolding listOf
 fixed size c count m h = record {
   count-is = w .count-is;
   fits = omega (arith, starts count (omega arith), at-le (Items size c) m (d .head) count);
@@ -353,7 +397,6 @@ fixed size c count m h = record {
   bits = λ t k l j. let p = items-held size c (drop (itemAt (Items size c) m t) m) (held t l) in
       subst (λ a. a ≤ 1) (getD-drop (itemAt (Items size c) m t) m k 0 ∙ ap (λ a. getD m (a + k) 0) (starts t (omega arith)))
       (of-bools (drop (itemAt (Items size c) m t) m) c (p .bits) k j);
-  list-is = ap (λ n. take n m) (list-some (Items size c) m (w .decodes-is) ∙ ap (itemAt (Items size c) m) (w .count-is) ∙ starts count (omega arith));
 }
   where
     w : Formed (Items size c) count m
@@ -431,7 +474,7 @@ pub record Buckets (due count : ℕ) (m : List ℕ) : Type 0 where
   pub bits : (t k : ℕ) → t < count → k < due → getD m (8 + t * (16 + due * 17) + 8 + k) 0 ≤ 1
 
 pub buckets : (due count : ℕ) (m : List ℕ) → formOf (Dvalues due) count m ≡ 0 → Buckets due count m
-unfolding innersDue innerDue
+unfolding innersDue
 buckets due count m h = record {
   count-is = w .count-is;
   fits = omega (arith, starts count (omega arith), formed-at K count m h count);
@@ -449,8 +492,9 @@ buckets due count m h = record {
     s : ℕ → List ℕ
     s t = drop (itemAt K m t) m
 
-    both : (t : ℕ) → t < count → innerDue K (s t) ≡ true
-    both = of-all count (λ t. innerDue K (s t)) (w .inner-is)
+    both : (t : ℕ) → t < count → (eqb (wordAt (s t) 0) due && eqb (wordAt (s t) (8 + wordAt (s t) 0)) due) ≡ true
+    both t l =
+        sym (bucket-due due (s t) (formed-item K count m h t l)) ∙ of-all count (λ t. itemDue K (itemOf K (s t))) (w .inner-is) t l
 
     first : (t : ℕ) → t < count → wordAt (s t) 0 ≡ due
     first t l =

@@ -1,12 +1,10 @@
 // Messages read: bincode legacy lists (document 01, "Messages"), where they lie in the incoming buffer. One reader for every kind of list,
-// and one walk over a message: it answers 13, 6 or nothing wrong, and how long the list is; `part` hands back the part of the buffer that
-// holds it. The crate encode writes them. From src/channel.rs (list checks) and src/utils/serde.rs of polytune.
+// and one walk over a message: it tells the length used, and `form_of` 13, 21, 6 or nothing wrong; `part` hands back the part of the buffer
+// that holds a message. The crate encode writes them. From src/channel.rs (list checks) and src/utils/serde.rs of polytune.
 ghost use mathlib.Core.Path.{_≡_};
-ghost use mathlib.Core.Bool.{true, _&&_};
+ghost use mathlib.Core.Bool.{true};
 ghost use Prim.Native.Nat.{ℕ, _+_, _<_, _≤_, min};
 ghost use lib.ListN.{length, drop};
-ghost use lib.Dec.{eqb};
-ghost use Rattle.lists.specs.Pick.{pick};
 ghost use Rattle.lists.specs.Sect.{get};
 ghost use Rattle.message.specs.Format as F;
 ghost use Rattle.message.specs.Read as R;
@@ -144,7 +142,7 @@ pub fn item_at(kind: Kind, m: &[u8], t: usize) -> usize
 // Both lists of the bucket at `at` have `due` elements.
 fn bucket_due(s: &[u8], at: usize, due: usize) -> bool
     requires { ⌜ (at ≤ length (now s)) × (0 < F.itemLen (Kind.Dvalues due) (drop at (now s))) ⌝ }
-    ensures { λ r. ⌜ r ≡ F.innerDue (Kind.Dvalues due) (drop at (now (s .entry))) ⌝ }
+    ensures { λ r. ⌜ r ≡ F.itemDue (Kind.Dvalues due) (F.itemOf (Kind.Dvalues due) (drop at (now (s .entry)))) ⌝ }
 {
     let ds = block::load64(s, at);
     if ds != due as u64 {
@@ -156,7 +154,7 @@ fn bucket_due(s: &[u8], at: usize, due: usize) -> bool
 // The inner lists of the item at `at` have the counts that are due.
 fn inner_due(kind: Kind, s: &[u8], at: usize) -> bool
     requires { ⌜ (at ≤ length (now s)) × (0 < F.itemLen kind (drop at (now s))) ⌝ }
-    ensures { λ r. ⌜ r ≡ F.innerDue kind (drop at (now (s .entry))) ⌝ }
+    ensures { λ r. ⌜ r ≡ F.itemDue kind (F.itemOf kind (drop at (now (s .entry)))) ⌝ }
 {
     match kind {
         Kind::Items(_, _) => true,
@@ -166,30 +164,21 @@ fn inner_due(kind: Kind, s: &[u8], at: usize) -> bool
     }
 }
 
-// What is read of a message: 13 if it doesn't decode, 6 if a count isn't the one due, else 0; and the bytes of the list that it begins
-// with, its count included, 0 if it doesn't decode.
+// What is read of a message: the length used, its count included, 0 if it doesn't decode; and whether the counts are those due.
 pub struct Reading {
-    pub code: u8,
     pub used: usize,
-}
-
-// 6 if the list or an inner list has another count than the one due, else 0.
-fn count_code(found: u64, count: usize, inner: bool) -> u8
-    ensures { λ r. ⌜ r ≡ pick (eqb found count && inner) 0 6 ⌝ }
-{
-    if (found == count as u64) & inner {
-        0
-    } else {
-        6
-    }
+    pub due: bool,
 }
 
 // The reader. Every item takes at least a byte, so the work is bounded by m's length, whatever the count says.
 pub fn read(kind: Kind, count: usize, m: &[u8]) -> Reading
-    ensures { λ r. ⌜ (r .code ≡ F.formOf kind count (now (m .entry))) × (r .used ≡ F.listLen kind (now (m .entry))) ⌝ }
+    ensures { λ r. ⌜ (r .used ≡ F.usedOf (F.readOf kind (now (m .entry)))) × (r .due ≡ F.dueOf kind count (F.readOf kind (now (m .entry)))) ⌝ }
 {
     if m.len() < 8 {
-        return Reading { code: 13, used: 0 };
+        return Reading {
+            used: 0,
+            due: false,
+        };
     }
     let found = block::load64(m, 0);
     let mut inner = true;
@@ -198,16 +187,33 @@ pub fn read(kind: Kind, count: usize, m: &[u8]) -> Reading
     while t < found {
         let len = item_len(kind, m, pos);
         if len == 0 {
-            return Reading { code: 13, used: 0 };
+            return Reading {
+                used: 0,
+                due: false,
+            };
         }
         inner = inner & inner_due(kind, m, pos);
         pos += len;
         t += 1;
     }
     Reading {
-        code: count_code(found, count, inner),
         used: pos,
+        due: (found == count as u64) & inner,
     }
+}
+
+// 13, 21 or 6 of a message, else 0: it decodes, ends where its value ends, and has the counts that are due.
+pub fn form_of(kind: Kind, count: usize, m: &[u8]) -> u8
+    ensures { λ r. ⌜ r ≡ F.formOf kind count (now (m .entry)) ⌝ }
+{
+    let r = read(kind, count, m);
+    if r.used == 0 {
+        return 13;
+    }
+    if r.used != m.len() {
+        return 21;
+    }
+    if r.due { 0 } else { 6 }
 }
 
 // A part of `len` bytes from `start` lies within a buffer of `total` bytes.

@@ -25,8 +25,8 @@ use Rattle.message.specs.Format.{itemAt}
 use Rattle.share.specs.Share.{recordOf}
 use Rattle.plan.specs.Plan.{leaky, dmLen}
 use Rattle.engine.specs.declared.Frame.{Frame}
-use Rattle.engine.specs.Step.{Fault, mask, orElse, byParty}
-use Rattle.engine.specs.StepLaws.{other-cases, mask-at, scan-ext}
+use Rattle.engine.specs.Step.{Fault, mask, orElse}
+use Rattle.engine.specs.StepLaws.{other-cases, mask-at, by-ext}
 use Rattle.rounds.specs.Area.{SEED, PAIRS, MASKS, BITS, ALPHA, BETA, COMMS, JOINT, PAIR-COMMS, PAIRWISE, KEY-SUMS, SHARE-COMMS, DMS, LEAKY}
 use Rattle.rounds.specs.Area.{ZS, ES, HS, H-COMMS, PERM, DS, TRIPLES, at, keep, rows, firstOf}
 use Rattle.rounds.specs.Toss as Toss
@@ -43,10 +43,6 @@ rows-ext : (f : Frame) (c : ℕ) (g h : ℕ → List ℕ) → ((k : ℕ) → k <
 unfolding rows
 rows-ext f c g h e =
     cat-ext (f .n) _ _ (λ k l. other-cases f k (λ b. pick b (g k) (replicate c 0) ≡ pick b (h k) (replicate c 0)) (λ l′ ne. e k l′ ne) refl)
-
-by-ext : (f : Frame) (c d : ℕ → ℕ) → ((k : ℕ) → k < f .n → f .i ≢ k → c k ≡ d k) → byParty f c ≡ byParty f d
-unfolding byParty
-by-ext f c d h = scan-ext (f .n) _ _ (λ k l. other-cases f k (λ b. pick b (c k) 0 ≡ pick b (d k) 0) (λ l′ ne. h k l′ ne) refl)
 
 first-ext : (c : ℕ) (g h : ℕ → Fault) → ((j : ℕ) → j < c → g j ≡ h j) → firstOf c g ≡ firstOf c h
 unfolding firstOf

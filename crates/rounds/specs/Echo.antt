@@ -11,7 +11,7 @@ use Rattle.algebra.specs.Sum.{neq}
 use Rattle.blake3.specs.Tree.{hash}
 use Rattle.blake3.specs.Firsts.{firsts}
 use Rattle.message.specs.declared.Kind.the-variants.{Options}
-use Rattle.message.specs.Format.{listOf, itemAt, formOf}
+use Rattle.message.specs.Format.{itemAt, formOf}
 use Rattle.encode.specs.Encode.{encode}
 use Rattle.plan.specs.Plan.{FABITN, FLAAND, msgLen}
 use Rattle.engine.specs.Step.{scan}
@@ -37,4 +37,4 @@ unfoldable pub echoFault : ℕ → ℕ → ℕ → List ℕ → List ℕ → ℕ
 echoFault n i j rows m = scan n (λ k. pick (neq i k && neq j k) (entryFault rows m k) 0) .code
 
 unfoldable pub echo : Echo
-echo = record { len = λ n. msgLen n 1 2; form = formOf Options; list = listOf Options; write = echoMsg; fault = echoFault }
+echo = record { len = λ n. msgLen n 1 2; form = formOf Options; write = echoMsg; fault = echoFault }

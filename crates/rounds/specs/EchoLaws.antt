@@ -25,7 +25,7 @@ use Rattle.blake3.specs.Firsts.{firsts}
 use Rattle.blake3.specs.ByteLaws.{length-bytes, bytes-bytes}
 use Rattle.message.specs.declared.Kind.{Kind}
 use Rattle.message.specs.declared.Kind.the-variants.{Options}
-use Rattle.message.specs.Format.{listLen, itemLen, itemAt, formOf}
+use Rattle.message.specs.Format.{itemLen, itemAt, formOf}
 use Rattle.message.specs.FormatLaws.{formed-item, Entry, entry-held}
 use Rattle.encode.specs.Encode.{noneItem, someItem}
 use Rattle.plan.specs.Plan as Plan

@@ -21,7 +21,7 @@ use Rattle.message.specs.declared.Kind.the-variants.{Dms}
 use Rattle.message.specs.Format.{itemAt}
 use Rattle.plan.specs.Plan.{leaky, dmLen}
 use Rattle.engine.specs.declared.Frame.{Frame}
-use Rattle.engine.specs.Step.{Lent, Fault, none?, other, mask, heard, orElse, scan, byParty, faultOf}
+use Rattle.engine.specs.Step.{Lent, Fault, none?, other, mask, part, orElse, scan, byParty, faultOf}
 use Rattle.engine.specs.Plain.{waiting, isEcho, toEcho, pending, echoCheck, checkOf, ruleOf}
 use Rattle.engine.specs.Area.{mem}
 use Rattle.rounds.specs.Area.{firstOf}
@@ -206,7 +206,7 @@ fault-named f h k q w =
     (named-pick (f .n) (toEcho Table.table (eqb (f .n) 2) k) _ _ (named-none (f .n)) (judged (Table.judge k f w m) (judge-found f h k w m))))
   where
     m : ℕ → List ℕ
-    m = mask f (heard (ruleOf Table.table k) f q)
+    m = mask f (part q)
 
     judged : (e : Fault) → Found (Table.faults k) (f .n) e → Named (f .n) e
     judged e d = unfold Named Found in λ ne. d ne .1

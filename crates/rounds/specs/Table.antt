@@ -10,10 +10,9 @@ use Rattle.block.specs.declared.Block.{Block}
 use Rattle.block.specs.Block.{blockAt}
 use Rattle.share.specs.Record.{recordLen}
 use Rattle.permutation.specs.Permutation.{isPerm}
-use Rattle.message.specs.Format.{listOf, formOf}
+use Rattle.message.specs.Format.{formOf}
 use Rattle.plan.specs.Plan.{RNG-COMM, RNG-VER, PAIR-COMM, PAIR-VER, FABITN, FASHARE-COMM, FASHARE-VER, FASHARE-DIBI, HAAND, FLAAND}
-use Rattle.plan.specs.Plan.{FLAAND-COMM, FLAAND-HASH}
-use Rattle.plan.specs.Plan.{DVALUE, FAAND, theRounds, kindOf, countDue, msgLen, leaky, rLen}
+use Rattle.plan.specs.Plan.{FLAAND-COMM, FLAAND-HASH, DVALUE, FAAND, theRounds, kindOf, countDue, msgLen, leaky, rLen}
 use Rattle.engine.specs.declared.Frame.{Frame}
 use Rattle.engine.specs.Step.{Fault, none?, Loan}
 use Rattle.engine.specs.Plain.{Recv, Send, Table}
@@ -84,7 +83,6 @@ faults k =
 abbrev pub recv : ℕ → Recv
 recv k = record {
   form = λ f m. formOf (kindOf (f .l) k) (countDue (f .n) (f .l) k) m;
-  list = λ f m. listOf (kindOf (f .l) k) m;
   judge = judge k;
   faults = faults k;
   keep = kept k;

@@ -7,7 +7,7 @@ use lib.ListN.{length, replicate}
 use lib.Dec.{eqb}
 use Rattle.plan.specs.Plan.{nextRound}
 use Rattle.engine.specs.declared.Session.{Session}
-use Rattle.engine.specs.Step.{Lent, Accepted, Refused, outcome, mask, heard, reasonOf, faultOf, ended, refused, faulted, accepted}
+use Rattle.engine.specs.Step.{Lent, Accepted, Refused, outcome, mask, part, reasonOf, faultOf, ended, refused, faulted, accepted}
 use Rattle.engine.specs.Step.{roundSpec}
 use Rattle.engine.specs.StepLaws.{round-refuses, round-faults, round-accepts}
 use Rattle.engine.specs.Plain.{nextOf, ruleOf, protocolOf, keepOf, writeOf}
@@ -36,7 +36,7 @@ module _ (s : Session) (k : ℕ) (q : Lent) (w : List ℕ) where
 
     -- accepted
     pub call-accepted : faultOf (ruleOf table k) (s .party) q w .code ≡ 0 → (next : ℕ) → next ≡ nextRound (s .party .n) k
-        → (m : ℕ → List ℕ) → m ≡ mask (s .party) (heard (ruleOf table k) (s .party) q) → (v o : List ℕ)
+        → (m : ℕ → List ℕ) → m ≡ mask (s .party) (part q) → (v o : List ℕ)
         → v ≡ keepOf table k (s .party) (q .loan) w m → o ≡ writeOf table k (s .party) (q .loan) w m
         → outcome (record { party = s .party; due = next }) Accepted v o ≡ roundSpec (protocolOf table) s k q w
     unfolding accepted

@@ -1,5 +1,5 @@
 // The round call (document 01, "The call"): it joins what the crates below do for each round. First what is refused and leaves all as it
-// was (20, 19, 17, 18), then the form of each message (14, 13, 6), then the content; an accepted call keeps what it received and writes the
+// was (20, 19, 17, 18), then the form of each message (14, 13, 21, 6), then the content; an accepted call keeps what it received and writes the
 // messages of the next round, or the results. The definition is `roundSpec` of crate engine at the table of crate rounds.
 ghost use mathlib.Core.Path.{_≡_};
 ghost use mathlib.Core.Bool.{true, false};
@@ -9,7 +9,7 @@ ghost use lib.ListN.{length, replicate};
 ghost use lib.Dec.{eqb};
 ghost use Rattle.lists.specs.Pick.{pick};
 ghost use Rattle.share.specs.Record.{recordLen};
-ghost use Rattle.plan.specs.Plan.{echo?, kindOf, msgLen};
+ghost use Rattle.plan.specs.Plan.{echo?, msgLen};
 ghost use Rattle.engine.specs.Step.{mask, replyOf, outcome, faultOf, roundSpec};
 ghost use Rattle.engine.specs.Plain.{protocolOf, ruleOf, toEcho, outLenOf, lentOf, digests, hashes, checkOf, forEcho, made, keepOf, writeOf};
 ghost use Rattle.engine.specs.Area.{toOthers};
@@ -18,14 +18,13 @@ ghost use Rattle.rounds.specs.FaultLaws.{Finds};
 ghost use Rattle.rounds.specs.Table as Table;
 ghost use Rattle.rounds.specs.Table.{table};
 ghost use Rattle.area.specs.Given.{Work};
-ghost use Rattle.admit.specs.Admit.{loan, given, mailOf};
+ghost use Rattle.admit.specs.Admit.{loan, given, posted};
 ghost use Rattle.plain.specs.Plain.{plain};
 ghost use Rattle.session.specs.Given.{Let, Admitted};
 use engine::Answer;
 use engine::Frame;
 use engine::Session;
 use engine::Verdict;
-use form::Heard;
 use rounds::Fault;
 use rounds::Mail;
 
@@ -146,33 +145,17 @@ fn step(
     }
 }
 
-// A received fault: of form, party by party, then of content; without one, where the lists lie.
-fn fault(
-    work: &[u8],
-    incoming: &[u8],
-    starts: &[usize],
-    lens: &[usize],
-    missing: &[u8],
-    f: Frame,
-    k: usize,
-) -> Heard
-    requires { ⌜ Admitted f k (now work) (now incoming) (now starts) (now lens) (now missing) ⌝ }
-    ensures { λ e. ⌜ (((r perm out : List ℕ) → Finds (e .code) (e .party) (faultOf (ruleOf table k) f
-        (given (now (incoming .entry)) (now (starts .entry)) (now (lens .entry)) (now (missing .entry)) r perm out) (now (work .entry)))))
-        × (e .code ≡ 0 → e .mail ≡ mailOf f (kindOf (f .l) k)
-        (given (now (incoming .entry)) (now (starts .entry)) (now (lens .entry)) (now (missing .entry)) [] [] [])) ⌝ }
+// A received fault: of form, party by party, then of content.
+fn fault(work: &[u8], incoming: &[u8], mail: Mail, missing: &[u8], f: Frame, k: usize) -> Fault
+    requires { ⌜ Admitted f k (now work) (now incoming) mail (now missing) ⌝ }
+    ensures { λ e. ⌜ Finds (e .code) (e .party)
+        (faultOf (ruleOf table k) f (posted (now (incoming .entry)) mail (now (missing .entry))) (now (work .entry))) ⌝ }
 {
-    let h = form::form(incoming, starts, lens, missing, f, k);
-    if h.code != 0 {
-        return h;
+    let e = form::form(incoming, mail, missing, f, k);
+    if e.code != 0 {
+        return e;
     }
-    let mail = h.mail;
-    let e = content(work, incoming, mail, f, k);
-    Heard {
-        code: e.code,
-        party: e.party,
-        mail: mail,
-    }
+    content(work, incoming, mail, f, k)
 }
 
 // The call for round k of the session s, with the messages of the other parties: each in the incoming buffer from its start on, as long as
@@ -201,7 +184,9 @@ pub fn round(
             verdict: Verdict::Refused(code, f.i),
         };
     }
-    let e = fault(work, incoming, starts, lens, missing, f, k);
+    let n = f.n;
+    let mail = form::mail_of(starts, lens, n);
+    let e = fault(work, incoming, mail, missing, f, k);
     if e.code != 0 {
         fill::clear(work);
         return Answer {
@@ -209,9 +194,7 @@ pub fn round(
             verdict: Verdict::Refused(e.code, e.party),
         };
     }
-    let mail = e.mail;
     step(work, out, incoming, mail, r, perm, f, k);
-    let n = f.n;
     let after = Session {
         party: f,
         due: plan::next_round(n, k),

@@ -121,7 +121,7 @@ pub(crate) fn note(t: &mut Table, i: usize, k: usize, bad: u64) {
 // How many boxes ended by each number.
 fn refusals(t: &Table) {
     let mut k: usize = 1;
-    while k < 21 {
+    while k < 256 {
         let x = crate::table::length(t, ENDS + 16 * k);
         if x != 0 {
             say(b"refused by #: #\n", [k, x, 0, 0]);

@@ -34,12 +34,34 @@ fn main() {
     println!("{honest} honest sessions, {damaged} damaged, {combinings} combinings");
 }
 
-/// The lowest bit of a number, as a mask.
-fn lowest(count: u8) -> u8 {
-    count & count.wrapping_neg()
+/// For l = 1, the lowest bit of a message's count as a mask, and where its value ends with that bit gone.
+fn lower(round: u8, n: usize, from: usize, to: usize) -> (u8, usize) {
+    let count: u8 = match round {
+        1 | 4 | 21 | 22 => 1,
+        3 | 5 => 32,
+        6 => 120,
+        8 | 10 | 12 => 40,
+        14 | 15 | 17 | 19 => 5,
+        _ => n as u8,
+    };
+    let lowest = count & count.wrapping_neg();
+    let left = usize::from(count - lowest);
+    let end = if echo(round) {
+        // sender and receiver have no hash
+        8 + (0..left)
+            .map(|k| if [from, to].contains(&k) { 1 } else { 17 })
+            .sum::<usize>()
+    } else {
+        8 + (message_len(round, n, 1, 5) - 8) / usize::from(count) * left
+    };
+    (lowest, end)
 }
 
-/// The damaged sessions: n, rules. All of l = 1.
+fn echo(round: u8) -> bool {
+    !rounds(2).any(|plain| plain == round)
+}
+
+/// The damaged sessions: n, rules. All of l = 1. No message has bytes after its value.
 fn damage() -> Vec<(usize, String)> {
     let mut list: Vec<(usize, String)> = vec![];
     let mut add = |n: usize, rules: &str| list.push((n, rules.to_string()));
@@ -57,10 +79,13 @@ fn damage() -> Vec<(usize, String)> {
         }
         add(n, "4 0 1 flip 39 128");
         // 4: the last dm, a byte short
-        let at = 8 + 39 * (8 + 1 + 16 * (n - 1));
-        add(n, &format!("10 0 {to} flip {at} 1"));
+        let (at, len) = (last_dm(n), message_len(10, n, 1, 5));
+        add(
+            n,
+            &format!("10 0 {to} flip {at} 1\n10 0 {to} cut {}", len - 1),
+        );
         // 6: a bucket of dvalue without MACs
-        add(n, "21 0 1 flip 20 4");
+        add(n, "21 0 1 flip 20 4\n21 0 1 cut 28");
         // 8
         add(n, "6 0 1 flip 9 1");
         // 9: the bit of a dm, which its sender notices, and a MAC, which goes unnoticed for n = 2
@@ -82,7 +107,9 @@ fn damage() -> Vec<(usize, String)> {
         let at = if round == 10 { 17 } else { 8 };
         add(3, &format!("{round} 0 1 flip {at} 1"));
         add(3, &format!("{} 0 1 flip 11 1", round + 1));
-        add(3, &format!("{} 0 1 flip 10 1", round + 1));
+        // the last entry's mark and, behind it, its hash
+        let at = format!("{} 0 1", round + 1);
+        add(3, &format!("{at} flip 10 1\n{at} cut 11"));
     }
     // 13: bools and options
     for (round, at) in [
@@ -100,31 +127,66 @@ fn damage() -> Vec<(usize, String)> {
     // 14, 13, 6 in every round, from the parties in turn
     for n in [2, 3] {
         for round in rounds(n) {
-            let (from, to) = (usize::from(round) % n, usize::from(round + 1) % n);
+            let (from, to) = turn(round, n);
             let len = message_len(round, n, 1, 5);
-            let count = match round {
-                1 | 4 | 21 | 22 => 1,
-                3 | 5 => 32,
-                6 => 120,
-                8 | 10 | 12 => 40,
-                14 | 15 | 17 | 19 => 5,
-                _ => n as u8,
-            };
-            add(n, &format!("{round} {from} {to} drop"));
-            add(n, &format!("{round} {from} {to} cut {}", len - 1));
-            add(n, &format!("{round} {from} {to} cut 0"));
-            add(n, &format!("{round} {from} {to} flip 7 128"));
-            add(n, &format!("{round} {from} {to} flip 0 {}", lowest(count)));
+            let (mask, end) = lower(round, n, from, to);
+            let at = format!("{round} {from} {to}");
+            add(n, &format!("{at} drop"));
+            add(n, &format!("{at} cut {}", len - 1));
+            add(n, &format!("{at} cut 0"));
+            add(n, &format!("{at} flip 7 128"));
+            add(n, &format!("{at} flip 0 {mask}\n{at} cut {end}"));
         }
     }
     // order between parties: 6 of party 0 before 14 of party 2, and the other way round
-    add(3, "14 0 1 flip 0 1\n14 2 1 drop");
-    add(3, "14 0 1 drop\n14 2 1 flip 0 1");
+    let six = |from: usize| format!("14 {from} 1 flip 0 1\n14 {from} 1 cut 16");
+    add(3, &format!("{}\n14 2 1 drop", six(0)));
+    add(3, &format!("14 0 1 drop\n{}", six(2)));
     // form before content
     add(3, "3 0 1 flip 8 1\n3 2 1 flip 7 128");
     // an echo before the content behind it
     add(3, "10 0 * flip 16 2\n11 2 1 flip 11 1");
     list
+}
+
+/// 21, which is ours alone: a lower count, and what it no longer counts left in its place. `expect` tells
+/// the Rust that these messages are missing.
+fn tails() -> Vec<(usize, String)> {
+    let mut list: Vec<(usize, String)> = vec![];
+    let mut add = |n: usize, rules: &str| list.push((n, rules.to_string()));
+    // in every round
+    for n in [2, 3] {
+        for round in rounds(n).filter(|round| n == 2 || echo(*round)) {
+            let (from, to) = turn(round, n);
+            let (mask, _) = lower(round, n, from, to);
+            add(n, &format!("{round} {from} {to} flip 0 {mask}"));
+        }
+    }
+    // an echo entry's mark gone and its hash left, before 3
+    add(3, "2 0 1 flip 10 1");
+    // the last dm a byte short, before 4; a bucket of dvalue a MAC short, before 6
+    for (n, to) in [(2, "1"), (3, "*")] {
+        add(n, &format!("10 0 {to} flip {} 1", last_dm(n)));
+        add(n, "21 0 1 flip 20 7");
+    }
+    // order between parties, with 14 and 13
+    add(3, "14 0 1 flip 0 1\n14 2 1 drop");
+    add(3, "14 0 1 drop\n14 2 1 flip 0 1");
+    add(3, "14 0 1 flip 0 1\n14 2 1 flip 7 128");
+    add(3, "14 0 1 flip 7 128\n14 2 1 flip 0 1");
+    // and before content
+    add(3, "3 0 1 flip 8 1\n3 2 1 flip 0 32");
+    list
+}
+
+/// Sender and receiver, in turn.
+fn turn(round: u8, n: usize) -> (usize, usize) {
+    (usize::from(round) % n, usize::from(round + 1) % n)
+}
+
+/// Where the last dm of a message starts, its length first.
+fn last_dm(n: usize) -> usize {
+    8 + 39 * (8 + 1 + 16 * (n - 1))
 }
 
 /// A rule as docs/VECTORS.md has it, 8 bytes.
@@ -203,6 +265,8 @@ fn sessions() -> (usize, usize, Vec<u8>) {
     }
     let honest = list.len();
     list.extend(damage().into_iter().map(|(n, rules)| (n, 1, rules)));
+    let beside = list.len();
+    list.extend(tails().into_iter().map(|(n, rules)| (n, 1, rules)));
     let mut out = b"NZVECT02".to_vec();
     out.extend((list.len() as u32).to_le_bytes());
     out.extend([0; 4]);
@@ -213,6 +277,7 @@ fn sessions() -> (usize, usize, Vec<u8>) {
         let e = expect(&s, &mut |round, from, to, m| {
             apply(&rules, round, from, to, m)
         });
+        assert_eq!(e.tails.is_empty(), index < beside, "{text}");
         if index < honest {
             let results = e.outcome.results().expect("an honest session is done");
             assert!(s.macs_hold(&results) && s.and_holds(&results));
@@ -224,7 +289,7 @@ fn sessions() -> (usize, usize, Vec<u8>) {
         }
         out.extend(session(&s, &rules, &e));
     }
-    for number in 1..=14 {
+    for number in (1..=14).chain([21]) {
         let of: Vec<_> = ends.iter().filter(|((its, _), _)| *its == number).collect();
         let of: Vec<_> = of
             .iter()

@@ -9,7 +9,8 @@ load64-requires c κs = let a = c .before in omega (arith, bucket-head (now (a .
 returns : tie.Need-returns
 returns c =
     let a = c .before .before .before in
-    due-not (now (a .args .s)) (a .args .at) (a .args .due) (c .before .load64 .result) (c .before .load64 .ensures) (c .if1 .taken)
+    due-not (now (a .args .s)) (a .args .at) (a .args .due) (a .pre .1) (c .before .load64 .result) (c .before .load64 .ensures)
+    (c .if1 .taken)
 
 add-load64-2 : tie.Need-add-load64-2
 add-load64-2 c =
@@ -24,7 +25,7 @@ load64-requires-2 c κs =
 returns-2 : tie.Need-returns-2
 returns-2 c =
     let a = c .before .before .before .before in
-    due-both (now (a .args .s)) (a .args .at) (a .args .due) (c .before .before .load64 .result) (c .load642 .result)
+    due-both (now (a .args .s)) (a .args .at) (a .args .due) (a .pre .1) (c .before .before .load64 .result) (c .load642 .result)
     (c .before .before .load64 .ensures) (c .before .if1 .left) (c .load642 .ensures)
 
 pub bucket-due-spec : {M : Type 1} → statement M

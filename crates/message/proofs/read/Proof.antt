@@ -1,6 +1,5 @@
 use Rattle.lists.specs.Kit.{_≡_, _∙_, _+_, _-_, _≤_, arith, length, now, needs}
-use Rattle.message.specs.Format.{innersDue}
-use Rattle.message.specs.FormatLaws.{decodes-short}
+use Rattle.message.specs.FormatLaws.{decodes-short, innersDue}
 use Rattle.message.proofs.Walk.{Walked, walked-start, walked-room, walked-turn, walked-stop, inners-none, inners-turn, read-bad}
 use Rattle.message.proofs.Walk.{read-end}
 use Rattle.message.proofs.read.Statement.{statement}
@@ -76,15 +75,14 @@ loop-again c =
 
 returns-3 : tie.Need-returns-3 Inv-loop μ-loop
 returns-3 c =
-    let l = c .before .before in
+    let l = c .before in
     let s = l .before in
     let a = s .before .before .before .args in
     let e : l .loop .t ≡ s .load64 .result = omega arith in
-    read-end (a .kind) (a .count) (now (a .m)) (l .loop .t) (l .loop .pos) (s .load64 .result) (c .count-code .result) (l .loop .inner)
-    (l .loop .inv .1 .0)
-    (s .before .if1 .left) e (s .load64 .ensures) (l .loop .inv .1 .1) (c .count-code .ensures)
+    read-end (a .kind) (a .count) (now (a .m)) (l .loop .t) (l .loop .pos) (s .load64 .result) (l .loop .inner) (l .loop .inv .1 .0)
+    (s .before .if1 .left) e (s .load64 .ensures) (l .loop .inv .1 .1)
 
 pub read-spec : {M : Type 1} → statement M
 read-spec =
     tie.close (tie.spec Inv-loop μ-loop returns load64-requires loop-holds item-len-requires returns-2 inner-due-requires add-pos add-t
-    loop-less loop-again (λ c κs. search needs) returns-3)
+    loop-less loop-again returns-3)

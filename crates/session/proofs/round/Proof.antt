@@ -1,15 +1,14 @@
-use Rattle.lists.specs.Kit.{_≡_, sym, ap, subst, _∙_, List, ℕ, now, needs}
-use Rattle.plan.specs.Plan.{kindOf}
-use Rattle.engine.specs.Step.{Lent, replyOf, mask, faultOf}
-use Rattle.engine.specs.Plain.{checkOf}
+use Rattle.lists.specs.Kit.{_≡_, sym, ap, subst, _∙_, List, ℕ, true, now, needs}
+use Rattle.engine.specs.Step.{Lent, replyOf, mask, part, partsIn, faultOf}
+use Rattle.engine.specs.StepLaws.{or-zero}
+use Rattle.engine.specs.Plain.{ruleOf}
 use Rattle.rounds.specs.declared.Mail.{Mail}
 use Rattle.rounds.specs.Mail.{letter}
-use Rattle.rounds.specs.EchoLaws.{Received}
+use Rattle.rounds.specs.FaultLaws.{Finds}
 use Rattle.rounds.specs.Table.{table}
-use Rattle.admit.specs.Admit.{given, mailOf}
-use Rattle.engine.specs.StepLaws.{or-zero}
+use Rattle.admit.specs.Admit.{given, posted}
+use Rattle.admit.specs.AdmitLaws.{Admitted, received, letters-are, parts-posted, fault-posted, reason-zero}
 use Rattle.session.specs.CallLaws.{call-refused, call-faulted, call-accepted}
-use Rattle.admit.specs.AdmitLaws.{received, lists-heard, mail-any, reason-zero, parts-any}
 use Rattle.session.proofs.round.Statement.{statement}
 use Rattle.session.proofs.round.Tie as tie
 
@@ -26,99 +25,99 @@ returns c =
     call-refused (s .args .s) (s .args .k) (lent s) (now (s .args .work)) (c .before .reason .result) (c .before .reason .ensures)
     (c .if1 .taken)
 
+-- ---- a call that has no reason
+abbrev start : tie.Else1 → tie.Start
+start e = e .before .before .before .before .before .before .before .before .before .before .before .before .before
+
+let-in : (e : tie.Else1) → Admitted (start e .args .s) (start e .args .k) (lent (start e)) (now (start e .args .work))
+let-in e =
+    let a = start e .args in
+    reason-zero (a .s) (a .k) (lent (start e)) (now (a .work)) (sym (e .before .reason .ensures) ∙ e .if1 .left)
+
+mail-of-requires : tie.Need-mail-of-requires
+mail-of-requires c κs = let A = let-in c in (A .starts-n, A .lens-n, A .ranges .range .eight)
+
+-- the parts, by the mail
+parts : (m : tie.After-mail-of) → let a = start (m .before) .args in
+    partsIn (a .s .party) (posted (now (a .incoming)) (m .mail-of .result) (now (a .missing))) ≡ true
+parts m =
+    let a = start (m .before) .args in
+    subst (λ (x : Mail). partsIn (a .s .party) (posted (now (a .incoming)) x (now (a .missing))) ≡ true) (sym (m .mail-of .ensures))
+    (parts-posted (a .s .party) (now (a .incoming)) (now (a .starts)) (now (a .lens)) (now (a .missing)) (now (a .r)) (now (a .perm))
+    (now (a .out)) (let-in (m .before) .parts-in))
+
 fault-requires : tie.Need-fault-requires
 fault-requires c κs =
-    let e = c .before .before in
-    let s = c .before .before .before .before .before .before .before .before .before .before .before .before .before .before in
-    let a = s .args in
-    let A = reason-zero (a .s) (a .k) (lent s) (now (a .work)) (sym (e .reason .ensures) ∙ c .before .if1 .left) in
+    let A = let-in (c .before .before) in
     record {
       work = record { ranges = A .ranges; whole = A .work-whole };
       round = A .round-holds;
-      starts-n = A .starts-n;
-      lens-n = A .lens-n;
       missing-n = A .missing-n;
-      parts =
-          parts-any (now (a .incoming)) (now (a .starts)) (now (a .lens)) (now (a .missing)) (now (a .r)) (now (a .perm)) (now (a .out))
-          (a .s .party)
-          ∙ A .parts-in;
+      parts = parts (c .before);
     }
+
+-- ---- what is found by the mail is what the definition says
+found : (x : tie.After-fault) → let s = start (x .before .before .before) in
+    Finds (x .fault .result .code) (x .fault .result .party)
+    (faultOf (ruleOf table (s .args .k)) (s .args .s .party) (lent s) (now (s .args .work)))
+found x =
+    let a = start (x .before .before .before) .args in
+    let f = a .s .party in
+    let r = x .fault .result in
+    subst (Finds (r .code) (r .party))
+    (ap (λ (m : Mail). faultOf (ruleOf table (a .k)) f (posted (now (a .incoming)) m (now (a .missing))) (now (a .work))) (x .before .before .mail-of .ensures)
+    ∙ fault-posted f (now (a .incoming)) (now (a .starts)) (now (a .lens)) (now (a .missing)) (now (a .r)) (now (a .perm)) (now (a .out))
+    (a .k) (now (a .work)))
+    (x .fault .ensures)
 
 returns-2 : tie.Need-returns-2
 unfolding replyOf
 returns-2 c =
-    let e = c .before .before .before .before .before .before .before .before .before .before in
-    let x = c .before .before .before .before .before .before .before in
-    let s = c .before .before .before .before .before .before .before .before .before .before .before .before .before .before .before .before .before .before .before .before .before .before in
-    let a = s .args in
-    call-faulted (a .s) (a .k) (lent s) (now (a .work))
-    (sym (e .reason .ensures) ∙ c .before .before .before .before .before .before .before .before .before .if1 .left)
-    (x .fault .result .code) (x .fault .result .party) (c .ended .result) (c .before .before .before .clear .last .0)
-    (x .fault .ensures .0 (now (a .r)) (now (a .perm)) (now (a .out))) (c .before .before .before .before .before .if2 .taken) (c .ended .ensures) (c .before .before .before .clear .ensures)
-
--- where the lists lie
-mail-is : (c : tie.Else2) → let x = c .before .before in let s = x .before .before .before .before .before .before .before .before .before .before .before .before .before .before .before in
-    x .fault .result .mail ≡ mailOf (s .args .s .party) (kindOf (s .args .s .party .l) (s .args .k)) (lent s)
-mail-is c =
-    let x = c .before .before in
-    let a =
-    x .before .before .before .before .before .before .before .before .before .before .before .before .before .before .before .args in
-    x .fault .ensures .1 (c .if2 .left)
-    ∙ mail-any (now (a .incoming)) (now (a .starts)) (now (a .lens)) (now (a .missing)) (now (a .r)) (now (a .perm)) (now (a .out))
-    (a .s .party)
-    (kindOf (a .s .party .l) (a .k))
-
--- they are those of the definition
-lists-are : (c : tie.Else2) → let x = c .before .before in let s = x .before .before .before .before .before .before .before .before .before .before .before .before .before .before .before in let f = s .args .s .party in
-    mask f (letter (now (s .args .incoming)) (x .fault .result .mail)) ≡ mask f
-    (letter (now (s .args .incoming)) (mailOf f (kindOf (f .l) (s .args .k)) (lent s)))
-lists-are c =
-    let a = c .before .before .before .before .before .before .before .before .before .before .before .before .before .before .before .before .before .args in
-    ap (λ (m : Mail). mask (a .s .party) (letter (now (a .incoming)) m)) (mail-is c)
-
-step-requires : tie.Need-step-requires
-unfolding faultOf
-step-requires c κs =
-    let t = c .before .before .before in
+    let t = c .before .before .before .before .before in
     let x = t .before .before in
     let e = x .before .before .before in
-    let s = x .before .before .before .before .before .before .before .before .before .before .before .before .before .before .before in
-    let a = s .args in
-    let f = a .s .party in
-    let A = reason-zero (a .s) (a .k) (lent s) (now (a .work)) (sym (e .reason .ensures) ∙ x .before .before .if1 .left) in
-    let none = or-zero _ _ (sym (x .fault .ensures .0 (now (a .r)) (now (a .perm)) (now (a .out)) .code-is) ∙ t .if2 .left) in (
+    let a = start e .args in
+    call-faulted (a .s) (a .k) (lent (start e)) (now (a .work)) (sym (e .before .reason .ensures) ∙ e .if1 .left)
+    (x .fault .result .code) (x .fault .result .party) (c .ended .result) (c .before .before .before .clear .last .0) (found x)
+    (t .if2 .taken) (c .ended .ensures) (c .before .before .before .clear .ensures)
+
+step-requires : tie.Need-step-requires
+unfolding faultOf letter part
+step-requires c κs =
+    let t = c .before .before in
+    let x = t .before .before in
+    let m = x .before .before in
+    let a = start (m .before) .args in
+    let A = let-in (m .before) in
+    let none = or-zero _ _ (sym (x .fault .ensures .code-is) ∙ t .if2 .left) in (
       record {
         work = record { ranges = A .ranges; whole = A .work-whole };
         round = A .round-holds;
-        received = subst (Received _ _ f (now (a .incoming))) (sym (mail-is t)) (received f (a .k) (lent s) (none .0) (A .ranges .range .eight) (A .parts-in));
+        received = received (a .s .party) (a .k) (now (a .incoming)) (m .mail-of .result) (now (a .missing)) (none .0) (A .ranges .range .eight) (parts m);
       },
-      (
-        ap (λ (m : ℕ → List ℕ). checkOf table (a .k) f (now (a .work)) m .code) (lists-are t ∙ lists-heard f (a .k) (lent s) (none .0))
-            ∙ none .1,
-        (A .out-whole, A .lent-fits),
-      ),
+      (none .1, (A .out-whole, A .lent-fits)),
     )
 
 returns-3 : tie.Need-returns-3
-unfolding replyOf faultOf
+unfolding replyOf
 returns-3 c =
     let p = c .before .before .before .before .before in
-    let t = p .before .before .before .before in
+    let t = p .before .before .before in
     let x = t .before .before in
-    let e = x .before .before .before in
-    let s = x .before .before .before .before .before .before .before .before .before .before .before .before .before .before .before in
-    let a = s .args in
+    let m = x .before .before in
+    let e = m .before in
+    let a = start e .args in
     let f = a .s .party in
-    let z = sym (e .reason .ensures) ∙ x .before .before .if1 .left in
-    let clean = sym (x .fault .ensures .0 (now (a .r)) (now (a .perm)) (now (a .out)) .code-is) ∙ t .if2 .left in
-    call-accepted (a .s) (a .k) (lent s) (now (a .work)) z clean
+    call-accepted (a .s) (a .k) (lent (start e)) (now (a .work)) (sym (e .before .reason .ensures) ∙ e .if1 .left)
+    (sym (found x .code-is) ∙ t .if2 .left)
     (c .next-round .result) (c .next-round .ensures)
-    (mask f (letter (now (a .incoming)) (x .fault .result .mail)))
-    (lists-are t ∙ lists-heard f (a .k) (lent s) (or-zero _ _ clean .0))
+    (mask f (letter (now (a .incoming)) (m .mail-of .result)))
+    (ap (λ (y : Mail). mask f (letter (now (a .incoming)) y)) (m .mail-of .ensures)
+    ∙ letters-are f (now (a .incoming)) (now (a .starts)) (now (a .lens)) (now (a .missing)) (now (a .r)) (now (a .perm)) (now (a .out)))
     (p .step .last .0) (p .step .last .1 .0) (p .step .ensures .0) (p .step .ensures .1)
 
 pub round-spec : {M : Type 1} → statement M
 round-spec =
-    tie.close (tie.spec (λ c κs. search needs) (λ c. search needs) (λ c. search needs) returns fault-requires (λ c κs. search needs)
+    tie.close (tie.spec (λ c κs. search needs) (λ c. search needs) (λ c. search needs) returns mail-of-requires fault-requires (λ c κs. search needs)
     (λ c κs. search needs) (λ c. search needs) (λ c. search needs) returns-2 step-requires (λ c κs. search needs) (λ c. search needs)
     (λ c. search needs) returns-3)

@@ -5,10 +5,10 @@ use Rattle.vectors.proofs.report.refusals.Statement.{statement}
 use Rattle.vectors.proofs.report.refusals.Tie as tie
 
 abbrev Inv-loop : tie.InvT-loop
-Inv-loop t k₀ t4 k = k ≤ 21
+Inv-loop t k₀ t4 k = k ≤ 256
 
 abbrev μ-loop : tie.MeasureT-loop
-μ-loop t k₀ t4 k = 21 - k
+μ-loop t k₀ t4 k = 256 - k
 
 pub refusals-spec : {M : Type 1} → statement M
 refusals-spec =
