@@ -3,12 +3,11 @@ use mathlib.Core.Path.{_≡_, refl, sym, ap, ap₂, _∙_, subst, fun-ext}
 use mathlib.Core.Logic.{_≢_}
 use mathlib.Core.Bool.{Bool, true, false, not, _&&_, _||_}
 use mathlib.Core.List.{List, [], _++_}
-use Prim.Native.Nat.{ℕ, zero, suc, _+_, _-_, _*_, _<_, _≤_}
+use Prim.Native.Nat.{ℕ, _+_, _-_, _*_, _<_, _≤_}
 use native.Mathlib.Omega.{arith}
-use lib.ListN.{length, getD, take, drop, set, replicate, length-take, List·getD-append}
-use lib.Seq.{take-take}
+use lib.ListN.{length, getD, set, replicate, List·getD-append}
 use lib.Dec.{ltb, leb, eqb}
-use borrow.Author.Tests.{ltb-true, leb-true, eqb-true, eqb-false, eq-eqb, ne-eqb}
+use borrow.Author.Tests.{ltb-true, leb-true, eqb-true, eq-eqb, ne-eqb}
 use Rattle.lists.specs.Pick.{pick, pick-else, by-eq}
 use Rattle.lists.specs.All.{allOf, of-all, all-turn, all-false, all-ext, true-false, and-first, and-second, and-false, not-false}
 use Rattle.lists.specs.Over.{tab, length-tab, getD-tab, tab-zero, tab-step}

@@ -6,7 +6,7 @@ use mathlib.Core.Logic.{_≢_}
 use mathlib.Core.List.{List, [], _∷_}
 use Prim.Native.Nat.{ℕ, _<_, _≤_}
 use native.Mathlib.Omega.{arith}
-use lib.ListN.{length, getD, take, replicate}
+use lib.ListN.{length, getD, replicate}
 use lib.Dec.{eqb}
 use borrow.Author.Tests.{leb-true, le-leb, eq-eqb, ne-eqb}
 use Rattle.lists.specs.Pick.{pick}
@@ -15,9 +15,6 @@ use Rattle.lists.specs.Rows.{chunk}
 use Rattle.lists.specs.Bytes.{Bytes, bytes-nil, bytes-take, bytes-drop}
 use Rattle.algebra.specs.Sum.{neq, Same, apart, apart?}
 use Rattle.encode.specs.Encode.{noneItem, someItem}
-use Rattle.message.specs.declared.Kind.the-variants.{Options}
-use Rattle.message.specs.Format as Format
-use Rattle.plan.specs.Plan.{kindOf, countDue}
 use Rattle.engine.specs.declared.Session.{Session}
 use Rattle.engine.specs.Step.{frame, Loan, Outcome, other, mask, part}
 use Rattle.engine.specs.World.{Box, sessionOf}

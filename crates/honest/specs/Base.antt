@@ -19,7 +19,6 @@ use native.Mathlib.Omega.{arith}
 use lib.ListN.{length}
 use lib.Dec.{leb, ltb}
 use borrow.Author.Tests.{le-leb}
-use Rattle.lists.specs.Pick.{pick}
 use Rattle.block.specs.Block.{blockAt}
 use Rattle.message.specs.declared.Kind.{Kind}
 use Rattle.message.specs.declared.Kind.the-variants.{Items}
@@ -28,7 +27,6 @@ use Rattle.encode.specs.Encode.{encode}
 use Rattle.encode.specs.Coded.{Coded, length-encode}
 use Rattle.encode.specs.RoundTrip.{trip}
 use Rattle.plan.specs.Plan.{listLen}
-use Rattle.engine.specs.declared.Frame.{Frame}
 use Rattle.engine.specs.Step.{Fault, orElse}
 use Rattle.engine.specs.StepLaws.{or-none}
 use Rattle.engine.specs.Sheet.{Store, Known, staysTest}

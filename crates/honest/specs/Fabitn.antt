@@ -18,7 +18,6 @@ use Rattle.block.specs.Trip.{length-bytesOf, block-here, small-sum, small-sel}
 use Rattle.share.specs.Record.{recordLen}
 use Rattle.share.specs.Parties.{sharedAt}
 use Rattle.share.specs.RecordLaws.{small-mac, small-key}
-use Rattle.message.specs.declared.Kind.the-variants.{Items}
 use Rattle.message.specs.Format.{formOf}
 use Rattle.encode.specs.Coded.{length-bitBlock}
 use Rattle.plan.specs.Plan.{kindOf, countDue, msgLen, bitsCount}

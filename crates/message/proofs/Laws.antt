@@ -117,7 +117,7 @@ module _ (s : List ℕ) (at size count : ℕ) where
   items-end h = sym (items-short size count (drop at s) (omega (arith, length-drop at s)))
 
   module _ (n : ℕ) (e : n ≡ min (length s - at) count) (b : Bool) (f : b ≡ bools n (drop at s)) where
-    bits-are : b ≡ bools count (drop at s)
+    pub bits-are : b ≡ bools count (drop at s)
     bits-are = go (leb count (length s - at)) refl
       where
         go : (t : Bool) → leb count (length s - at) ≡ t → b ≡ bools count (drop at s)

@@ -1,15 +1,21 @@
 -- The loops from item to item: a position and an index.
-use Rattle.lists.specs.Kit.{_≡_, refl, sym, ap, ap₂, subst, _∙_, List, Bool, true, false, _&&_, ℕ, _+_, _<_, _≤_, arith, length, drop}
+use Rattle.lists.specs.Kit.{_≡_, refl, sym, ap, ap₂, subst, _∙_, List, Bool, true, false, _&&_, ℕ, zero, suc, _+_, _*_, _<_, _≤_, arith, length}
+use Rattle.lists.specs.Kit.{drop}
+use native.Mathlib.Nat.{suc-mul}
+use native.Mathlib.Numerals.{add-one}
 use lib.ListN.{length-drop}
 use lib.Dec.{ltb, eqb}
 use borrow.Author.Tests.{ltb-true, ltb-false, eq-eqb, ne-eqb}
 use Rattle.lists.specs.Pick.{pick}
-use Rattle.lists.specs.All.{all-zero, all-turn}
+use Rattle.lists.specs.All.{all-of, all-zero, all-turn}
+use Rattle.lists.specs.Over.{in-chunks}
 use Rattle.message.specs.declared.Kind.{Kind}
-use Rattle.message.specs.Format.{itemLen, itemAt, countOf, decodes, itemOf, valueOf, Value, readOf, itemDue, formBy, formOf, usedOf}
+use Rattle.message.specs.declared.Kind.the-variants.{Items}
+use Rattle.message.specs.Format.{bools, vecLen, itemLen, itemAt, countOf, decodes, itemOf, valueOf, Value, readOf, itemDue, formBy, formOf, usedOf}
 use Rattle.message.specs.Format.{dueOf}
 use Rattle.message.specs.FormatLaws.{item-le, at-zero, at-next, decoded, decodes-of, decodes-bad, used-some, read-none, read-some}
-use Rattle.message.specs.FormatLaws.{innersDue, counts-are}
+use Rattle.message.specs.FormatLaws.{innersDue, counts-are, vec-some, items-some, items-not, at-le, fixed-at}
+use Rattle.message.proofs.Laws.{bools-none}
 
 -- the first t items decode, and item t begins at pos
 pub record Walked (K : Kind) (m : List ℕ) (t pos : ℕ) : Type 0 where
@@ -105,3 +111,52 @@ module _ (K : Kind) (count : ℕ) (m : List ℕ) where
 
     pub form-whole : (used ≡ 0 → ⊥) → used ≡ length m → (x : ℕ) → pick due 0 6 ≡ x → x ≡ formOf K count m
     form-whole ne e x p = sym p ∙ sym (ap (λ (b : Bool). pick b (pick due 0 6) 21) (eq-eqb used (length m) e)) ∙ form-some ne
+
+-- ---- items of a fixed size
+and-unit : (b : Bool) → b ≡ (b && true)
+and-unit true = refl
+and-unit false = refl
+
+module _ (size c : ℕ) (m : List ℕ) (some : 0 < size) where
+  abbrev I : Kind
+  I = Items size c
+
+  -- no room for as many as the count says
+  pub fixed-over : vecLen size m ≡ 0 → decodes I m ≡ false
+  fixed-over z = go (decodes I m) refl
+    where
+      go : (b : Bool) → decodes I m ≡ b → b ≡ false
+      go false e = refl
+      go true e =
+          let d = decoded I m e in
+          let l : 8 + countOf m * size ≤ length m = omega (arith, fixed-at size c m (countOf m) (d .item), at-le I m (d .head) (countOf m)) in
+          absurd (omega (arith, vec-some size m l, z))
+
+  module _ (h : 8 + countOf m * size ≤ length m) where
+    -- item t lies within
+    pub fixed-room : (t pos : ℕ) → Walked I m t pos → t < countOf m → pos + size ≤ length m
+    fixed-room t pos w l = omega (arith, w .here, fixed-at size c m t (w .items), in-chunks t (countOf m) size l)
+
+    pub fixed-turn : (t pos : ℕ) → Walked I m t pos → t < countOf m → bools c (drop pos m) ≡ true → Walked I m (t + 1) (pos + size)
+    fixed-turn t pos w l b =
+        walked-turn I m t pos size w
+        (sym (items-some size c (drop pos m) (omega (arith, fixed-room t pos w l, length-drop pos m)) b)) (λ z. omega (arith, some, z))
+
+    pub fixed-stop : (t pos : ℕ) → Walked I m t pos → t < countOf m → bools c (drop pos m) ≡ false → decodes I m ≡ false
+    fixed-stop t pos w l b = walked-stop I m t pos 0 w (sym (items-not size c (drop pos m) b)) l refl
+
+    -- the end of the list
+    pub fixed-end : (count used found : ℕ) (t pos : ℕ) → Walked I m t pos → t ≡ countOf m → used ≡ vecLen size m → found ≡ countOf m
+        → (used ≡ usedOf (readOf I m)) × (eqb found count ≡ dueOf I count (readOf I m))
+    unfolding innersDue itemDue
+    fixed-end count used found t pos w e eu ef =
+        let r = read-end I count m t pos found true w (omega arith) (e ∙ sym ef) ef (sym (all-of t (λ t. true) (λ t l. refl))) in
+        (eu ∙ vec-some size m h ∙ ap (λ n. 8 + n * size) (sym e) ∙ sym (fixed-at size c m t (w .items)) ∙ sym (w .here) ∙ r .0, and-unit (eqb found count) ∙ r .1)
+
+    -- without bools, every item
+    pub plain-items : c ≡ 0 → (t : ℕ) → t ≤ countOf m → Walked I m t (8 + t * size)
+    plain-items z zero l = subst (Walked I m 0) (omega arith) (walked-start I m (omega arith))
+    plain-items z (suc t) l =
+        let w = plain-items z t (omega arith) in
+        subst (λ p. Walked I m p (8 + suc t * size)) (add-one t)
+        (subst (Walked I m (t + 1)) (omega (arith, suc-mul t size)) (fixed-turn t (8 + t * size) w (omega arith) (ap (λ n. bools n (drop (8 + t * size) m)) z ∙ bools-none (drop (8 + t * size) m))))

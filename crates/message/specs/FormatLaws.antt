@@ -20,7 +20,7 @@ use Rattle.block.specs.Trip.{word-drop}
 use Rattle.message.specs.declared.Kind.{Kind}
 use Rattle.message.specs.declared.Kind.the-variants.{Items, Dms, Dvalues, Options}
 use Rattle.message.specs.Format.{bools, vecLen, bothLen, itemLen, itemAt, countOf, decodes, Absent, bits, itemOf, valueOf}
-use Rattle.message.specs.Format.{Decoding, Undecoded, Value, readOf, bothDue, itemDue, countsDue, formBy, formOf, usedOf, dueOf}
+use Rattle.message.specs.Format.{Undecoded, Value, readOf, bothDue, itemDue, countsDue, formBy, formOf}
 
 -- ---- two tests at once
 pub and-true : (a b : Bool) → a ≡ true → b ≡ true → (a && b) ≡ true

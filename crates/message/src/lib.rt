@@ -170,8 +170,8 @@ pub struct Reading {
     pub due: bool,
 }
 
-// The reader. Every item takes at least a byte, so the work is bounded by m's length, whatever the count says.
-pub fn read(kind: Kind, count: usize, m: &[u8]) -> Reading
+// A list read item by item. Every item takes at least a byte, so the work is bounded by m's length, whatever the count says.
+fn read_each(kind: Kind, count: usize, m: &[u8]) -> Reading
     ensures { λ r. ⌜ (r .used ≡ F.usedOf (F.readOf kind (now (m .entry)))) × (r .due ≡ F.dueOf kind count (F.readOf kind (now (m .entry)))) ⌝ }
 {
     if m.len() < 8 {
@@ -199,6 +199,62 @@ pub fn read(kind: Kind, count: usize, m: &[u8]) -> Reading
     Reading {
         used: pos,
         due: (found == count as u64) & inner,
+    }
+}
+
+// A list of items of a fixed size read: where they lie is known from the count, and only their bools are looked at.
+fn read_items(size: usize, flags: usize, count: usize, m: &[u8]) -> Reading
+    requires { ⌜ 0 < size ⌝ }
+    ensures { λ r. ⌜ (r .used ≡ F.usedOf (F.readOf (Kind.Items size flags) (now (m .entry))))
+        × (r .due ≡ F.dueOf (Kind.Items size flags) count (F.readOf (Kind.Items size flags) (now (m .entry)))) ⌝ }
+{
+    let used = vec_len(m, 0, size);
+    if used == 0 {
+        return Reading {
+            used: 0,
+            due: false,
+        };
+    }
+    let found = block::load64(m, 0);
+    if flags == 0 {
+        return Reading {
+            used: used,
+            due: found == count as u64,
+        };
+    }
+    let mut k: u64 = 0;
+    let mut pos = 8;
+    while k < found {
+        if !bools(m, pos, least(m.len() - pos, flags)) {
+            return Reading {
+                used: 0,
+                due: false,
+            };
+        }
+        pos += size;
+        k += 1;
+    }
+    Reading {
+        used: used,
+        due: found == count as u64,
+    }
+}
+
+// The reader.
+pub fn read(kind: Kind, count: usize, m: &[u8]) -> Reading
+    ensures { λ r. ⌜ (r .used ≡ F.usedOf (F.readOf kind (now (m .entry)))) × (r .due ≡ F.dueOf kind count (F.readOf kind (now (m .entry)))) ⌝ }
+{
+    match kind {
+        Kind::Items(size, flags) => {
+            if size == 0 {
+                read_each(kind, count, m)
+            } else {
+                read_items(size, flags, count, m)
+            }
+        }
+        Kind::Dms => read_each(kind, count, m),
+        Kind::Dvalues(_) => read_each(kind, count, m),
+        Kind::Options => read_each(kind, count, m),
     }
 }
 

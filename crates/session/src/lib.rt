@@ -3,7 +3,7 @@
 // messages of the next round, or the results. The definition is `roundSpec` of crate engine at the table of crate rounds.
 ghost use mathlib.Core.Path.{_≡_};
 ghost use mathlib.Core.Bool.{true, false};
-ghost use mathlib.Core.List.{List, []};
+ghost use mathlib.Core.List.{[]};
 ghost use Prim.Native.Nat.{ℕ, _-_, _*_, _≤_};
 ghost use lib.ListN.{length, replicate};
 ghost use lib.Dec.{eqb};
@@ -11,7 +11,7 @@ ghost use Rattle.lists.specs.Pick.{pick};
 ghost use Rattle.share.specs.Record.{recordLen};
 ghost use Rattle.plan.specs.Plan.{echo?, msgLen};
 ghost use Rattle.engine.specs.Step.{mask, replyOf, outcome, faultOf, roundSpec};
-ghost use Rattle.engine.specs.Plain.{protocolOf, ruleOf, toEcho, outLenOf, lentOf, digests, hashes, checkOf, forEcho, made, keepOf, writeOf};
+ghost use Rattle.engine.specs.Plain.{protocolOf, ruleOf, toEcho, outLenOf, lentOf, digests, hashes, checkOf, forEcho, keepOf, writeOf};
 ghost use Rattle.engine.specs.Area.{toOthers};
 ghost use Rattle.rounds.specs.Mail.{letter};
 ghost use Rattle.rounds.specs.FaultLaws.{Finds};
