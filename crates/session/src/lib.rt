@@ -151,9 +151,9 @@ fn fault(work: &[u8], incoming: &[u8], mail: Mail, missing: &[u8], f: Frame, k: 
     ensures { λ e. ⌜ Finds (e .code) (e .party)
         (faultOf (ruleOf table k) f (posted (now (incoming .entry)) mail (now (missing .entry))) (now (work .entry))) ⌝ }
 {
-    let e = form::form(incoming, mail, missing, f, k);
-    if e.code != 0 {
-        return e;
+    let first = form::form(incoming, mail, missing, f, k);
+    if first.code != 0 {
+        return first;
     }
     content(work, incoming, mail, f, k)
 }
