@@ -1,5 +1,5 @@
 // What a round call refuses before it looks at what was received (document 01, "Round call: 20, 19, 17, 18"): it leaves everything as it
-// was. 14, 13 and 6: crate form. The definitions are those of crates/engine (Step, Plain) over the table of crates/rounds. Nothing here is
+// was. 14, 13, 21 and 6: crate form. The definitions are those of crates/engine (Step, Plain) over the table of crates/rounds. Nothing here is
 // secret. A host may lend anything: every number is taken as it comes, and no sum wraps.
 ghost use mathlib.Core.Path.{_≡_};
 ghost use mathlib.Core.Bool.{true, _&&_};
