@@ -3,6 +3,7 @@
  *
  *   secrets N L       a session
  *   secrets N L K     the same with one bit of box 1's message of round K to box 0 flipped: the ways of a refusal too
+ *   secrets N L K all the same bit for every receiver, so that no echo tells and content is refused
  *   secrets control   a jump and an address that do depend on a secret: memcheck has to see both
  *
  * Secret: delta, the seeds, the share records and the masks. Public: n, i, l, r, the permutation, and what is on the line. So what a call wrote to
@@ -75,10 +76,10 @@ int main(int argc, char **argv) {
         return 0;
     }
     uint32_t n = argc > 1 ? (uint32_t)strtoul(argv[1], 0, 10) : 0, l = argc > 2 ? (uint32_t)strtoul(argv[2], 0, 10) : 0;
-    uint32_t flip = argc > 3 ? (uint32_t)strtoul(argv[3], 0, 10) : 0;
+    uint32_t flip = argc > 3 ? (uint32_t)strtoul(argv[3], 0, 10) : 0, flipped = argc > 4 ? n : 1;
     size_t work_len = nuzsdike_work_len(n, l), record = nuzsdike_record_len(n);
     if (!work_len) {
-        fputs("usage: secrets N L [K] | secrets control\n", stderr);
+        fputs("usage: secrets N L [K [all]] | secrets control\n", stderr);
         return 2;
     }
     size_t bits_len = nuzsdike_bits_len(n, l), shares_len = nuzsdike_shares_len(n, l), masks_len = nuzsdike_masks_len(n, l);
@@ -119,7 +120,7 @@ int main(int argc, char **argv) {
             for (size_t k = 0; k < n; k++)
                 if (k != i) memcpy(incoming[i] + k * len, out[k] + (i < k ? i : i - 1) * len, len);
         }
-        if (round == flip) incoming[0][2 * len - 1] ^= 1;
+        for (size_t i = 0; round == flip && i < flipped; i++) incoming[i][2 * len - 1] ^= 1; /* its own is ignored */
         for (uint32_t i = 0; i < n; i++) {
             size_t starts[MOST] = {0}, lens[MOST] = {0};
             uint8_t missing[MOST] = {0};

@@ -8,7 +8,10 @@ use std::{
     time::{Duration, Instant},
 };
 
-use nuzsdike_host::transport::{head, HEAD, MESSAGE};
+use nuzsdike_host::{
+    files,
+    transport::{head, HEAD, MESSAGE},
+};
 use rig::{detour, end, introduce, session, verdict, Act, Deal, Ended, Process, TIMEOUT};
 
 /// Every box failed; gives their errors.
@@ -37,16 +40,33 @@ fn tampered(deal: &Deal, mut tamper: impl FnMut(usize, &[u8]) -> Act + Send + Cl
     end(boxes)
 }
 
-/// A session of n in which one bit of box 1's message of a round to box 0 is flipped, in byte `at` of the message.
-fn flipped(deal: &Deal, due: usize, at: usize) -> Vec<Ended> {
-    tampered(deal, move |round, frame| {
+/// Flips one bit of a round's messages, in byte `at` of the message.
+fn flip(due: usize, at: usize) -> impl FnMut(usize, &[u8]) -> Act + Send + Clone + 'static {
+    move |round, frame| {
         if round != due {
             return Act::Pass;
         }
         let mut frame = frame.to_vec();
         frame[HEAD + at] ^= 1;
         Act::Instead(frame)
-    })
+    }
+}
+
+/// A session in which one bit of box 1's message of a round to box 0 is flipped.
+fn flipped(deal: &Deal, due: usize, at: usize) -> Vec<Ended> {
+    tampered(deal, flip(due, at))
+}
+
+/// A session of three in which the same bit of box 1's messages of a round to both others is flipped, so that the echo tells nothing. Box 2 calls box 1.
+fn flipped_for_all(deal: &Deal, due: usize, at: usize) -> Vec<Ended> {
+    let boxes = session(deal, |i, k, address| {
+        let mut tamper = flip(due, at);
+        match (i, k) {
+            (1, 0) | (2, 1) => detour(address, move |forth, round, frame| if forth == (i == 1) { tamper(round, frame) } else { Act::Pass }),
+            _ => address,
+        }
+    });
+    end(boxes)
 }
 
 // ---- a flipped bit on the line: a refusal of the library
@@ -116,6 +136,10 @@ fn a_flipped_bit_is_refused_two_boxes() {
         (4, last(4), 2, 5, 1),
         (5, last(5), 2, 5, 1),
         (6, last(6), 8, 6, 1),
+        (8, last(8), 2, 10, 1),   // the third commitment to the last string
+        (8, 8 + 64, 2, 10, 1),    // to the first
+        (10, last(10), 2, 10, 1), // a MAC of a dm
+        (10, 16, 2, 10, 1),       // the bit of one
         (12, last(12), 2, 12, 1),
         (14, 8 + x, 10, 19, 0),
         (15, 8 + 17 * one + 1, 10, 19, 0),
@@ -130,24 +154,45 @@ fn a_flipped_bit_is_refused_two_boxes() {
     }
 }
 
-/// Two boxes have no echoes, and what a box of two is sent in rounds 8 and 10 is not all used. The bit of a dm is: with a wrong one box 0 opens the
-/// wrong key, which is no MAC of box 1's.
+/// "the third share commitment is opened" (02, order 2), for three boxes: with the same flipped bit for all, the echoes of rounds 8 and 10 pass, and both
+/// others refuse in round 11.
 #[test]
-fn a_flipped_bit_of_a_dm_is_refused_by_its_sender() {
-    let deal = Deal::new(2, 3, 22);
-    let ends = flipped(&deal, 10, 16); // behind two counts
-    let errors = errors(&ends);
-    has(errors[1], &["refused 9 AShareWrongMAC in round 12 (fashare di_bi), names box 0"]);
-    has(errors[0], &["it ended the session, because box 1 refused 9 AShareWrongMAC in round 12 (fashare di_bi), naming box 0"]);
+fn a_flipped_commitment_or_dm_is_refused_three_boxes() {
+    let deal = Deal::new(3, 3, 21);
+    let last = |round| deal.plan.message_len(round) - 1;
+    for (round, at) in [(8, 8 + 64), (8, last(8)), (10, 16), (10, 17), (10, last(10))] {
+        let ends = flipped_for_all(&deal, round, at);
+        let errors = errors(&ends);
+        refused(&errors, 2, 11, 1);
+        has(
+            errors[1],
+            &["it ended the session, because box ", "refused 2 CommitmentCouldNotBeOpened in round 11 (echo of fashare ver), naming box 1"],
+        );
+    }
 }
 
-/// The third commitments of round 8, which nobody opens, and the MACs of round 10 for the receiver itself, which it doesn't check: two boxes have no
-/// echo, and a flipped bit there changes nothing. The line has to be authenticated anyway (docs/SECURITY.md).
+/// The other of d0 and d1 opens a commitment, and is not the XOR of the MACs.
+#[test]
+fn the_other_key_is_refused() {
+    let deal = Deal::new(2, 3, 22);
+    let delta = files::load(&deal.inputs(1), files::read_inputs).unwrap().1.delta;
+    let ends = tampered(&deal, move |round, frame| {
+        let mut frame = frame.to_vec();
+        if round == 12 {
+            frame[HEAD + 8..].iter_mut().zip(delta).for_each(|(byte, other)| *byte ^= other);
+        }
+        Act::Instead(frame)
+    });
+    refused(&errors(&ends), 9, 12, 1);
+}
+
+/// The bits of round 14 and the u of round 15 that box 0's x does not choose: a flipped bit there changes nothing, and two boxes have no echo. The line has to
+/// be authenticated anyway (docs/SECURITY.md).
 #[test]
 fn bits_that_decide_nothing_for_two_boxes() {
     let deal = Deal::new(2, 3, 22);
-    for round in [8, 10] {
-        let at = deal.plan.message_len(round) - 1;
+    let (zero, x) = ((0..).find(|t| deal.bit(0, *t) == 0).unwrap(), usize::from(deal.bit(0, 0)));
+    for (round, at) in [(14, 8 + 1 - x), (15, 8 + 17 * zero + 1)] {
         let tamper = move |forth: bool, due: usize, frame: &[u8]| {
             let mut frame = frame.to_vec();
             if forth && due == round {

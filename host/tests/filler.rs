@@ -410,8 +410,8 @@ fn an_absent_entry_comes_after_filler() {
     });
 }
 
-/// Inner counts come after filler too: the last dm a byte short with its byte left is 21, in round 10; the byte gone, its length is content, 4. The last bucket
-/// of dvalue a MAC short with the MAC left is 21; the MAC gone it is 6.
+/// Inner counts come after filler too: the last dm a byte short with its byte left is 21, in round 10; the byte gone, it is content, and not what was committed
+/// to, 2. The last bucket of dvalue a MAC short with the MAC left is 21; the MAC gone it is 6.
 #[test]
 fn inner_counts_come_after_filler() {
     in_every_round(|boxes, round| {
@@ -425,7 +425,7 @@ fn inner_counts_come_after_filler() {
                 };
                 boxes.refuses_one(i, k, 21, short);
                 if n == 2 {
-                    boxes.refuses_one(i, k, 4, |message| {
+                    boxes.refuses_one(i, k, 2, |message| {
                         short(message);
                         message.pop();
                     });

@@ -299,6 +299,7 @@ fn received_faults_end_the_session() {
     };
     ended(faulty(2, 3, 1, |message| message[8] ^= 1), 2, 1);
     ended(faulty(2, 6, 1, |message| message[9] ^= 1), 8, 1);
+    ended(faulty(2, 10, 1, |message| message[17] ^= 1), 2, 1);
     ended(faulty(3, 2, 1, |message| *message.last_mut().unwrap() ^= 1), 7, 1);
     ended(faulty(3, 6, 1, |message| message[8] = 2), 13, 1);
     ended(faulty(3, 6, 2, |message| message.truncate(100)), 13, 2);

@@ -26,6 +26,7 @@ mod staged {
 // They name each other from the crate's root.
 use staged::{block, channel, crypto, mpc, ot, utils};
 
+pub mod by_hand;
 pub mod damage;
 pub mod expect;
 pub mod rules;

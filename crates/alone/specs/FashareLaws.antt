@@ -16,12 +16,9 @@ use Rattle.message.specs.declared.Kind.the-variants.{Dms}
 use Rattle.message.specs.Format.{formOf}
 use Rattle.plan.specs.Plan.{dmLen}
 use Rattle.engine.specs.declared.Frame.{Frame}
-use Rattle.engine.specs.Step.{byParty}
-use Rattle.engine.specs.StepLaws.{by-clean}
 use Rattle.rounds.specs.Opening.{Args}
-use Rattle.rounds.specs.Fashare.{d0, d1, dmAt, dmFault, dmFaults, dmRows, dmRow, others1, dibiMsg}
-use Rattle.rounds.specs.FaultLaws.{first-clean}
-use Rattle.rounds.specs.DmLaws.{Dues, dm-due, dues-place, dues-in}
+use Rattle.rounds.specs.Fashare.{d0, d1, dmAt, verFaults, dmRows, dmRow, others1, dibiMsg}
+use Rattle.rounds.specs.DmLaws.{Dues, clean-dues, ver-clean, dues-place, dues-in}
 use Rattle.alone.specs.Formula as F
 use Rattle.alone.specs.Formula.{Seen}
 use Rattle.alone.specs.Cells.{head-part, length-cells, cell, encode-ext}
@@ -31,13 +28,9 @@ unfolding dmLen
 dm-some n = omega arith
 
 module _ (f : Frame) (m : ℕ → List ℕ) (formed : (k : ℕ) → k < f .n → f .i ≢ k → formOf Dms 40 (m k) ≡ 0)
-    (clean : dmFaults f m .code ≡ 0) where
-  dues : (k : ℕ) → k < f .n → f .i ≢ k → Dues (f .n) (m k)
-  unfolding dmFaults
-  dues k lk ne = record {
-    formed-is = formed k lk ne;
-    due = λ q lq. dm-due f m q k (by-clean f (dmFault f m q) (first-clean 40 (λ q. byParty f (dmFault f m q)) clean q lq) k lk ne);
-  }
+    (comms : List ℕ) (clean : verFaults f comms m .code ≡ 0) where
+  dues : (k : ℕ) → k < f .n → f .i ≢ k → Dues (f .n) 40 (m k)
+  dues k lk ne = clean-dues f m 40 (omega arith) (ver-clean f comms m clean) k lk ne (formed k lk ne)
 
   -- dm q of party k
   abbrev dmOf : ℕ → ℕ → List ℕ
@@ -46,8 +39,8 @@ module _ (f : Frame) (m : ℕ → List ℕ) (formed : (k : ℕ) → k < f .n →
   length-dmOf : (k q : ℕ) → k < f .n → f .i ≢ k → q < 40 → length (dmOf k q) ≡ dmLen (f .n)
   length-dmOf k q lk ne lq =
       let at : ℕ = 16 + q * (8 + dmLen (f .n)) in
-      ap (λ o. length (take (dmLen (f .n)) (drop o (m k)))) (sym (dues-place (f .n) (m k) (dues k lk ne) q at lq refl))
-      ∙ length-get at (dmLen (f .n)) (m k) (dues-in (f .n) (m k) (dues k lk ne) q at lq refl)
+      ap (λ o. length (take (dmLen (f .n)) (drop o (m k)))) (sym (dues-place (f .n) 40 (m k) (dues k lk ne) q at lq refl))
+      ∙ length-get at (dmLen (f .n)) (m k) (dues-in (f .n) 40 (m k) (dues k lk ne) q at lq refl)
 
   pub length-dms : length (dmRows f m) ≡ f .n * (40 * dmLen (f .n))
   unfolding dmRows
@@ -71,10 +64,11 @@ module _ (S : Seen) where
   open Seen S using (inputs as a, mail as m)
   open Args (S .inputs) using (party as f)
 
-  pub msg-12 : ((k : ℕ) → k < f .n → f .i ≢ k → formOf Dms 40 (m 10 k) ≡ 0) → dmFaults f (m 10) .code ≡ 0
+  pub msg-12 : ((k : ℕ) → k < f .n → f .i ≢ k → formOf Dms 40 (m 10 k) ≡ 0)
+      → (comms : List ℕ) → verFaults f comms (m 10) .code ≡ 0
       → dibiMsg f (F.delta S) (a .bits) (dmRows f (m 10)) ≡ F.sent12 S
   unfolding dibiMsg F.sent12 F.di F.dmBit others1
-  msg-12 formed clean =
+  msg-12 formed comms clean =
       encode-ext 40 _ _ (λ q lq. ap bytesOf (ap (λ (b : Bool). blocks .op (d0 f (a .bits) q) (sel blocks b (F.delta S)))
-      (others-ext bits (f .i) (f .n) _ (λ k. F.dmBit S k q) (λ k lk ne. ap odd (dm-bit-read f (m 10) formed clean k q lk ne lq)))
+      (others-ext bits (f .i) (f .n) _ (λ k. F.dmBit S k q) (λ k lk ne. ap odd (dm-bit-read f (m 10) formed comms clean k q lk ne lq)))
       ∙ zero-or-one f (F.delta S) (a .bits) q (others bits (f .i) (f .n) (λ k. F.dmBit S k q))))

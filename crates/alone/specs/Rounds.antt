@@ -271,7 +271,7 @@ module _ (a : Args) (q : ℕ → Loan) (m : ℕ → ℕ → List ℕ) (I : Admis
   unfolding kindOf countDue
   formed-10 formed = formed
 
-  clean-10 : (w : List ℕ) → Judged 10 w → Fashare.dmFaults f (m 10) .code ≡ 0
+  clean-10 : (w : List ℕ) → Judged 10 w → Fashare.verFaults f (at f SHARE-COMMS w) (m 10) .code ≡ 0
   unfolding judge
   clean-10 w judged = judged
 
@@ -282,7 +282,7 @@ module _ (a : Args) (q : ℕ → Loan) (m : ℕ → ℕ → List ℕ) (I : Admis
 
   fit-dms : Formed 10 → (w : List ℕ) → Judged 10 w → fits DMS
   unfolding holds sizeOf sizes
-  fit-dms formed w judged = (omega arith, λ i li. length-dms f (m 10) (formed-10 formed) (clean-10 w judged))
+  fit-dms formed w judged = (omega arith, λ i li. length-dms f (m 10) (formed-10 formed) (at f SHARE-COMMS w) (clean-10 w judged))
 
   pub send-8 : SendAt 8
   unfolding staysTest allOf mem since held written F.sent F.sent8
@@ -313,7 +313,7 @@ module _ (a : Args) (q : ℕ → Loan) (m : ℕ → ℕ → List ℕ) (I : Admis
     writes = λ past z w K j lj ne.
         let p : Passed 10 = tenth past in
         (λ e. Fashare.dibiMsg f (delta-is K e) (bits-at K e) (dms-at K refl e))
-        ∙ msg-12 S (formed-10 (p .formed)) (clean-10 (p .work) (p .judged));
+        ∙ msg-12 S (formed-10 (p .formed)) (at f SHARE-COMMS (p .work)) (clean-10 (p .work) (p .judged));
   }
 
   pub recv-12 : RecvAt 12

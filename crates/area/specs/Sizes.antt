@@ -4,8 +4,9 @@ use Prim.Native.Nat.{_-_, _*_}
 use Rattle.share.specs.Record.{recordLen}
 use Rattle.plan.specs.Plan.{bucketSize, leaky, bitsCount}
 use Rattle.engine.specs.declared.Frame.{Frame}
-use Rattle.rounds.specs.Area.{SEED, PAIRS, MASKS, BITS, ALPHA, BETA, COMMS, JOINT, PAIR-COMMS}
+use Rattle.rounds.specs.Area.{SEED, PAIRS, MASKS, BITS, ALPHA, BETA, COMMS, JOINT, PAIR-COMMS, SHARE-COMMS}
 use Rattle.rounds.specs.Area.{LEAKY, ZS, ES, HS, H-COMMS, PERM, DS, TRIPLES, PENDING, HASHES, leakyLen, sizes, sizeOf}
+use Rattle.rounds.specs.Fashare.{COMM-ROW}
 
 module _ (f : Frame) where
   pub size-seed : sizeOf f SEED ≡ 32
@@ -43,6 +44,10 @@ module _ (f : Frame) where
   pub size-pair-comms : sizeOf f PAIR-COMMS ≡ f .n * 32
   unfolding sizeOf sizes
   size-pair-comms = refl
+
+  pub size-share-comms : sizeOf f SHARE-COMMS ≡ f .n * COMM-ROW
+  unfolding sizeOf sizes
+  size-share-comms = refl
 
   pub size-leaky : sizeOf f LEAKY ≡ leaky (f .l) * leakyLen (f .n)
   unfolding sizeOf sizes

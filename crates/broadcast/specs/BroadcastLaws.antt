@@ -13,7 +13,7 @@ use Rattle.lists.specs.Rows.{cat-ext}
 use Rattle.plan.specs.Plan.{RNG-VER, PAIR-VER, FABITN, FASHARE-VER, FASHARE-DIBI, FLAAND-HASH, DVALUE, FAAND}
 use Rattle.engine.specs.declared.Frame.{Frame}
 use Rattle.engine.specs.Step.{Fault, none?, other, mask, orElse, byParty}
-use Rattle.engine.specs.StepLaws.{other-cases, or-none, or-first, scan-ext}
+use Rattle.engine.specs.StepLaws.{other-cases, scan-ext}
 use Rattle.engine.specs.Plain.{rowsOf, waits, waiting, prior, digests, hashes, pending, echoCheck}
 use Rattle.engine.specs.Area.{mem}
 use Rattle.rounds.specs.Area.{PENDING, HASHES, at}
@@ -68,12 +68,23 @@ mem-two x a b = go (eqb x a) (mem-one x b)
     go true e = refl
     go false e = e
 
+mem-three : (x a b c : ℕ) → ((eqb x a || eqb x b) || eqb x c) ≡ mem x (a ∷ b ∷ c ∷ [])
+unfolding mem
+mem-three x a b c = go (eqb x a) (mem-two x b c)
+  where
+    go : (t : Bool) → (eqb x b || eqb x c) ≡ mem x (b ∷ c ∷ []) → ((t || eqb x b) || eqb x c) ≡ pick t true (mem x (b ∷ c ∷ []))
+    go true e = refl
+    go false e = e
+
 module _ (k code : ℕ) where
   pub faults-one : (a c : ℕ) → faults a ≡ c ∷ [] → k ≡ a → eqb code c ≡ mem code (faults k)
   faults-one a c h e = mem-one code c ∙ sym (ap (mem code) (ap faults e ∙ h))
 
   pub faults-two : (a c d : ℕ) → faults a ≡ c ∷ d ∷ [] → k ≡ a → (eqb code c || eqb code d) ≡ mem code (faults k)
   faults-two a c d h e = mem-two code c d ∙ sym (ap (mem code) (ap faults e ∙ h))
+
+  pub faults-three : (a c d e : ℕ) → faults a ≡ c ∷ d ∷ e ∷ [] → k ≡ a → ((eqb code c || eqb code d) || eqb code e) ≡ mem code (faults k)
+  faults-three a c d e h q = mem-three code c d e ∙ sym (ap (mem code) (ap faults q ∙ h))
 
   pub faults-none : k ≢ RNG-VER → k ≢ PAIR-VER → k ≢ FABITN → k ≢ FASHARE-VER → k ≢ FASHARE-DIBI → k ≢ FLAAND-HASH → k ≢ DVALUE → k ≢ FAAND
       → false ≡ mem code (faults k)
@@ -115,13 +126,6 @@ module _ (f : Frame) (k : ℕ) (w x : List ℕ) (party : ℕ) (b : Bool)
   finds-nothing e =
       let r = pending-is ∙ ap (λ t. pick t (record { code = getD x 0 0; party = party }) none?) e in
       record { code-is = sym (ap (λ (y : Fault). y .code) r); party-is = λ _. sym (ap (λ (y : Fault). y .party) r) }
-
--- the first of two faults
-pub finds-one : (code party : ℕ) (a b : Fault) → Finds code party a → code ≢ 0 → Finds code party (orElse a b)
-finds-one code party a b h ne = rw (or-first a b (λ z. ne (h .code-is ∙ z))) h
-
-pub finds-two : (code party : ℕ) (a b : Fault) → a .code ≡ 0 → Finds code party b → Finds code party (orElse a b)
-finds-two code party a b z h = rw (or-none a b z) h
 
 -- number and party in two bytes
 pub waits-is : (code party p : ℕ) → p ≡ pick (eqb code 0) 0 party → code ∷ p ∷ [] ≡ waits (record { code = code; party = party })

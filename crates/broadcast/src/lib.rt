@@ -100,7 +100,7 @@ fn finds(k: usize, code: u8) -> bool
     match k {
         plan::RNG_VER | plan::PAIR_VER => code == 2,
         plan::FABITN => code == 8,
-        plan::FASHARE_VER => (code == 4) | (code == 1),
+        plan::FASHARE_VER => (code == 2) | (code == 4) | (code == 1),
         plan::FASHARE_DIBI => (code == 2) | (code == 9),
         plan::FLAAND_HASH => (code == 2) | (code == 10),
         plan::DVALUE => code == 11,

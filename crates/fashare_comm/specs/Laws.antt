@@ -3,6 +3,7 @@
 use mathlib.Core.Path.{_≡_, refl, sym, ap, ap₂, _∙_}
 use mathlib.Core.List.{List, [], _∷_, _++_, append-assoc}
 use Prim.Native.Nat.{ℕ, zero, suc, _+_, _-_, _*_, _<_, _≤_}
+use native.Mathlib.Nat.{mul-le-mul}
 use native.Mathlib.Numerals.{add-one}
 use native.Mathlib.Omega.{arith}
 use lib.ListN.{length, drop, set, length-append, length-set}
@@ -107,6 +108,14 @@ DM-MOST = 113
 pub dm-most : (n : ℕ) → n ≤ 8 → dmLen n ≤ DM-MOST
 unfolding dmLen
 dm-most n h = omega arith
+
+-- where dm q begins, with a length in front of each or without, is no large number
+module _ (q n len : ℕ) (h : q < STRINGS) (v : n ≤ 8) (e : len ≡ dmLen n) where
+  pub place-most : q * (8 + len) ≤ STRINGS * (8 + DM-MOST)
+  place-most = mul-le-mul (let w : q ≤ STRINGS = omega arith in w) (let w : 8 + len ≤ 8 + DM-MOST = omega (arith, dm-most n v) in w)
+
+  pub row-most : q * len ≤ STRINGS * DM-MOST
+  row-most = mul-le-mul (let w : q ≤ STRINGS = omega arith in w) (let w : len ≤ DM-MOST = omega (arith, dm-most n v) in w)
 
 -- ---- the three commitments to string q
 abbrev pub commItem : Frame → Block → List ℕ → ℕ → List ℕ

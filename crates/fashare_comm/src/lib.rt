@@ -29,7 +29,7 @@ pub const STRINGS: usize = 40;
 // Where the commitments to d1 and to dm begin behind that to d0, and where they end.
 pub const D1_AT: usize = 32;
 
-const DM_AT: usize = 64;
+pub const DM_AT: usize = 64;
 
 pub const COMM: usize = 96;
 

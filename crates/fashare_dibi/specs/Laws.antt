@@ -12,7 +12,7 @@ use lib.Dec.{ltb}
 use borrow.Author.Tests.{ltb-true, ltb-false}
 use Rattle.lists.specs.Pick.{pick}
 use Rattle.lists.specs.Over.{in-chunks}
-use Rattle.lists.specs.Same.{same?, same-true, same-false}
+use Rattle.lists.specs.Same.{same?, same-comm}
 use Rattle.algebra.specs.Group.{bits, addb, sel, odd}
 use Rattle.algebra.specs.Sum.{neq, others}
 use Rattle.block.specs.declared.Block.{Block}
@@ -99,15 +99,6 @@ unfolding Fashare.dibiMsg
 length-dibi f delta recs dms = length-encode 16 STRINGS _ (λ t h. length-bytesOf _)
 
 -- ---- commitments
-same-comm : (a b : List ℕ) → same? a b ≡ same? b a
-same-comm a b = go (same? a b) refl (same? b a) refl
-  where
-    go : (s : Bool) → same? a b ≡ s → (t : Bool) → same? b a ≡ t → s ≡ t
-    go true e true f = refl
-    go true e false f = absurd (same-false b a f (sym (same-true a b e)))
-    go false e true f = absurd (same-false a b e (sym (same-true b a f)))
-    go false e false f = refl
-
 -- what the check says, with its three tests at hand
 module _ (f : Frame) (recs comms dms : List ℕ) (m : ℕ → List ℕ) (q k : ℕ) where
   abbrev d : Block

@@ -1,5 +1,5 @@
 -- Round 19: the checks of h, item by item and window by window.
-use mathlib.Core.Path.{_≡_, refl, sym, ap, ap₂, _∙_, subst}
+use mathlib.Core.Path.{_≡_, refl, sym, ap, ap₂, _∙_}
 use mathlib.Core.Logic.{_≢_}
 use mathlib.Core.Bool.{Bool, _&&_}
 use mathlib.Core.List.{List}
@@ -25,10 +25,9 @@ use Rattle.blake3_lanes.specs.Lanes.{hashAt}
 use Rattle.plan.specs.Plan.{leaky}
 use Rattle.engine.specs.declared.Frame.{Frame}
 use Rattle.engine.specs.Step.{byParty}
-use Rattle.engine.specs.StepLaws.{or-none, or-first}
 use Rattle.rounds.specs.EchoLaws.{same-block}
 use Rattle.blake3.specs.ByteLaws.{length-hash}
-use Rattle.rounds.specs.FaultLaws.{Finds}
+use Rattle.rounds.specs.FaultLaws.{Finds, finds-one, finds-two}
 use Rattle.rounds.specs.Flaand.{hTold, opening, zeroSum, hFaults}
 
 -- ---- the checks of round 19
@@ -56,15 +55,12 @@ summed f own m =
 module _ (f : Frame) (own comms : List ℕ) (m : ℕ → List ℕ) (code party : ℕ) (e : Finds code party (opening f comms m)) where
   pub faults-open : code ≢ 0 → Finds code party (hFaults f own comms m)
   unfolding hFaults
-  faults-open ne =
-      let w : opening f comms m ≡ hFaults f own comms m = sym (or-first (opening f comms m) (zeroSum f own m) (λ z. ne (e .code-is ∙ z))) in
-      subst (Finds code party) w e
+  faults-open ne = finds-one code party (opening f comms m) (zeroSum f own m) e ne
 
   pub faults-sum : (x : ℕ) → code ≡ 0 → x ≡ pick (summed f own m) 0 10 → Finds x (f .i) (hFaults f own comms m)
   unfolding hFaults zeroSum summed
   faults-sum x z h =
-      let w : zeroSum f own m ≡ hFaults f own comms m = sym (or-none (opening f comms m) (zeroSum f own m) (sym (e .code-is) ∙ z)) in
-      subst (Finds x (f .i)) w (record { code-is = h; party-is = λ q. refl })
+      finds-two x (f .i) (opening f comms m) (zeroSum f own m) (sym (e .code-is) ∙ z) (record { code-is = h; party-is = λ q. refl })
 
 -- ---- windows
 -- one Block more

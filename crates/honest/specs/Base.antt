@@ -5,16 +5,14 @@
 --  * a section of a Known work area: `bits-at R K : at (box R i) BITS w ≡ R .inputs i .bits`. For a section that a round fills
 --    there is one argument more, that it is ready: `comms-at R K refl`, computed at the moments `due 3`, `before 4`, ..
 --  * what is kept: `keep-one`, `keep-two`, `keep-none`. Their tests are closed by `refl` under `unfolding staysTest allOf mem since`.
---  * messages: `rows-ext` of alone/Base, `by-ext` of engine/StepLaws, `first-ext` here and `others-ext` of algebra/Sum turn a definition on `m` into the one
---    on the script's mail; `by-none` of engine/StepLaws, `first-none` here show that a check passes.
+--  * messages: `rows-ext` of alone/Base, `by-ext` of engine/StepLaws, `first-ext` of rounds/FaultLaws and `others-ext` of algebra/Sum turn a definition on `m` into the one
+--    on the script's mail; `by-none` of engine/StepLaws, `first-none` of rounds/FaultLaws show that a check passes.
 --  * a message that is a list: `list-form`, `list-len` from Coded items (encode/Coded), `trip` of encode/RoundTrip for what is read
 --    of it: it is used to its last byte.
-use mathlib.Core.Path.{_≡_, refl, ap, ap₂, _∙_}
+use mathlib.Core.Path.{_≡_, refl, ap}
 use mathlib.Core.Bool.{true, false}
-use mathlib.Core.Logic.{_≢_}
 use mathlib.Core.List.{List, [], _∷_}
-use Prim.Native.Nat.{ℕ, zero, suc, _^_, _<_}
-use native.Mathlib.Nat.{le-refl}
+use Prim.Native.Nat.{ℕ, _^_, _<_}
 use native.Mathlib.Omega.{arith}
 use lib.ListN.{length}
 use lib.Dec.{leb, ltb}
@@ -27,30 +25,16 @@ use Rattle.encode.specs.Encode.{encode}
 use Rattle.encode.specs.Coded.{Coded, length-encode}
 use Rattle.encode.specs.RoundTrip.{trip}
 use Rattle.plan.specs.Plan.{listLen}
-use Rattle.engine.specs.Step.{Fault, orElse}
-use Rattle.engine.specs.StepLaws.{or-none}
 use Rattle.engine.specs.Sheet.{Store, Known, staysTest}
 use Rattle.engine.specs.Honest.{before, due, storeOf, SendAt, RecvAt, ListAt, LastAt}
 use Rattle.rounds.specs.Area.{DELTA, SEED, PAIRS, MASKS, BITS, ALPHA, BETA, COMMS, PAIR-COMMS, KEY-SUMS, SHARE-COMMS, DMS, LEAKY, ZS, ES}
-use Rattle.rounds.specs.Area.{HS, H-COMMS, PERM, DS, TRIPLES, ROUNDS-OWN, sizeOf, at, keep, firstOf}
+use Rattle.rounds.specs.Area.{HS, H-COMMS, PERM, DS, TRIPLES, ROUNDS-OWN, sizeOf, at, keep}
 use Rattle.rounds.specs.Table.{delta}
 use Rattle.alone.specs.Base.{has-at}
 use Rattle.alone.specs.Base as A
 use Rattle.honest.specs.Subject.{subject}
 use Rattle.honest.specs.Script as S
 use Rattle.honest.specs.Inputs.{Run, box}
-
--- ---- checks item by item
-pub first-ext : (c : ℕ) (g h : ℕ → Fault) → ((j : ℕ) → j < c → g j ≡ h j) → firstOf c g ≡ firstOf c h
-unfolding firstOf
-first-ext zero g h e = refl
-first-ext (suc c) g h e = ap₂ orElse (first-ext c g h (λ j l. e j (omega arith))) (e c (le-refl (suc c)))
-
-pub first-none : (c : ℕ) (g : ℕ → Fault) → ((j : ℕ) → j < c → g j .code ≡ 0) → firstOf c g .code ≡ 0
-unfolding firstOf
-first-none zero g e = refl
-first-none (suc c) g e =
-    ap (λ (x : Fault). x .code) (or-none (firstOf c g) (g c) (first-none c g (λ j l. e j (omega arith)))) ∙ e c (le-refl (suc c))
 
 -- ---- a message that is a list
 pub list-form : (K : Kind) (c : ℕ) (g : ℕ → List ℕ) → c < 2 ^ 64 → ((t : ℕ) → t < c → Coded K (g t)) → formOf K c (encode c g) ≡ 0

@@ -30,9 +30,10 @@ use Rattle.rounds.specs.Area.{KEY-SUMS, sizes, sizeOf}
 use Rattle.rounds.specs.Table.{judge, kept, held, written}
 use Rattle.rounds.specs.Fabitn.{picks, bitSum, macSum, keySum, abitMsg, keySums, abitFault, abits}
 use Rattle.rounds.specs.EchoLaws.{length-hashVec}
+use Rattle.rounds.specs.FaultLaws.{first-none}
 use Rattle.honest.specs.Script as S
 use Rattle.honest.specs.Inputs.{Run, box, Boxes, deltas, bitsOf}
-use Rattle.honest.specs.Base.{Receives, Sends, Hashes, first-none, list-len, Fit, delta-is, bits-at, key-sums-at, keep-none, keep-one}
+use Rattle.honest.specs.Base.{Receives, Sends, Hashes, list-len, Fit, delta-is, bits-at, key-sums-at, keep-none, keep-one}
 use Rattle.alone.specs.Cells.{length-cells, cell}
 use Rattle.honest.specs.Firsts.{pairs-trip, bit-read, block-read, hash-bits}
 

@@ -1,5 +1,5 @@
--- Rounds 8, 10 and 12, `fashare`, in an honest run: every dm is as long as it should and begins with a bit, and what a box opens is the
--- XOR of all MACs for it, and one of the two Blocks that it committed to.
+-- Rounds 8, 10 and 12, `fashare`, in an honest run: every dm opens its commitment, is as long as it should be and begins with a bit; and
+-- what a box opens is the XOR of all MACs for it, and one of the two Blocks that it committed to.
 use mathlib.Core.Path.{_≡_, refl, sym, ap, ap₂, _∙_, subst}
 use mathlib.Core.Bool.{Bool, true, false, _||_}
 use mathlib.Core.Logic.{_≢_}
@@ -8,7 +8,7 @@ use Prim.Native.Nat.{ℕ, suc, _+_, _-_, _*_, _^_, _<_, _≤_}
 use native.Mathlib.Nat.{le-refl}
 use native.Mathlib.Omega.{arith}
 use lib.ListN.{length, getD, take, drop}
-use lib.Seq.{take-at, drop-at, take-take, take-length}
+use lib.Seq.{take-at, drop-at, drop-drop, take-take, take-length}
 use lib.Dec.{ltb, leb, eqb}
 use borrow.Author.Tests.{eq-eqb, le-leb, ltb-true, ltb-false, lt-ltb, le-ltb}
 use Rattle.lists.specs.Pick.{pick}
@@ -35,22 +35,24 @@ use Rattle.encode.specs.Coded.{length-threeHashes, coded-threeHashes, length-en
 use Rattle.encode.specs.RoundTrip.{Trip, trip, even-item}
 use Rattle.plan.specs.Plan.{kindOf, countDue, listLen, msgLen, leaky, bitsCount, dmLen}
 use Rattle.engine.specs.declared.Frame.{Frame}
-use Rattle.engine.specs.StepLaws.{by-none}
+use Rattle.engine.specs.Step.{Fault}
+use Rattle.engine.specs.StepLaws.{or-none, by-none}
 use Rattle.engine.specs.Area.{mem, get-get, nth}
 use Rattle.engine.specs.Sheet.{staysTest}
 use Rattle.engine.specs.Order.{echoIn}
 use Rattle.engine.specs.Honest.{before, due, plainAfter}
 use Rattle.rounds.specs.Area.{SHARE-COMMS, DMS, sizes, sizeOf, rows}
 use Rattle.rounds.specs.Table.{judge, kept, held, written}
-use Rattle.rounds.specs.Fashare.{own, d0, d1, dm, dmMac, commMsg, commRows, verMsg, dmAt, dmFault, dmFaults, dmRows, dmRow, others1}
-use Rattle.rounds.specs.Fashare.{dibiMsg, macsFor, dibiFault, dibiFaults}
+use Rattle.rounds.specs.Fashare.{own, d0, d1, dm, dmMac, commMsg, commRows, verMsg, dmAt, dmRows, dmRow, others1}
+use Rattle.rounds.specs.Fashare.{wholeDm, thirdFault, thirdFaults, dmFault, dmFaults, verFaults, dibiMsg, macsFor, dibiFault, dibiFaults}
+use Rattle.rounds.specs.FaultLaws.{first-none}
 use Rattle.alone.specs.Base.{rows-ext}
 use Rattle.alone.specs.FashareLaws.{dm-some}
 use Rattle.blake3.specs.ByteLaws.{length-hash}
 use Rattle.rounds.specs.EchoLaws.{length-hashVec}
 use Rattle.honest.specs.Script as S
 use Rattle.honest.specs.Inputs.{Run, box, Boxes, deltas, bitsOf}
-use Rattle.honest.specs.Base.{Receives, Sends, Hashes, first-none, list-form, list-len, Fit, delta-is, bits-at, share-comms-at}
+use Rattle.honest.specs.Base.{Receives, Sends, Hashes, list-form, list-len, Fit, delta-is, bits-at, share-comms-at}
 use Rattle.honest.specs.Base.{dms-at, keep-none, keep-one}
 use Rattle.alone.specs.Cells.{head-part, items-row, length-cells, cell}
 
@@ -134,6 +136,10 @@ module _ (f : Frame) (recs : List ℕ) (most : f .n ≤ 8) where
   ver-bytes q l =
       ap (λ k. take k (drop (itemAt Dms (verMsg f recs) q + 8) (verMsg f recs))) (sym (length-own-dm f recs q))
       ∙ dm-bytes 40 (dm f recs) (verMsg f recs) ver-trip q l
+
+  ver-whole : (q : ℕ) → q < 40 → wholeDm (verMsg f recs) q ≡ dm f recs q
+  unfolding wholeDm
+  ver-whole q l = ap (λ k. take k (drop (dmAt (verMsg f recs) q) (verMsg f recs))) (ver-word q l) ∙ ver-bytes q l
 
   -- it begins with a bit
   ver-bit : (q : ℕ) → q < 40 → getD (verMsg f recs) (dmAt (verMsg f recs) q) 0 ≡ num (own f recs q .bit)
@@ -257,6 +263,37 @@ module _ (R : Run) (X : Boxes R) where
   abbrev dmOf : ℕ → ℕ → List ℕ
   dmOf b q = dm (box R b) (inputs b .bits) q
 
+  -- what i keeps of k's commitments to string q
+  module _ (i k q : ℕ) (lk : k < n) (ne : i ≢ k) (lq : q < 40) where
+    abbrev told : List ℕ
+    told = drop ((k * 40 + q) * 96) (S.shareComms R i)
+
+    abbrev h0 : List ℕ
+    h0 = hash (bytesOf (d0 (box R k) (inputs k .bits) q))
+
+    abbrev h1 : List ℕ
+    h1 = hash (bytesOf (d1 (box R k) (deltas R k) (inputs k .bits) q))
+
+    comm-cell : take 96 told ≡ h0 ++ (h1 ++ hash (dmOf k q))
+    comm-cell =
+        ap (λ (x : List ℕ). take 96 (drop ((k * 40 + q) * 96) x)) (share-comms-are i)
+        ∙ cell (box R i) 40 96 commits (λ k q lk ne lq. length-hashes (box R k) (deltas R k) (inputs k .bits) q) k q lk ne lq
+
+    first-comm : take 32 told ≡ h0
+    first-comm = sym (take-take 32 96 told (omega arith)) ∙ ap (take 32) comm-cell ∙ take-at h0 (h1 ++ hash (dmOf k q)) 32 (length-hash _)
+
+    second-comm : take 32 (drop 32 told) ≡ h1
+    second-comm =
+        sym (get-get 0 96 32 32 told (omega arith)) ∙ ap (λ (x : List ℕ). take 32 (drop 32 x)) comm-cell
+        ∙ ap (take 32) (drop-at h0 (h1 ++ hash (dmOf k q)) 32 (length-hash _)) ∙ take-at h1 (hash (dmOf k q)) 32 (length-hash _)
+
+    third-comm : take 32 (drop 64 told) ≡ hash (dmOf k q)
+    third-comm =
+        sym (get-get 0 96 64 32 told (omega arith)) ∙ ap (λ (x : List ℕ). take 32 (drop 64 x)) comm-cell
+        ∙ ap (take 32) (sym (drop-drop 32 32 (h0 ++ (h1 ++ hash (dmOf k q)))) ∙ ap (drop 32) (drop-at h0 (h1 ++ hash (dmOf k q)) 32 (length-hash _))
+        ∙ drop-at h1 (hash (dmOf k q)) 32 (length-hash _))
+        ∙ ap (λ c. take c (hash (dmOf k q))) (sym (length-hash (dmOf k q))) ∙ take-length (hash (dmOf k q))
+
   dms-are : (i : ℕ) (m : ℕ → List ℕ) → ((k : ℕ) → k < n → i ≢ k → m k ≡ verMsg (box R k) (inputs k .bits))
       → dmRows (box R i) m ≡ rows (box R i) (40 * dmLen n) (λ k. cat 40 (dmOf k))
   unfolding dmRows
@@ -287,6 +324,24 @@ module _ (R : Run) (X : Boxes R) where
         le-leb _ _ (num-le (own (box R k) (inputs k .bits) q .bit)),
       ) refl
 
+  -- an honest dm opens its commitment
+  dm-opens : (i q : ℕ) (m : ℕ → List ℕ) → q < 40 → (k : ℕ) → k < n → i ≢ k → m k ≡ verMsg (box R k) (inputs k .bits)
+      → thirdFault (S.shareComms R i) m q k ≡ 0
+  unfolding thirdFault
+  dm-opens i q m lq k lk ne e =
+      let whole : wholeDm (m k) q ≡ dmOf k q =
+      ap (λ (x : List ℕ). wholeDm x q) e ∙ ver-whole (box R k) (inputs k .bits) (X .range .eight) q lq in
+      ap (λ (t : Bool). pick t 0 2) (same-eq _ _ (ap hash whole ∙ sym (third-comm i k q lk ne lq)))
+
+  -- no fault is found in honest dms
+  dms-pass : (i : ℕ) (m : ℕ → List ℕ) → ((k : ℕ) → k < n → i ≢ k → m k ≡ verMsg (box R k) (inputs k .bits))
+      → verFaults (box R i) (S.shareComms R i) m .code ≡ 0
+  unfolding verFaults thirdFaults dmFaults
+  dms-pass i m M =
+      ap (λ (x : Fault). x .code) (or-none (thirdFaults (box R i) (S.shareComms R i) m) (dmFaults (box R i) m)
+      (first-none 40 _ (λ q lq. by-none (box R i) _ (λ k lk ne. dm-opens i q m lq k lk ne (M k lk ne)))))
+      ∙ first-none 40 _ (λ q lq. by-none (box R i) _ (λ k lk ne. dm-passes i q m lq k (M k lk ne)))
+
   pub send-10 : Sends R 10
   unfolding staysTest allOf mem S.since S.sent S.sent10 held written
   send-10 = record {
@@ -295,12 +350,12 @@ module _ (R : Run) (X : Boxes R) where
   }
 
   pub recv-10 : Receives R 10
-  unfolding plainAfter echoIn mem staysTest allOf S.since S.holds S.sent S.sent10 judge kept dmFaults
+  unfolding plainAfter echoIn mem staysTest allOf S.since S.holds S.sent S.sent10 judge kept
   recv-10 = record {
     heard = record {
       lens = λ j r lj lr ne. ver-len (box R j) (inputs j .bits) (X .range .eight) l;
       formed = λ i j li lj ne. ver-form (box R j) (inputs j .bits) (X .range .eight) l;
-      judged = λ i li w K m M. first-none 40 _ (λ q lq. by-none (box R i) _ (λ k lk ne. dm-passes i q m lq k (M k lk ne)));
+      judged = λ i li w K m M. (λ t. verFaults (box R i) (share-comms-at R K refl t) m .code) ∙ dms-pass i m M;
     };
     keeps = λ i li w K m M. keep-one R (due 10) (before 12) i li K DMS _ refl fit-dms (dms-are i m M ∙ sym (kept-dms i));
   }
@@ -399,29 +454,6 @@ module _ (R : Run) (X : Boxes R) where
       (small-opens k q lk lq)
 
   -- ---- the check
-  module _ (i k q : ℕ) (lk : k < n) (ne : i ≢ k) (lq : q < 40) where
-    abbrev told : List ℕ
-    told = drop ((k * 40 + q) * 96) (S.shareComms R i)
-
-    abbrev h0 : List ℕ
-    h0 = hash (bytesOf (d0 (box R k) (inputs k .bits) q))
-
-    abbrev h1 : List ℕ
-    h1 = hash (bytesOf (d1 (box R k) (deltas R k) (inputs k .bits) q))
-
-    comm-cell : take 96 told ≡ h0 ++ (h1 ++ hash (dmOf k q))
-    comm-cell =
-        ap (λ (x : List ℕ). take 96 (drop ((k * 40 + q) * 96) x)) (share-comms-are i)
-        ∙ cell (box R i) 40 96 commits (λ k q lk ne lq. length-hashes (box R k) (deltas R k) (inputs k .bits) q) k q lk ne lq
-
-    first-comm : take 32 told ≡ h0
-    first-comm = sym (take-take 32 96 told (omega arith)) ∙ ap (take 32) comm-cell ∙ take-at h0 (h1 ++ hash (dmOf k q)) 32 (length-hash _)
-
-    second-comm : take 32 (drop 32 told) ≡ h1
-    second-comm =
-        sym (get-get 0 96 32 32 told (omega arith)) ∙ ap (λ (x : List ℕ). take 32 (drop 32 x)) comm-cell
-        ∙ ap (take 32) (drop-at h0 (h1 ++ hash (dmOf k q)) 32 (length-hash _)) ∙ take-at h1 (hash (dmOf k q)) 32 (length-hash _)
-
   passes : (t u : Bool) → t ≡ true → u ≡ true → _≡_ {A = ℕ} (pick t (pick u 0 9) 2) 0
   passes t u p q = rw (p, q) refl
 

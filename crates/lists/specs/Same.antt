@@ -40,6 +40,15 @@ same-eq a b e = subst (λ x. same? a x ≡ true) e (same-refl a)
 pub same-false : (a b : List ℕ) → same? a b ≡ false → a ≡ b → ⊥
 same-false a b h e = true-false (sym (same-eq a b e) ∙ h)
 
+pub same-comm : (a b : List ℕ) → same? a b ≡ same? b a
+same-comm a b = go (same? a b) refl (same? b a) refl
+  where
+    go : (s : Bool) → same? a b ≡ s → (t : Bool) → same? b a ≡ t → s ≡ t
+    go true e true f = refl
+    go true e false f = absurd (same-false b a f (sym (same-true a b e)))
+    go false e true f = absurd (same-false a b e (sym (same-true b a f)))
+    go false e false f = refl
+
 -- ---- lists that are compared part by part
 pub same-append : (a b x y : List ℕ) → length a ≡ length b → same? (a ++ x) (b ++ y) ≡ (same? a b && same? x y)
 unfolding same?

@@ -3,9 +3,7 @@ use mathlib.Core.Path.{_≡_, refl, ap, ap₂}
 use mathlib.Core.Bool.{Bool, cond, _&&_, _||_}
 use mathlib.Core.Logic.{_≢_}
 use mathlib.Core.List.{List, _∷_}
-use Prim.Native.Nat.{ℕ, zero, suc, _+_, _*_, _<_}
-use native.Mathlib.Nat.{le-refl}
-use native.Mathlib.Omega.{arith}
+use Prim.Native.Nat.{ℕ, _+_, _*_, _<_}
 use lib.Dec.{leb, eqb}
 use lib.ListN.{getD, take, drop, replicate}
 use lib.Bits.{bitXor}
@@ -25,10 +23,10 @@ use Rattle.message.specs.Format.{itemAt}
 use Rattle.share.specs.Share.{recordOf}
 use Rattle.plan.specs.Plan.{leaky, dmLen}
 use Rattle.engine.specs.declared.Frame.{Frame}
-use Rattle.engine.specs.Step.{Fault, mask, orElse}
+use Rattle.engine.specs.Step.{mask, orElse}
 use Rattle.engine.specs.StepLaws.{other-cases, mask-at, by-ext}
 use Rattle.rounds.specs.Area.{SEED, PAIRS, MASKS, BITS, ALPHA, BETA, COMMS, JOINT, PAIR-COMMS, PAIRWISE, KEY-SUMS, SHARE-COMMS, DMS, LEAKY}
-use Rattle.rounds.specs.Area.{ZS, ES, HS, H-COMMS, PERM, DS, TRIPLES, at, keep, rows, firstOf}
+use Rattle.rounds.specs.Area.{ZS, ES, HS, H-COMMS, PERM, DS, TRIPLES, at, keep, rows}
 use Rattle.rounds.specs.Toss as Toss
 use Rattle.rounds.specs.Fabitn as Fabitn
 use Rattle.rounds.specs.Fashare as Fashare
@@ -36,6 +34,7 @@ use Rattle.rounds.specs.Haand as Haand
 use Rattle.rounds.specs.Flaand as Flaand
 use Rattle.rounds.specs.Buckets as Buckets
 use Rattle.rounds.specs.Beaver as Beaver
+use Rattle.rounds.specs.FaultLaws.{first-ext}
 use Rattle.rounds.specs.Table.{delta, judge, kept}
 
 -- ---- rows, checks and sums over other parties
@@ -43,11 +42,6 @@ rows-ext : (f : Frame) (c : ℕ) (g h : ℕ → List ℕ) → ((k : ℕ) → k <
 unfolding rows
 rows-ext f c g h e =
     cat-ext (f .n) _ _ (λ k l. other-cases f k (λ b. pick b (g k) (replicate c 0) ≡ pick b (h k) (replicate c 0)) (λ l′ ne. e k l′ ne) refl)
-
-first-ext : (c : ℕ) (g h : ℕ → Fault) → ((j : ℕ) → j < c → g j ≡ h j) → firstOf c g ≡ firstOf c h
-unfolding firstOf
-first-ext zero g h e = refl
-first-ext (suc c) g h e = ap₂ orElse (first-ext c g h (λ j l. e j (omega arith))) (e c (le-refl (suc c)))
 
 -- ---- round by round
 module _ (f : Frame) (m : ℕ → List ℕ) where
@@ -89,11 +83,21 @@ module _ (f : Frame) (m : ℕ → List ℕ) where
   unfolding Fashare.commRows
   shareComms = rows-ext f (40 * 96) _ _ (λ k l ne. of (λ x. take (40 * 96) (drop 8 x)) k l ne)
 
-  pub dmFaults : Fashare.dmFaults f M ≡ Fashare.dmFaults f m
+  thirdFaults : (comms : List ℕ) → Fashare.thirdFaults f comms M ≡ Fashare.thirdFaults f comms m
+  unfolding Fashare.thirdFaults Fashare.thirdFault
+  thirdFaults comms =
+      first-ext 40 _ _ (λ q lq. by-ext f _ _ (λ k l ne.
+      of (λ x. pick (same? (hash (Fashare.wholeDm x q)) (take 32 (drop 64 (Fashare.commsTo comms k q)))) 0 2) k l ne))
+
+  dmFaults : Fashare.dmFaults f M ≡ Fashare.dmFaults f m
   unfolding Fashare.dmFaults Fashare.dmFault
   dmFaults =
       first-ext 40 _ _ (λ q lq. by-ext f _ _ (λ k l ne.
       of (λ x. pick (eqb (wordAt x (itemAt Dms x q)) (dmLen (f .n))) (pick (leb (getD x (Fashare.dmAt x q) 0) 1) 0 1) 4) k l ne))
+
+  verFaults : (comms : List ℕ) → Fashare.verFaults f comms M ≡ Fashare.verFaults f comms m
+  unfolding Fashare.verFaults
+  verFaults comms = ap₂ orElse (thirdFaults comms) dmFaults
 
   dmRows : Fashare.dmRows f M ≡ Fashare.dmRows f m
   unfolding Fashare.dmRows
@@ -192,7 +196,7 @@ module _ (f : Frame) (m : ℕ → List ℕ) where
       either (eqb k 3) (opening (at f COMMS w))
       (either (eqb k 5) (opening (at f PAIR-COMMS w))
       (either (eqb k 6) (abits (delta f w) (at f KEY-SUMS w))
-      (either (eqb k 10) dmFaults
+      (either (eqb k 10) (verFaults (at f SHARE-COMMS w))
       (either (eqb k 12) (dibi (at f BITS w) (at f SHARE-COMMS w) (at f DMS w))
       (either (eqb k 19) (hFaults (at f HS w) (at f H-COMMS w))
       (either (eqb k 21) (dFaults (delta f w) (at f BITS w) (at f PERM w))

@@ -1,5 +1,6 @@
 -- `fashare` (document 01, "What each round means"; WRK17b, Pi_aShare): the MACs of 40 bits, which are then dropped, are checked against
--- the keys that everybody committed to. Rounds 8, 10 and 12. `recs` is the list of records, `m k` the message of party k.
+-- the keys that everybody committed to, and what is told of them against its own commitment (document 02, order 2). Rounds 8, 10 and 12.
+-- `recs` is the list of records, `comms` the rows of commitments, `m k` the message of party k.
 use mathlib.Core.Bool.{Bool, _||_}
 use mathlib.Core.List.{List, _∷_, _++_}
 use Prim.Native.Nat.{ℕ, _+_, _-_, _*_}
@@ -21,7 +22,7 @@ use Rattle.message.specs.Format.{itemAt}
 use Rattle.encode.specs.Encode.{encode, dmItem}
 use Rattle.plan.specs.Plan.{leaky, dmLen}
 use Rattle.engine.specs.declared.Frame.{Frame}
-use Rattle.engine.specs.Step.{Fault, byParty}
+use Rattle.engine.specs.Step.{Fault, orElse, byParty}
 use Rattle.engine.specs.Area.{nth}
 use Rattle.rounds.specs.Area.{rows, firstOf}
 
@@ -74,6 +75,10 @@ commsIn m k = take COMM-ROW (drop 8 (m k))
 unfoldable pub commRows : Frame → (ℕ → List ℕ) → List ℕ
 commRows f m = rows f COMM-ROW (commsIn m)
 
+-- what party k committed to for string q, in those rows: to d0, then to d1, then to dm
+abbrev pub commsTo : List ℕ → ℕ → ℕ → List ℕ
+commsTo comms k q = drop ((k * STRINGS + q) * COMM) comms
+
 -- ---- round 10: "then dm"
 unfoldable pub verMsg : Frame → List ℕ → List ℕ
 verMsg f recs = encode STRINGS (λ q. dmItem (dm f recs q))
@@ -81,6 +86,18 @@ verMsg f recs = encode STRINGS (λ q. dmItem (dm f recs q))
 -- where the bytes of dm q begin in a message
 unfoldable pub dmAt : List ℕ → ℕ → ℕ
 dmAt m q = itemAt Dms m q + 8
+
+-- dm q of a message "whole": as many bytes as it says to have
+unfoldable pub wholeDm : List ℕ → ℕ → List ℕ
+wholeDm m q = take (wordAt m (itemAt Dms m q)) (drop (dmAt m q) m)
+
+-- 2 where it doesn't open "the third share commitment" of its sender
+unfoldable pub thirdFault : List ℕ → (ℕ → List ℕ) → ℕ → ℕ → ℕ
+thirdFault comms m q k = pick (same? (hash (wholeDm (m k) q)) (take 32 (drop 64 (commsTo comms k q)))) 0 2
+
+-- "string by string and then party by party"
+unfoldable pub thirdFaults : Frame → List ℕ → (ℕ → List ℕ) → Fault
+thirdFaults f comms m = firstOf STRINGS (λ q. byParty f (thirdFault comms m q))
 
 -- "dm length comes before its bit": 4, then 1
 unfoldable pub dmFault : Frame → (ℕ → List ℕ) → ℕ → ℕ → ℕ
@@ -92,6 +109,10 @@ dmFault f m q k =
 -- string by string, party by party
 unfoldable pub dmFaults : Frame → (ℕ → List ℕ) → Fault
 dmFaults f m = firstOf STRINGS (λ q. byParty f (dmFault f m q))
+
+-- "A mismatch is 2, and all of these come before any dm length or dm bit."
+unfoldable pub verFaults : Frame → List ℕ → (ℕ → List ℕ) → Fault
+verFaults f comms m = orElse (thirdFaults f comms m) (dmFaults f m)
 
 -- the dms of a message, one after another
 abbrev pub dmsOf : ℕ → List ℕ → List ℕ
@@ -121,7 +142,7 @@ macsFor f recs dms q k =
 unfoldable pub dibiFault : Frame → List ℕ → List ℕ → List ℕ → (ℕ → List ℕ) → ℕ → ℕ → ℕ
 dibiFault f recs comms dms m q k =
     let d = blockAt (m k) (8 + q * 16) in
-    let c = drop ((k * STRINGS + q) * COMM) comms in
+    let c = commsTo comms k q in
     pick (same? (hash (bytesOf d)) (take 32 c) || same? (hash (bytesOf d)) (take 32 (drop 32 c)))
     (pick (eqBlock (macsFor f recs dms q k) d) 0 9)
     2

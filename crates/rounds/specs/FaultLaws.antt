@@ -1,9 +1,10 @@
 -- What a content check answers: a number and a party. A loop that stops at the first fault, party by party or item by item, finds what
 -- `byParty` and `firstOf` say.
-use mathlib.Core.Path.{_≡_, refl, sym, ap, _∙_, subst}
+use mathlib.Core.Path.{_≡_, refl, sym, ap, ap₂, _∙_, subst}
 use mathlib.Core.Bool.{Bool, true, false}
 use mathlib.Core.Logic.{_≢_}
 use Prim.Native.Nat.{ℕ, zero, suc, _+_, _<_}
+use native.Mathlib.Nat.{le-refl}
 use native.Mathlib.Numerals.{add-one}
 use native.Mathlib.Omega.{arith}
 use lib.Dec.{ltb}
@@ -19,6 +20,13 @@ use Rattle.rounds.specs.MailLaws.{neq-same}
 pub record Finds (code party : ℕ) (e : Fault) : Type 0 where
   pub code-is : code ≡ e .code
   pub party-is : e .code ≢ 0 → party ≡ e .party
+
+-- the first of two faults
+pub finds-one : (code party : ℕ) (a b : Fault) → Finds code party a → code ≢ 0 → Finds code party (orElse a b)
+finds-one code party a b h ne = rw (or-first a b (λ z. ne (h .code-is ∙ z))) h
+
+pub finds-two : (code party : ℕ) (a b : Fault) → a .code ≡ 0 → Finds code party b → Finds code party (orElse a b)
+finds-two code party a b z h = rw (or-none a b z) h
 
 -- ---- party by party
 -- the fault of party k, none of the own number
@@ -87,6 +95,18 @@ module _ (g : ℕ → Fault) where
   item-none n j p e h =
       let r : firstOf n g .code ≡ 0 = subst (λ m. firstOf m g .code ≡ 0) e h in
       record { code-is = sym r; party-is = λ q. absurd (q r) }
+
+-- checks that agree on each item
+pub first-ext : (c : ℕ) (g h : ℕ → Fault) → ((j : ℕ) → j < c → g j ≡ h j) → firstOf c g ≡ firstOf c h
+unfolding firstOf
+first-ext zero g h e = refl
+first-ext (suc c) g h e = ap₂ orElse (first-ext c g h (λ j l. e j (omega arith))) (e c (le-refl (suc c)))
+
+pub first-none : (c : ℕ) (g : ℕ → Fault) → ((j : ℕ) → j < c → g j .code ≡ 0) → firstOf c g .code ≡ 0
+unfolding firstOf
+first-none zero g e = refl
+first-none (suc c) g e =
+    ap (λ (x : Fault). x .code) (or-none (firstOf c g) (g c) (first-none c g (λ j l. e j (omega arith)))) ∙ e c (le-refl (suc c))
 
 -- what no fault says of each item
 pub first-clean : (c : ℕ) (g : ℕ → Fault) → firstOf c g .code ≡ 0 → (q : ℕ) → q < c → g q .code ≡ 0

@@ -109,15 +109,24 @@ module _ (f : Frame) (w : List ℕ) (m : ℕ → List ℕ) where
     unfolding Fabitn.abits
     abits = found-first (8 ∷ []) (f .n) 120 _ (λ j. found-by (8 ∷ []) f (Fabitn.abitFault delta w m j) (abit j))
 
-  dm : (q k : ℕ) → One (4 ∷ 1 ∷ []) (Fashare.dmFault f m q k)
+  abbrev dmNumbers : List ℕ
+  dmNumbers = 2 ∷ 4 ∷ 1 ∷ []
+
+  third : (q k : ℕ) → One dmNumbers (Fashare.thirdFault w m q k)
+  unfolding Fashare.thirdFault mem
+  third q k = test dmNumbers (same? _ _) 2 refl
+
+  dm : (q k : ℕ) → One dmNumbers (Fashare.dmFault f m q k)
   unfolding Fashare.dmFault mem
   dm q k =
-      one-pick (4 ∷ 1 ∷ []) (eqb (wordAt (m k) (itemAt Dms (m k) q)) (dmLen (f .n))) _ 4
-      (test (4 ∷ 1 ∷ []) (leb (getD (m k) (Fashare.dmAt (m k) q) 0) 1) 1 refl) (one-of (4 ∷ 1 ∷ []) 4 refl)
+      one-pick dmNumbers (eqb (wordAt (m k) (itemAt Dms (m k) q)) (dmLen (f .n))) _ 4
+      (test dmNumbers (leb (getD (m k) (Fashare.dmAt (m k) q) 0) 1) 1 refl) (one-of dmNumbers 4 refl)
 
-  dms : Found (4 ∷ 1 ∷ []) (f .n) (Fashare.dmFaults f m)
-  unfolding Fashare.dmFaults
-  dms = found-first (4 ∷ 1 ∷ []) (f .n) 40 _ (λ q. found-by (4 ∷ 1 ∷ []) f (Fashare.dmFault f m q) (dm q))
+  dms : Found dmNumbers (f .n) (Fashare.verFaults f w m)
+  unfolding Fashare.verFaults Fashare.thirdFaults Fashare.dmFaults
+  dms = found-or dmNumbers (f .n) _ _
+      (found-first dmNumbers (f .n) 40 _ (λ q. found-by dmNumbers f (Fashare.thirdFault w m q) (third q)))
+      (found-first dmNumbers (f .n) 40 _ (λ q. found-by dmNumbers f (Fashare.dmFault f m q) (dm q)))
 
   module _ (comms rows : List ℕ) where
     opened : (q k : ℕ) → One (2 ∷ 9 ∷ []) (Fashare.dibiFault f w comms rows m q k)
@@ -153,7 +162,7 @@ judge-found f h k w m =
     arm (eqb k 3) (f .n) _ _ _ _ (seeds f _ m)
     (arm (eqb k 5) (f .n) _ _ _ _ (seeds f _ m)
     (arm (eqb k 6) (f .n) _ _ _ _ (abits f _ m _)
-    (arm (eqb k 10) (f .n) _ _ _ _ (dms f w m)
+    (arm (eqb k 10) (f .n) _ _ _ _ (dms f _ m)
     (arm (eqb k 12) (f .n) _ _ _ _ (dibi f _ m _ _)
     (arm (eqb k 19) (f .n) _ _ _ _ (hs f _ m h _)
     (arm (eqb k 21) (f .n) _ _ _ _ (dvalues f _ m _ _)

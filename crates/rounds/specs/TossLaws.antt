@@ -13,7 +13,7 @@ use Rattle.lists.specs.Pick.{pick}
 use Rattle.lists.specs.Over.{tab, length-tab, getD-tab}
 use Rattle.lists.specs.Rows.{chunk}
 use Rattle.lists.specs.Sect.{get}
-use Rattle.lists.specs.Same.{same?, same-true, same-false}
+use Rattle.lists.specs.Same.{same?, same-comm}
 use Rattle.algebra.specs.Xor.{xor-assoc}
 use Rattle.algebra.specs.Group.{numbers, sel}
 use Rattle.algebra.specs.Sum.{neq, sum, others}
@@ -66,15 +66,6 @@ length-told m h = length-take-le 32 (drop 8 m) (rw length-drop (omega arith))
 -- the fault of party k: `opening` is the first of these
 abbrev pub openFault : List ℕ → (ℕ → List ℕ) → ℕ → ℕ
 openFault comms m k = pick (same? (commitment (told (m k)) k) (chunk 32 k comms)) 0 2
-
-pub same-comm : (a b : List ℕ) → same? a b ≡ same? b a
-same-comm a b = go (same? a b) refl (same? b a) refl
-  where
-    go : (s : Bool) → same? a b ≡ s → (t : Bool) → same? b a ≡ t → s ≡ t
-    go true e true f = refl
-    go true e false f = absurd (same-false b a f (sym (same-true a b e)))
-    go false e true f = absurd (same-false a b e (sym (same-true b a f)))
-    go false e false f = refl
 
 -- d is the commitment to what party k told, and b says whether it is the one kept
 pub open-of : (comms : List ℕ) (m : ℕ → List ℕ) (k : ℕ) (d : List ℕ) (b : Bool) → d ≡ commitment (told (m k)) k

@@ -1,6 +1,7 @@
 // Whole sessions in memory, of 2 and 3 boxes, through the public calls `opening::open` and `session::round`, round by round in lockstep:
 // what each box sent (its length, and the first bytes of its BLAKE3), what the results are worth, and how boxes refuse when a bit is
-// flipped on the way. The inputs are those of `oracle gen N L 32`, so the Rust of oracle/ can be held against every line.
+// flipped on the way. The inputs are those of `oracle gen N L 32`, so the Rust of oracle/ can be held against every
+// line but those of round 11: it doesn't open the third commitment.
 ghost use Prim.Native.Nat.{_*_, _≤_};
 use boxes::Play;
 use boxes::Works;
@@ -109,6 +110,7 @@ fn main() {
     flipped(6, 1, 0, 8);
     flipped(6, 1, 3, 8);
     flipped(6, 1, 0, 9);
+    flipped(8, 1, 3, 72);
     flipped(10, 2, 0, 17);
     flipped(10, 2, 3, 17);
     flipped(12, 0, 1, 8);

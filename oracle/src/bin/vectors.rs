@@ -4,11 +4,12 @@ use std::{collections::BTreeMap, env, fs, process::exit};
 
 use oracle::{
     End, Session, combine,
-    damage::{message_len, rounds},
+    damage::{commit, message_len, rounds, third_at},
     draw, drawn_bit,
     expect::{Expectation, Expected, expect},
-    record_len,
+    honest, record_len,
     rules::{Change, Rule, apply},
+    run,
 };
 
 fn main() {
@@ -61,15 +62,14 @@ fn echo(round: u8) -> bool {
     !rounds(2).any(|plain| plain == round)
 }
 
-/// The damaged sessions: n, rules. All of l = 1. No message has bytes after its value.
+/// The damaged sessions: n, rules. All of l = 1. No message has bytes after its value, and no dm that is looked at
+/// is another than was committed to.
 fn damage() -> Vec<(usize, String)> {
     let mut list: Vec<(usize, String)> = vec![];
     let mut add = |n: usize, rules: &str| list.push((n, rules.to_string()));
     for n in [2, 3, 8] {
         // for n > 2 to all alike, so that the echo passes
         let to = if n == 2 { "1" } else { "*" };
-        // 1: the bit of the first dm
-        add(n, &format!("10 0 {to} flip 16 2"));
         // 2: what is opened, and the commitments
         for round in [3, 5] {
             add(n, &format!("{round} 0 1 flip 8 1"));
@@ -78,28 +78,25 @@ fn damage() -> Vec<(usize, String)> {
             add(n, &format!("{round} 0 {to} flip 8 1"));
         }
         add(n, "4 0 1 flip 39 128");
-        // 4: the last dm, a byte short
-        let (at, len) = (last_dm(n), message_len(10, n, 1, 5));
-        add(
-            n,
-            &format!("10 0 {to} flip {at} 1\n10 0 {to} cut {}", len - 1),
-        );
         // 6: a bucket of dvalue without MACs
         add(n, "21 0 1 flip 20 4\n21 0 1 cut 28");
         // 8
         add(n, "6 0 1 flip 9 1");
-        // 9: the bit of a dm, which its sender notices, and a MAC, which goes unnoticed for n = 2
-        add(n, &format!("10 0 {to} flip 16 1"));
-        add(n, &format!("10 0 {to} flip 17 1"));
         // 10: e, and u
         add(n, &format!("15 0 {to} flip 8 1"));
         add(n, &format!("15 0 {to} flip 9 1"));
-        // 11, 12: MACs, and bits without theirs
-        for place in [8 + 8, 8 + 8 + 4 + 8, 8 + 8 + 4 + 8 + 63] {
-            add(n, &format!("21 0 1 flip {place} 1"));
-        }
-        for place in [8, 9, 10, 26, 41] {
-            add(n, &format!("22 0 1 flip {place} 1"));
+        // 11, 12: MACs, and bits without theirs; for n = 8, whose records are long, the first and the last alone
+        let all = [
+            (21, vec![8 + 8, 8 + 8 + 4 + 8, 8 + 8 + 4 + 8 + 63]),
+            (22, vec![8, 9, 10, 26, 41]),
+        ];
+        for (round, mut places) in all {
+            if n == 8 {
+                places.drain(1..places.len() - 1);
+            }
+            for place in places {
+                add(n, &format!("{round} 0 1 flip {place} 1"));
+            }
         }
     }
     // 7 and 3, in every echo: another list, another hash, and none
@@ -144,9 +141,75 @@ fn damage() -> Vec<(usize, String)> {
     add(3, &format!("14 0 1 drop\n{}", six(2)));
     // form before content
     add(3, "3 0 1 flip 8 1\n3 2 1 flip 7 128");
-    // an echo before the content behind it
-    add(3, "10 0 * flip 16 2\n11 2 1 flip 11 1");
     list
+}
+
+/// Odd dms of party 0, the same for all, which it commits to: n, rules for the dms, rules besides.
+fn odd_dms() -> Vec<(usize, String, String)> {
+    let mut list = vec![];
+    let mut add = |n: usize, dms: String, more: &str| list.push((n, dms, more.to_string()));
+    for n in [2, 3, 8] {
+        let (at, len) = (last_dm(n), message_len(10, n, 1, 5));
+        // 1: the bit of the first dm
+        add(n, "10 0 * flip 16 2".into(), "");
+        // 4: the last dm, a byte short
+        add(n, format!("10 0 * flip {at} 1\n10 0 * cut {}", len - 1), "");
+        // 9: a MAC, which goes unnoticed for n = 2
+        add(n, "10 0 * flip 17 1".into(), "");
+    }
+    for n in [2, 3] {
+        // 9: the bit of a dm, which its sender notices
+        add(n, "10 0 * flip 16 1".into(), "");
+        // 4: the last dm, empty
+        add(n, empty_dm(n), "");
+    }
+    // an echo before the content behind it
+    add(3, "10 0 * flip 16 2".into(), "11 2 1 flip 11 1");
+    list
+}
+
+/// 2 for dms, which is ours alone: n, rules for party 0's dms that it commits to, rules besides.
+fn unopened() -> Vec<(usize, String, String)> {
+    let mut list = vec![];
+    let mut add = |n: usize, dms: String, more: String| list.push((n, dms, more));
+    let third = |from: usize, string: usize| format!("8 {from} * flip {} 1", third_at(string));
+    for n in [2, 3] {
+        // the third commitment alone, a MAC alone, the last dm emptied
+        add(n, String::new(), third(0, 39));
+        add(n, String::new(), "10 0 * flip 17 1".into());
+        add(n, String::new(), empty_dm(n));
+        // before 4 of the string before: that takes the lowest byte of the last one's count, which is then 0
+        let (at, dm) = (last_dm(n), 1 + 16 * (n - 1));
+        let dms = format!(
+            "10 0 * flip {} 3\n10 0 * put {} 00\n10 0 * cut {}",
+            at - dm - 8,
+            at + 8,
+            at + 9
+        );
+        add(n, dms, third(0, 39));
+    }
+    // another bit, before 9 of its sender
+    add(2, String::new(), "10 0 * flip 16 1".into());
+    // party 2's, before 1 of party 0's in an earlier string
+    add(3, "10 0 * flip 16 2".into(), third(2, 39));
+    // of two the lower string, and in one string the lower party
+    for (n, one, other) in [
+        (3, third(0, 1), third(2, 0)),
+        (3, third(0, 0), third(2, 0)),
+        (8, third(2, 4), third(5, 3)),
+    ] {
+        add(n, String::new(), format!("{one}\n{other}"));
+    }
+    // after the echo's own check
+    let seven = third(0, 0) + "\n11 2 1 flip 11 1";
+    add(3, String::new(), seven);
+    list
+}
+
+/// Party 0's last dm without its bytes: of its count the lowest byte alone is not zero.
+fn empty_dm(n: usize) -> String {
+    let (at, dm) = (last_dm(n), 1 + 16 * (n - 1));
+    format!("10 0 * flip {at} {dm}\n10 0 * cut {}", at + 8)
 }
 
 /// 21, which is ours alone: a lower count, and what it no longer counts left in its place. `expect` tells
@@ -187,6 +250,29 @@ fn turn(round: u8, n: usize) -> (usize, usize) {
 /// Where the last dm of a message starts, its length first.
 fn last_dm(n: usize) -> usize {
     8 + 39 * (8 + 1 + 16 * (n - 1))
+}
+
+/// What is put into a message that is as the inputs have it, byte by byte where it differs.
+fn flips(s: &Session, rules: Vec<Rule>) -> Vec<Rule> {
+    let before = run(s, &mut honest);
+    let mut list = vec![];
+    for rule in rules {
+        let Change::Put(at, bytes) = &rule.change else {
+            list.push(rule);
+            continue;
+        };
+        let from = rule.from.unwrap();
+        let to = rule.to.unwrap_or((from + 1) % s.n);
+        let sent = &before.message(rule.round, from, to).unwrap().sent[*at as usize..];
+        let masks = bytes.iter().zip(sent).map(|(new, old)| new ^ old);
+        for (place, mask) in masks.enumerate().filter(|(_, mask)| *mask != 0) {
+            list.push(Rule {
+                change: Change::Flip(at + place as i64, mask),
+                ..rule.clone()
+            });
+        }
+    }
+    list
 }
 
 /// A rule as docs/VECTORS.md has it, 8 bytes.
@@ -258,26 +344,34 @@ fn session(s: &Session, rules: &[Rule], e: &Expectation) -> Vec<u8> {
 
 fn sessions() -> (usize, usize, Vec<u8>) {
     let mut list = vec![];
+    let none = String::new;
     for n in 2..=8 {
         for l in [1, 2, 3, 7] {
-            list.push((n, l, String::new()));
+            list.push((n, l, none(), none()));
         }
     }
     let honest = list.len();
-    list.extend(damage().into_iter().map(|(n, rules)| (n, 1, rules)));
+    let plain = |(n, rules)| (n, 1, none(), rules);
+    let odd = |(n, dms, more)| (n, 1, dms, more);
+    list.extend(damage().into_iter().map(plain));
+    list.extend(odd_dms().into_iter().map(odd));
     let beside = list.len();
-    list.extend(tails().into_iter().map(|(n, rules)| (n, 1, rules)));
+    list.extend(tails().into_iter().map(plain));
+    list.extend(unopened().into_iter().map(odd));
     let mut out = b"NZVECT02".to_vec();
     out.extend((list.len() as u32).to_le_bytes());
     out.extend([0; 4]);
     let mut ends: BTreeMap<(u8, u8), usize> = BTreeMap::new();
-    for (index, (n, l, text)) in list.iter().enumerate() {
+    for (index, (n, l, dms, more)) in list.iter().enumerate() {
         let s = Session::drawn(*n, *l, index as u64 + 1);
-        let rules = Rule::parse_all(text).unwrap();
+        let mut rules = Rule::parse_all(dms).unwrap();
+        rules.extend(commit(&s, 0, None, &rules));
+        rules.extend(Rule::parse_all(more).unwrap());
+        let rules = flips(&s, rules);
         let e = expect(&s, &mut |round, from, to, m| {
             apply(&rules, round, from, to, m)
         });
-        assert_eq!(e.tails.is_empty(), index < beside, "{text}");
+        assert_eq!(e.alone(), index >= beside, "{dms} {more}");
         if index < honest {
             let results = e.outcome.results().expect("an honest session is done");
             assert!(s.macs_hold(&results) && s.and_holds(&results));

@@ -4,11 +4,11 @@ use Rattle.engine.specs.Plain.{pending}
 use Rattle.rounds.specs.Area.{HASHES}
 use Rattle.rounds.specs.Mail.{letter}
 use Rattle.rounds.specs.EchoLaws.{echoFaults}
-use Rattle.rounds.specs.FaultLaws.{Finds}
+use Rattle.rounds.specs.FaultLaws.{Finds, finds-one, finds-two}
 use Rattle.rounds.specs.Table.{table}
 use Rattle.area.specs.GivenLaws.{length-at}
 use Rattle.area.specs.Sizes.{size-hashes}
-use Rattle.broadcast.specs.BroadcastLaws.{echo-checks, finds-one, finds-two}
+use Rattle.broadcast.specs.BroadcastLaws.{echo-checks}
 use Rattle.broadcast.proofs.check.Statement.{statement}
 use Rattle.broadcast.proofs.check.Tie as tie
 

@@ -5,7 +5,7 @@ use lib.Dec.{eqb}
 use Rattle.plan.specs.Plan.{RNG-VER, PAIR-VER, FABITN, FASHARE-VER, FASHARE-DIBI, FLAAND-HASH, DVALUE, FAAND}
 use Rattle.engine.specs.Area.{mem}
 use Rattle.rounds.specs.Table.{faults}
-use Rattle.broadcast.specs.BroadcastLaws.{faults-one, faults-two, faults-none}
+use Rattle.broadcast.specs.BroadcastLaws.{faults-one, faults-two, faults-three, faults-none}
 use Rattle.broadcast.proofs.finds.Statement.{statement}
 use Rattle.broadcast.proofs.finds.Tie as tie
 
@@ -23,7 +23,7 @@ returns-2 c = faults-one (c .before .args .k) (c .before .args .code) FABITN 8 r
 
 returns-3 : tie.Need-returns-3
 unfolding faults
-returns-3 c = faults-two (c .before .args .k) (c .before .args .code) FASHARE-VER 4 1 refl (c .match .keys3)
+returns-3 c = faults-three (c .before .args .k) (c .before .args .code) FASHARE-VER 2 4 1 refl (c .match .keys3)
 
 returns-4 : tie.Need-returns-4
 unfolding faults

@@ -1,12 +1,13 @@
 -- The loop's invariant: the first q strings have no fault.
-use Rattle.lists.specs.Kit.{_≡_, ap, _∙_, _-_, _≤_, arith, length, needs}
+use Rattle.lists.specs.Kit.{_≡_, _-_, _≤_, arith, needs}
 use Rattle.engine.specs.Step.{byParty}
-use Rattle.rounds.specs.Area.{SHARE-COMMS, sizes, sizeOf, firstOf}
+use Rattle.rounds.specs.Area.{SHARE-COMMS, firstOf}
 use Rattle.rounds.specs.Mail.{letter}
 use Rattle.rounds.specs.Fashare as Fashare
 use Rattle.rounds.specs.Fashare.{STRINGS}
 use Rattle.rounds.specs.FaultLaws.{first-zero, item-first, item-next, item-none}
-use Rattle.area.specs.GivenLaws.{length-at}
+use Rattle.area.specs.GivenLaws.{lent-length}
+use Rattle.area.specs.Sizes.{size-share-comms}
 use Rattle.fashare_dibi.specs.Laws.{given}
 use Rattle.fashare_dibi.proofs.judge.Statement.{statement}
 use Rattle.fashare_dibi.proofs.judge.Tie as tie
@@ -22,7 +23,6 @@ loop-holds : tie.Need-loop-holds Inv-loop μ-loop
 loop-holds c = (search needs, first-zero _)
 
 check-string-requires : tie.Need-check-string-requires Inv-loop μ-loop
-unfolding sizeOf sizes
 check-string-requires c κs =
     let d = c .before .before in
     let o = d .before in
@@ -32,7 +32,7 @@ check-string-requires c κs =
       c .loop-test .taken,
       (
         given h _ _ (r .section .ensures) (d .section3 .ensures),
-        (ap length (o .section2 .ensures) ∙ length-at h SHARE-COMMS (omega arith), s .pre .1),
+        (lent-length h SHARE-COMMS _ _ (omega arith) (size-share-comms (s .args .f)) (o .section2 .ensures), s .pre .1),
       ),
     )
 

@@ -8,8 +8,8 @@ use Rattle.plan.specs.Plan.{dmLen}
 use Rattle.engine.specs.declared.Frame.{Frame}
 use Rattle.rounds.specs.Fashare as Fashare
 use Rattle.rounds.specs.Fashare.{STRINGS}
-use Rattle.fashare_comm.specs.Laws.{dm-most}
-use Rattle.fashare_ver.specs.Laws.{place-most, length-dmItem}
+use Rattle.fashare_comm.specs.Laws.{dm-most, place-most}
+use Rattle.fashare_ver.specs.Laws.{length-dmItem}
 use Rattle.fashare_ver.proofs.write_msg.Statement.{statement}
 use Rattle.fashare_ver.proofs.write_msg.Tie as tie
 

@@ -37,7 +37,7 @@ unfolding kindOf countDue
 judge-requires-4 c κs =
     let s = c .before .before .before in
     let a = s .args in
-    received-at (a .k) 10 (c .match .keys4) (s .pre .1)
+    (s .pre .0, received-at (a .k) 10 (c .match .keys4) (s .pre .1))
 
 judge-requires-5 : tie.Need-judge-requires-5
 unfolding kindOf countDue

@@ -2,7 +2,7 @@
 use Rattle.lists.specs.Kit.{refl, List, ℕ, arith, now, needs}
 use Rattle.plan.specs.Plan.{leaky, kindOf, countDue}
 use Rattle.rounds.specs.Mail.{letter}
-use Rattle.rounds.specs.DmLaws.{checked}
+use Rattle.rounds.specs.DmLaws.{ver-checked}
 use Rattle.rounds.specs.Table.{judge, kept}
 use Rattle.area.specs.Given.{Work}
 use Rattle.area.specs.Sizes.{size-comms, size-pair-comms}
@@ -54,7 +54,7 @@ keep-requires-2 c κs =
     let s = c .before .before .before .before in
     let a = s .args in (
       s .pre .0,
-      checked (a .f) _ _ (received-at (a .k) 10 (c .before .match .keys6) (s .pre .1 .0))
+      ver-checked (a .f) _ _ _ (received-at (a .k) 10 (c .before .match .keys6) (s .pre .1 .0))
           (clean-at (a .f) (now (a .work)) (told s) (a .k) 10 (c .before .match .keys6) (s .pre .1 .1)),
     )
 

@@ -1,8 +1,8 @@
 use Rattle.lists.specs.Kit.{_≡_, sym, _∙_, now, needs}
 use Rattle.engine.specs.Step.{part, faultOf}
 use Rattle.rounds.specs.Mail.{letter}
+use Rattle.rounds.specs.FaultLaws.{finds-one, finds-two}
 use Rattle.admit.specs.AdmitLaws.{received}
-use Rattle.broadcast.specs.BroadcastLaws.{finds-one, finds-two}
 use Rattle.session.proofs.fault.Statement.{statement}
 use Rattle.session.proofs.fault.Tie as tie
 

@@ -5,10 +5,10 @@ use Rattle.lists.specs.Rows.{length-row, even-zero, even-turn, even-end}
 use Rattle.plan.specs.Plan.{dmLen}
 use Rattle.rounds.specs.Fashare.{STRINGS, dmAt}
 use Rattle.rounds.specs.DmLaws.{dues-in}
-use Rattle.fashare_comm.specs.Laws.{dm-most}
-use Rattle.fashare_ver.specs.Laws.{place-most, row-most, dues-copy}
-use Rattle.fashare_ver.proofs.copy_dms.Statement.{statement}
-use Rattle.fashare_ver.proofs.copy_dms.Tie as tie
+use Rattle.fashare_comm.specs.Laws.{dm-most, place-most, row-most}
+use Rattle.fashare_ver_recv.specs.Laws.{dues-copy}
+use Rattle.fashare_ver_recv.proofs.copy_dms.Statement.{statement}
+use Rattle.fashare_ver_recv.proofs.copy_dms.Tie as tie
 
 -- dm q
 abbrev part : ℕ → List ℕ → ℕ → List ℕ
@@ -104,7 +104,7 @@ inside c =
     omega (
       arith,
       d .dm-len .ensures,
-      dues-in (s .args .n) (now (s .args .m)) (s .pre .1) q (16 + q * (8 + d .dm-len .result)) (c .before .loop-test .taken)
+      dues-in (s .args .n) STRINGS (now (s .args .m)) (s .pre .1) q (16 + q * (8 + d .dm-len .result)) (c .before .loop-test .taken)
           (ap (λ t. 16 + q * (8 + t)) (d .dm-len .ensures)),
     )
 

@@ -1,12 +1,10 @@
 use Rattle.lists.specs.Kit.{sym, ap, _∙_, List, ℕ, arith, now}
-use Rattle.message.specs.declared.Kind.the-variants.{Dms}
-use Rattle.message.specs.Format.{formOf}
 use Rattle.rounds.specs.Fashare as Fashare
 use Rattle.rounds.specs.Mail.{letter}
 use Rattle.rounds.specs.MailLaws.{letter-fits}
 use Rattle.rounds.specs.FaultLaws.{fault-own, fault-other}
-use Rattle.fashare_ver.proofs.party_fault.Statement.{statement}
-use Rattle.fashare_ver.proofs.party_fault.Tie as tie
+use Rattle.fashare_ver_recv.proofs.party_fault.Statement.{statement}
+use Rattle.fashare_ver_recv.proofs.party_fault.Tie as tie
 
 -- the fault of each party
 abbrev fault : tie.Start → ℕ → ℕ
@@ -23,8 +21,7 @@ letter-requires c κs =
 dm-fault-requires : tie.Need-dm-fault-requires
 dm-fault-requires c κs =
     let s = c .before .before .before in (
-      ap (formOf Dms Fashare.STRINGS) (c .letter .ensures)
-          ∙ s .pre .1 .formed-is (s .args .k) (s .pre .0 .0) (λ e. c .before .if1 .left (sym e)),
+      rw (c .letter .ensures) (s .pre .1 .dues (s .args .k) (s .pre .0 .0) (λ e. c .before .if1 .left (sym e))),
       (omega (arith, s .pre .0 .0), (s .pre .1 .arrived .eight, s .pre .0 .1)),
     )
 

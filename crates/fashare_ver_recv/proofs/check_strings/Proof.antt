@@ -5,9 +5,10 @@ use Rattle.rounds.specs.Area.{firstOf}
 use Rattle.rounds.specs.Mail.{letter}
 use Rattle.rounds.specs.Fashare as Fashare
 use Rattle.rounds.specs.Fashare.{STRINGS}
+use Rattle.rounds.specs.DmLaws.{checked}
 use Rattle.rounds.specs.FaultLaws.{first-zero, item-first, item-next, item-none}
-use Rattle.fashare_ver.proofs.judge.Statement.{statement}
-use Rattle.fashare_ver.proofs.judge.Tie as tie
+use Rattle.fashare_ver_recv.proofs.check_strings.Statement.{statement}
+use Rattle.fashare_ver_recv.proofs.check_strings.Tie as tie
 
 abbrev Inv-loop : tie.InvT-loop
 Inv-loop incoming mail f q₀ q =
@@ -18,6 +19,13 @@ abbrev μ-loop : tie.MeasureT-loop
 
 loop-holds : tie.Need-loop-holds Inv-loop μ-loop
 loop-holds c = (search needs, first-zero _)
+
+check-string-requires : tie.Need-check-string-requires Inv-loop μ-loop
+check-string-requires c κs =
+    let l = c .before in
+    let s = l .before .before in
+    let q = l .loop .q in
+    (c .loop-test .taken, checked (s .args .f) q _ _ (l .loop .inv .0) (s .pre) (l .loop .inv .1))
 
 returns : tie.Need-returns Inv-loop μ-loop
 unfolding Fashare.dmFaults
@@ -36,7 +44,7 @@ returns-2 : tie.Need-returns-2 Inv-loop μ-loop
 unfolding Fashare.dmFaults
 returns-2 c = item-none _ STRINGS (c .before .loop .q) 0 (omega arith) (c .before .loop .inv .1)
 
-pub judge-spec : {M : Type 1} → statement M
-judge-spec =
-    tie.close (tie.spec Inv-loop μ-loop loop-holds (λ c κs. search needs) returns (λ c. search needs) (λ c. search needs) loop-again
+pub check-strings-spec : {M : Type 1} → statement M
+check-strings-spec =
+    tie.close (tie.spec Inv-loop μ-loop loop-holds check-string-requires returns (λ c. search needs) (λ c. search needs) loop-again
     returns-2)

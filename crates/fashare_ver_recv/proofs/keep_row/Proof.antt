@@ -2,8 +2,8 @@ use Rattle.lists.specs.Kit.{sym, ap, _∙_, arith, replicate, needs}
 use Rattle.rounds.specs.Fashare.{dmsOf}
 use Rattle.rounds.specs.MailLaws.{letter-fits}
 use Rattle.rounds.specs.Loops.{row-own, row-other}
-use Rattle.fashare_ver.proofs.keep_row.Statement.{statement}
-use Rattle.fashare_ver.proofs.keep_row.Tie as tie
+use Rattle.fashare_ver_recv.proofs.keep_row.Statement.{statement}
+use Rattle.fashare_ver_recv.proofs.keep_row.Tie as tie
 
 letter-requires : tie.Need-letter-requires
 letter-requires c κs =

@@ -5,8 +5,8 @@ use Rattle.engine.specs.StepLaws.{scan-turn}
 use Rattle.rounds.specs.Mail.{letter}
 use Rattle.rounds.specs.Fashare as Fashare
 use Rattle.rounds.specs.FaultLaws.{faultAt, clean-zero, finds-first, finds-none}
-use Rattle.fashare_ver.proofs.check_string.Statement.{statement}
-use Rattle.fashare_ver.proofs.check_string.Tie as tie
+use Rattle.fashare_ver_recv.proofs.check_string.Statement.{statement}
+use Rattle.fashare_ver_recv.proofs.check_string.Tie as tie
 
 abbrev Inv-loop : tie.InvT-loop
 Inv-loop incoming mail f q n k₀ k = (k ≤ n) × (scan k (faultAt (f .i) (Fashare.dmFault f (letter incoming mail) q)) .code ≡ 0)

@@ -9,8 +9,8 @@ use Rattle.rounds.specs.Fashare as Fashare
 use Rattle.rounds.specs.Fashare.{STRINGS, dmsOf}
 use Rattle.area.specs.Filled.{Filled, filled-none, filled-put, filled-end, row-in, row-lent}
 use Rattle.fashare_comm.specs.Laws.{dm-most}
-use Rattle.fashare_ver.proofs.keep.Statement.{statement}
-use Rattle.fashare_ver.proofs.keep.Tie as tie
+use Rattle.fashare_ver_recv.proofs.keep.Statement.{statement}
+use Rattle.fashare_ver_recv.proofs.keep.Tie as tie
 
 -- the bytes of a row
 abbrev rowLen : Frame → ℕ
