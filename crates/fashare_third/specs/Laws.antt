@@ -21,7 +21,7 @@ use Rattle.engine.specs.declared.Frame.{Frame}
 use Rattle.engine.specs.Step.{byParty}
 use Rattle.engine.specs.StepLaws.{scan-none, last-or}
 use Rattle.rounds.specs.Area.{firstOf}
-use Rattle.rounds.specs.Fashare.{STRINGS, COMM, COMM-ROW, dmAt, wholeDm, thirdFault, thirdFaults}
+use Rattle.rounds.specs.Fashare.{STRINGS, COMM, COMM-ROW, commsTo, dmAt, wholeDm, thirdFault, thirdFaults}
 use Rattle.rounds.specs.FaultLaws.{Finds, faultAt, fault-own, fault-other, finds-first, finds-none, item-first, item-none, first-none}
 use Rattle.rounds.specs.DmLaws.{dm-in}
 
@@ -54,7 +54,7 @@ module _ (comms m : List ℕ) (q k a : ℕ) (at : a ≡ itemAt Dms m q) where
       ∙ ap (λ (d : List ℕ). same? (take 32 (drop ((k * STRINGS + q) * COMM + 64) comms)) (hash d)) (sym dm) ∙ sym e)
 
 -- ---- one message: the walk stands before dm q, and those before open their commitments
-pub record Walked (comms m : List ℕ) (k q at : ℕ) : Type 0 where
+pub record Opened (comms m : List ℕ) (k q at : ℕ) : Type 0 where
   pub at-is : at ≡ itemAt Dms m q
   pub clean : (j : ℕ) → j < q → thirdFault comms (λ _. m) j k ≡ 0
 
@@ -62,33 +62,33 @@ module _ (comms m : List ℕ) (k : ℕ) where
   abbrev fault : ℕ → ℕ
   fault q = thirdFault comms (λ _. m) q k
 
-  pub walked-start : Walked comms m k 0 8
-  walked-start = record { at-is = sym (at-zero Dms m); clean = λ j l. absurd (omega arith) }
+  pub opened-start : Opened comms m k 0 8
+  opened-start = record { at-is = sym (at-zero Dms m); clean = λ j l. absurd (omega arith) }
 
-  module _ (q at : ℕ) (w : Walked comms m k q at) where
+  module _ (q at : ℕ) (w : Opened comms m k q at) where
     -- dm q lies within
-    pub walked-in : formOf Dms STRINGS m ≡ 0 → q < STRINGS → at + 8 + wordAt m at ≤ length m
-    walked-in formed h = omega (arith, w .at-is, ap (wordAt m) (w .at-is), dm-in m formed q h .fits)
+    pub opened-in : formOf Dms STRINGS m ≡ 0 → q < STRINGS → at + 8 + wordAt m at ≤ length m
+    opened-in formed h = omega (arith, w .at-is, ap (wordAt m) (w .at-is), dm-in m formed q h .fits)
 
     -- it opens its commitment
-    pub walked-turn : formOf Dms STRINGS m ≡ 0 → q < STRINGS → (to : ℕ) (b : Bool) → to ≡ at + 8 + wordAt m at → fault q ≡ pick b 0 2
-        → not b ≡ false → Walked comms m k (q + 1) to
-    walked-turn formed h to b e f nb = record {
+    pub opened-turn : formOf Dms STRINGS m ≡ 0 → q < STRINGS → (to : ℕ) (b : Bool) → to ≡ at + 8 + wordAt m at → fault q ≡ pick b 0 2
+        → not b ≡ false → Opened comms m k (q + 1) to
+    opened-turn formed h to b e f nb = record {
       at-is = omega (arith, w .at-is, ap (wordAt m) (w .at-is), dm-in m formed q h .is, at-next Dms m q);
       clean = λ j l. last-or j q (λ j. fault j ≡ 0) (omega arith) (w .clean j) (f ∙ ap (λ t. pick t 0 2) (not-false b nb));
     }
 
     -- it doesn't
-    pub walked-stop : (most : ℕ) (b : Bool) → q ≤ most → fault q ≡ pick b 0 2 → not b ≡ true → First fault most q
-    walked-stop most b l f nb = record {
+    pub opened-stop : (most : ℕ) (b : Bool) → q ≤ most → fault q ≡ pick b 0 2 → not b ≡ true → First fault most q
+    opened-stop most b l f nb = record {
       below = l;
       clean = w .clean;
       shut = λ _ z. let two : fault q ≡ 2 = f ∙ ap (λ t. pick t 0 2) (not-true b nb) in omega (arith, two, z);
     }
 
     -- all do
-    pub walked-end : (most : ℕ) → q ≡ most → First fault most most
-    walked-end most e = record { below = omega arith; clean = λ j l. w .clean j (omega arith); shut = λ l. absurd (omega arith) }
+    pub opened-end : (most : ℕ) → q ≡ most → First fault most most
+    opened-end most e = record { below = omega arith; clean = λ j l. w .clean j (omega arith); shut = λ l. absurd (omega arith) }
 
 -- ---- all messages: the lowest string in which one of the first k parties has a fault, and the lowest of them there
 pub record Lowest (c : ℕ → ℕ → ℕ) (k first party : ℕ) : Type 0 where
@@ -133,11 +133,11 @@ module _ (c : ℕ → ℕ → ℕ) where
 -- ---- the definition
 module _ (f : Frame) (comms : List ℕ) (m : ℕ → List ℕ) where
   -- the fault of party k at string q
-  abbrev pub faultOf : ℕ → ℕ → ℕ
-  faultOf q k = faultAt (f .i) (thirdFault comms m q) k
+  abbrev pub thirdAt : ℕ → ℕ → ℕ
+  thirdAt q k = faultAt (f .i) (thirdFault comms m q) k
 
   -- the own number has none
-  pub first-own : (k most : ℕ) → k ≡ f .i → First (λ q. faultOf q k) most most
+  pub first-own : (k most : ℕ) → k ≡ f .i → First (λ q. thirdAt q k) most most
   first-own k most e = record {
     below = omega arith;
     clean = λ q l. sym (fault-own (f .i) k (thirdFault comms m q) e);
@@ -146,24 +146,24 @@ module _ (f : Frame) (comms : List ℕ) (m : ℕ → List ℕ) where
 
   -- another one has those of its message x
   pub first-other : (k most r : ℕ) (x : List ℕ) → k ≢ f .i → x ≡ m k → First (λ q. thirdFault comms (λ _. x) q k) most r
-      → First (λ q. faultOf q k) most r
+      → First (λ q. thirdAt q k) most r
   unfolding thirdFault
   first-other k most r x ne e h =
-      let is : (q : ℕ) → thirdFault comms (λ _. x) q k ≡ faultOf q k =
+      let is : (q : ℕ) → thirdFault comms (λ _. x) q k ≡ thirdAt q k =
       λ q. fault-other (f .i) k _ (thirdFault comms m q) ne (ap (λ (y : List ℕ). thirdFault comms (λ _. y) q k) e) in
       record { below = h .below; clean = λ q l. sym (is q) ∙ h .clean q l; shut = λ l z. h .shut l (is r ∙ z) }
 
   -- it is 2 where there is one
-  two : (q k : ℕ) → faultOf q k ≢ 0 → 2 ≡ faultOf q k
+  two : (q k : ℕ) → thirdAt q k ≢ 0 → 2 ≡ thirdAt q k
   unfolding thirdFault
-  two q k = go (neq (f .i) k) (same? (hash (wholeDm (m k) q)) (take 32 (drop 64 (drop ((k * STRINGS + q) * COMM) comms))))
+  two q k = go (neq (f .i) k) (same? (hash (wholeDm (m k) q)) (take 32 (drop 64 (commsTo comms k q))))
     where
       go : (b t : Bool) → pick {A = ℕ} b (pick t 0 2) 0 ≢ 0 → _≡_ {A = ℕ} 2 (pick b (pick t 0 2) 0)
       go true true ne = absurd (ne refl)
       go true false ne = refl
       go false t ne = absurd (ne refl)
 
-  module _ (k first party : ℕ) (e : k ≡ f .n) (h : Lowest faultOf k first party) where
+  module _ (k first party : ℕ) (e : k ≡ f .n) (h : Lowest thirdAt k first party) where
     clean-string : (q : ℕ) → q < first → byParty f (thirdFault comms m q) .code ≡ 0
     clean-string q l =
         sym (finds-none (f .n) (f .i) (thirdFault comms m q) (f .l) (f .n) 0 (scan-none (f .n) _ (λ j lj. h .clean j (omega arith) q l)) refl .code-is)

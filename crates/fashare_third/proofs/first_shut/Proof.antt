@@ -5,18 +5,18 @@ use Rattle.lists.specs.Same.{same?}
 use Rattle.block.specs.Block.{wordAt}
 use Rattle.blake3.specs.Tree.{bytes, hash}
 use Rattle.rounds.specs.Fashare.{STRINGS, COMM, thirdFault}
-use Rattle.fashare_third.specs.Laws.{comm-in, third-is, Walked, walked-start, walked-in, walked-turn, walked-stop, walked-end}
+use Rattle.fashare_third.specs.Laws.{comm-in, third-is, Opened, opened-start, opened-in, opened-turn, opened-stop, opened-end}
 use Rattle.fashare_third.proofs.first_shut.Statement.{statement}
 use Rattle.fashare_third.proofs.first_shut.Tie as tie
 
 abbrev Inv-loop : tie.InvT-loop
-Inv-loop comms m k most at₀ q₀ at q = (q ≤ most) × Walked comms m k q at
+Inv-loop comms m k most at₀ q₀ at q = (q ≤ most) × Opened comms m k q at
 
 abbrev μ-loop : tie.MeasureT-loop
 μ-loop comms m k most at₀ q₀ at q = most - q
 
 loop-holds : tie.Need-loop-holds Inv-loop μ-loop
-loop-holds c = let a = c .before .before .args in (search needs, walked-start (now (a .comms)) (now (a .m)) (a .k))
+loop-holds c = let a = c .before .before .args in (search needs, opened-start (now (a .comms)) (now (a .m)) (a .k))
 
 -- ---- in a turn
 module _ (c : tie.In-loop Inv-loop μ-loop) where
@@ -34,7 +34,7 @@ module _ (c : tie.In-loop Inv-loop μ-loop) where
 
   inside : at + 8 + wordAt m at ≤ length m
   inside =
-      walked-in (now (start .args .comms)) m (start .args .k) (c .before .loop .q) at (c .before .loop .inv .1) (start .pre .0) string
+      opened-in (now (start .args .comms)) m (start .args .k) (c .before .loop .q) at (c .before .loop .inv .1) (start .pre .0) string
 
 add-from : tie.Need-add-from Inv-loop μ-loop
 add-from c = omega (arith, inside c)
@@ -89,7 +89,7 @@ returns c =
     let i = c .before in
     let t = turn (i .before) in
     let a = start t .args in
-    walked-stop (now (a .comms)) (m t) (a .k) (t .before .loop .q) (at t) (t .before .loop .inv .1) (a .most) (i .is .result)
+    opened-stop (now (a .comms)) (m t) (a .k) (t .before .loop .q) (at t) (t .before .loop .inv .1) (a .most) (i .is .result)
     (t .before .loop .inv .0) (said i) (c .if1 .taken)
 
 loop-again : tie.Need-loop-again Inv-loop μ-loop
@@ -99,7 +99,7 @@ loop-again c =
     let s = start t in
     let a = s .args in (
       omega (arith, t .loop-test .taken),
-      walked-turn (now (a .comms)) (m t) (a .k) (t .before .loop .q) (at t) (t .before .loop .inv .1) (s .pre .0) (string t) _ (i .is .result)
+      opened-turn (now (a .comms)) (m t) (a .k) (t .before .loop .q) (at t) (t .before .loop .inv .1) (s .pre .0) (string t) _ (i .is .result)
           (ap (λ w. at t + 8 + w) (i .before .before .before .load64 .ensures)) (said i) (c .if1 .left),
     )
 
@@ -107,7 +107,7 @@ returns-2 : tie.Need-returns-2 Inv-loop μ-loop
 returns-2 c =
     let l = c .before in
     let a = l .before .before .before .args in
-    walked-end (now (a .comms)) (now (a .m)) (a .k) (l .loop .q) (l .loop .at) (l .loop .inv .1) (a .most) (omega arith)
+    opened-end (now (a .comms)) (now (a .m)) (a .k) (l .loop .q) (l .loop .at) (l .loop .inv .1) (a .most) (omega arith)
 
 pub first-shut-spec : {M : Type 1} → statement M
 first-shut-spec =

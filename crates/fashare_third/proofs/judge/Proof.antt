@@ -5,13 +5,13 @@ use Rattle.rounds.specs.Area.{SHARE-COMMS}
 use Rattle.rounds.specs.Mail.{letter}
 use Rattle.area.specs.GivenLaws.{lent-length}
 use Rattle.area.specs.Sizes.{size-share-comms}
-use Rattle.fashare_third.specs.Laws.{faultOf, Lowest, lowest-none, lowest-new, lowest-old, lowest-found, lowest-clean}
+use Rattle.fashare_third.specs.Laws.{thirdAt, Lowest, lowest-none, lowest-new, lowest-old, lowest-found, lowest-clean}
 use Rattle.fashare_third.proofs.judge.Statement.{statement}
 use Rattle.fashare_third.proofs.judge.Tie as tie
 
 abbrev Inv-loop : tie.InvT-loop
 Inv-loop work incoming mail f n comms first₀ party₀ k₀ first party k =
-    (k ≤ n) × Lowest (faultOf f comms (letter incoming mail)) k first party
+    (k ≤ n) × Lowest (thirdAt f comms (letter incoming mail)) k first party
 
 abbrev μ-loop : tie.MeasureT-loop
 μ-loop work incoming mail f n comms first₀ party₀ k₀ first party k = n - k
