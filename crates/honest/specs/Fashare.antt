@@ -43,7 +43,7 @@ use Rattle.engine.specs.Order.{echoIn}
 use Rattle.engine.specs.Honest.{before, due, plainAfter}
 use Rattle.rounds.specs.Area.{SHARE-COMMS, DMS, sizes, sizeOf, rows}
 use Rattle.rounds.specs.Table.{judge, kept, held, written}
-use Rattle.rounds.specs.Fashare.{own, d0, d1, dm, dmMac, commMsg, commRows, verMsg, dmAt, dmRows, dmRow, others1}
+use Rattle.rounds.specs.Fashare.{own, d0, d1, dm, dmMac, commMsg, commRows, commsTo, verMsg, dmAt, dmRows, dmRow, others1}
 use Rattle.rounds.specs.Fashare.{wholeDm, thirdFault, thirdFaults, dmFault, dmFaults, verFaults, dibiMsg, macsFor, dibiFault, dibiFaults}
 use Rattle.rounds.specs.FaultLaws.{first-none}
 use Rattle.alone.specs.Base.{rows-ext}
@@ -266,7 +266,7 @@ module _ (R : Run) (X : Boxes R) where
   -- what i keeps of k's commitments to string q
   module _ (i k q : ℕ) (lk : k < n) (ne : i ≢ k) (lq : q < 40) where
     abbrev told : List ℕ
-    told = drop ((k * 40 + q) * 96) (S.shareComms R i)
+    told = commsTo (S.shareComms R i) k q
 
     abbrev h0 : List ℕ
     h0 = hash (bytesOf (d0 (box R k) (inputs k .bits) q))

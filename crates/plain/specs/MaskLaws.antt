@@ -110,7 +110,7 @@ module _ (f : Frame) (m : ℕ → List ℕ) where
   dibi recs comms dms =
       first-ext 40 _ _ (λ q lq. by-ext f _ _ (λ k l ne.
       of (λ x. let d = blockAt x (8 + q * 16) in
-      let c = drop ((k * 40 + q) * 96) comms in
+      let c = Fashare.commsTo comms k q in
       pick (same? (hash (bytesOf d)) (take 32 c) || same? (hash (bytesOf d)) (take 32 (drop 32 c)))
       (pick (eqBlock (Fashare.macsFor f recs dms q k) d) 0 9) 2) k l ne))
 

@@ -110,7 +110,8 @@ dmFault f m q k =
 unfoldable pub dmFaults : Frame → (ℕ → List ℕ) → Fault
 dmFaults f m = firstOf STRINGS (λ q. byParty f (dmFault f m q))
 
--- "A mismatch is 2, and all of these come before any dm length or dm bit."
+-- "A mismatch is 2, and all of these come before any dm length or dm bit." When it is made, "as soon as `fashare ver` and its echo are
+-- accepted", is engine's (specs/Plain, `echoCheck`).
 unfoldable pub verFaults : Frame → List ℕ → (ℕ → List ℕ) → Fault
 verFaults f comms m = orElse (thirdFaults f comms m) (dmFaults f m)
 

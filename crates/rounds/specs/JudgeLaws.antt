@@ -133,7 +133,7 @@ module _ (f : Frame) (w : List ℕ) (m : ℕ → List ℕ) where
     unfolding Fashare.dibiFault mem
     opened q k =
         let d = blockAt (m k) (8 + q * 16) in
-        let c = drop ((k * 40 + q) * 96) comms in
+        let c = Fashare.commsTo comms k q in
         one-pick (2 ∷ 9 ∷ []) (same? (hash (bytesOf d)) (take 32 c) || same? (hash (bytesOf d)) (take 32 (drop 32 c))) _ 2
         (test (2 ∷ 9 ∷ []) (eqBlock (Fashare.macsFor f w rows q k) d) 9 refl) (one-of (2 ∷ 9 ∷ []) 2 refl)
 
