@@ -28,6 +28,7 @@ use Rattle.rounds.specs.Flaand.{eRows}
 use Rattle.rounds.specs.Buckets.{Triple, two, combine, le4, word4, permBytes, entry, later, d, dvalueMsg, dTold, dOpened, ds, zShare}
 use Rattle.rounds.specs.Buckets.{leakyAnd, abc, tripleRow}
 use Rattle.rounds.specs.Buckets as B
+use Rattle.rounds.specs.BucketLaws.{combine-y}
 use Rattle.rounds.specs.Beaver as Beaver
 use Rattle.alone.specs.Formula as F
 use Rattle.alone.specs.Formula.{Seen}
@@ -133,12 +134,6 @@ small-combine n g d (suc c) p =
       tx = small-share-op n _ _ (s .tx) (t .tx);
       tz = small-share-op n _ _ (small-share-op n _ _ (s .tz) (t .tz)) (small-share-sel n (d c) (g (suc c) .tx) (t .tx));
     }
-
--- "y = y1"
-pub combine-y : (g : ℕ → Triple) (d : ℕ → Bool) (c : ℕ) → combine g d c .ty ≡ g 0 .ty
-unfolding combine two
-combine-y g d zero = refl
-combine-y g d (suc c) = combine-y g d c
 
 -- ---- a row of TRIPLES, read back
 module _ (f : Frame) (g : ℕ → Triple) where

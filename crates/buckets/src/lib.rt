@@ -1,9 +1,10 @@
 // The permutation in the work area, and the entries of a bucket of leaky ANDs: where they lie in it, and where their records y lie. For
 // rounds 21 and 22, from `faand` of src/mpc/faand.rs; the definitions stand in crates/rounds (Buckets). The permutation is public.
 ghost use mathlib.Core.Path.{_≡_};
-ghost use Prim.Native.Nat.{_+_, _*_, _<_, _≤_};
-ghost use lib.ListN.{length, getD};
-ghost use Rattle.lists.specs.Over.{cat};
+ghost use mathlib.Core.List.{_++_};
+ghost use Prim.Native.Nat.{_+_, _-_, _*_, _<_, _≤_};
+ghost use lib.ListN.{length, getD, replicate};
+ghost use Rattle.lists.specs.Over.{tab, cat};
 ghost use Rattle.share.specs.Record.{recordLen};
 ghost use Rattle.plan.specs.Plan.{bucketSize, leaky};
 ghost use Rattle.rounds.specs.Area as Area;
@@ -86,7 +87,26 @@ pub fn entry(perm: &[u8], f: Frame, j: usize, e: usize) -> usize
     word4(perm, at) % plan::leaky(f.l)
 }
 
-// Where its record y starts.
+// The most entries that a bucket has.
+pub const BUCKET_MOST: usize = 5;
+
+// All entries of bucket j, with zeros behind them.
+pub fn entries(perm: &[u8], f: Frame, j: usize) -> [usize; BUCKET_MOST]
+    requires { ⌜ Ranged f ⌝ }
+    requires { ⌜ (length (now perm) ≡ leaky (f .l) * 4) × (j < f .l) ⌝ }
+    ensures { λ r. ⌜ r ≡ tab (bucketSize (f .l)) (B.entry f (now (perm .entry)) j) ++ replicate (5 - bucketSize (f .l)) 0 ⌝ }
+{
+    let b = plan::bucket_size(f.l);
+    let mut ts = [0usize; BUCKET_MOST];
+    let mut e = 0;
+    while e < b {
+        ts[e] = entry(perm, f, j, e);
+        e += 1;
+    }
+    ts
+}
+
+// Where the record y of entry e starts.
 pub fn y_at(perm: &[u8], f: Frame, j: usize, e: usize) -> usize
     requires { ⌜ Ranged f ⌝ }
     requires { ⌜ (length (now perm) ≡ leaky (f .l) * 4) × (j < f .l) × (e < bucketSize (f .l)) ⌝ }

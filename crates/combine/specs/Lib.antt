@@ -1,4 +1,4 @@
-pub mod Pair
-pub mod PairLaws
+pub mod Sums
+pub mod Row
+pub mod Triples
 pub mod Stops
-pub mod Records

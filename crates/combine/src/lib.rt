@@ -1,95 +1,187 @@
-// Combining leaky ANDs: the public call, and the step that the buckets of a session take too. From `combine_bucket` and
-// `combine_two_leaky_ands` of src/mpc/faand.rs. Bits, MACs, keys and d decide no branch and no index: d times a record is added.
+// Combining leaky ANDs: the public call, and the sums that the buckets of a session take too. From `combine_bucket` and
+// `combine_two_leaky_ands` of src/mpc/faand.rs, as one sum over the bucket: for x all x, for y the first, for z all z and each later x whose
+// d is 1. Records are read where they lie, and each bit, MAC and key is written once. Bits, MACs and keys decide no branch and no index.
 ghost use mathlib.Core.Path.{_≡_};
-ghost use Prim.Native.Nat.{ℕ, _+_, _-_, _*_, _<_, _≤_};
+ghost use mathlib.Core.List.{_++_};
+ghost use Prim.Native.Nat.{ℕ, _+_, _*_, _<_, _≤_};
 ghost use lib.ListN.{length, getD};
 ghost use lib.Dec.{leb};
 ghost use Rattle.lists.specs.All.{allOf};
 ghost use Rattle.lists.specs.Pick.{pick};
-ghost use Rattle.algebra.specs.Group.{XorGroup, sel, odd};
+ghost use Rattle.algebra.specs.Group.{odd};
+ghost use Rattle.algebra.specs.Group as Group;
+ghost use Rattle.algebra.specs.Bucket.{bucketX, bucketZ};
+ghost use Rattle.block.specs.Block.{bytesOf};
+ghost use Rattle.share.specs.Layout.{ENTRY, macOff};
 ghost use Rattle.share.specs.Record.{recordLen};
-ghost use Rattle.share.specs.Share.{shareAt, shares, recordOf};
+ghost use Rattle.share.specs.Share.{shares, recordOf};
 ghost use Rattle.rounds.specs.Buckets as B;
 ghost use Rattle.engine.specs.Step.{replyOf};
 ghost use Rattle.rounds.specs.Combine as C;
-ghost use Rattle.combine.specs.Pair.{pairAt, putPair};
+ghost use Rattle.combine.specs.Sums.{xOf, zOf, Lies, Within, Summed, Entries};
+ghost use Rattle.combine.specs.Row.{putEntries, putHeads};
 use engine::Verdict;
+use share::ENTRY;
+use share::Entry;
 
-// z + z2 + d·x2: x2 is the record at `x2` of s, z2 that at `z2` of zs.
-fn combine_z(z: &mut [u8], s: &[u8], x2: usize, zs: &[u8], z2: usize, n: usize, i: usize, d: bool)
-    requires { ⌜ (n ≤ 8) × (length (now z) ≡ recordLen n) ⌝ }
-    requires { ⌜ (x2 + recordLen n ≤ length (now s)) × (z2 + recordLen n ≤ length (now zs)) ⌝ }
-    ensures { λ _. ⌜ now (z .exit) ≡ recordOf n i (shares .op
-        (shares .op (shareAt (now (z .entry)) 0) (shareAt (now (zs .entry)) z2)) (sel shares d (shareAt (now (s .entry)) x2))) ⌝ }
-{
-    share::add_record(z, zs, z2, n, i, true);
-    share::add_record(z, s, x2, n, i, d);
+// ---- the sums over a bucket
+
+// A party's entries of the combined x and z.
+pub struct Sums {
+    pub x: Entry,
+    pub z: Entry,
 }
 
-// Combines the triple in t, x at its start and z at `z_at`, with the triple that has x at `x2` of s and z at `z2` of zs. Of y's none is
-// changed.
-pub fn combine_two(
-    t: &mut [u8],
-    z_at: usize,
+// Their bits.
+pub struct Bits {
+    pub x: bool,
+    pub z: bool,
+}
+
+// What stands for the own number.
+pub fn nothing() -> Sums
+    ensures { λ r. ⌜ ((k : ℕ) → Summed k (shares .nil) (shares .nil) r) ⌝ }
+{
+    Sums {
+        x: Entry::zero(),
+        z: Entry::zero(),
+    }
+}
+
+// Party k's entries of the sums: the bucket's x are the records ts of s, and each z lies `behind` records behind its x. d has a byte for each
+// x but the first.
+pub fn sum_entries(s: &[u8], ts: &[usize], behind: usize, d: &[u8], n: usize, k: usize) -> Sums
+    requires { ⌜ (Lies n (now s) (now ts) behind (now d)) × (k < n) ⌝ }
+    ensures { λ r. ⌜ Summed k (bucketX shares (xOf n (now (s .entry)) (now (ts .entry))) (length (now (d .entry))))
+        (bucketZ shares (xOf n (now (s .entry)) (now (ts .entry))) (zOf n (now (s .entry)) (now (ts .entry)) behind)
+        (λ e. odd (getD (now (d .entry)) e 0)) (length (now (d .entry)))) r ⌝ }
+{
+    let len = share::record_len(n);
+    let first = ts[0];
+    let mut x = share::entry_at(s, first * len, k);
+    let mut z = share::entry_at(s, (first + behind) * len, k);
+    let mut e = 1;
+    while e < ts.len() {
+        let t = ts[e];
+        let later = share::entry_at(s, t * len, k);
+        let next = share::entry_at(s, (t + behind) * len, k);
+        x = x.xor(later);
+        z = z.xor(next).xor(later.times(block::bit(d, e - 1)));
+        e += 1;
+    }
+    Sums { x: x, z: z }
+}
+
+// The bits of the sums: those of z lie in zs, a step of `step` bytes for each record.
+pub fn sum_bits(
     s: &[u8],
-    x2: usize,
-    zs: &[u8],
-    z2: usize,
+    ts: &[usize],
+    d: &[u8],
     n: usize,
-    i: usize,
-    d: bool,
-)
-    requires { ⌜ (n ≤ 8) × (recordLen n ≤ «z_at») × («z_at» + recordLen n ≤ length (now t)) ⌝ }
-    requires { ⌜ (x2 + recordLen n ≤ length (now s)) × (z2 + recordLen n ≤ length (now zs)) ⌝ }
-    ensures { λ _. ⌜ now (t .exit) ≡ putPair n i «z_at»
-        (B.two (pairAt (now (t .entry)) 0 (now (t .entry)) «z_at») (pairAt (now (s .entry)) x2 (now (zs .entry)) z2) d) (now (t .entry)) ⌝ }
+    zs: &[u8],
+    behind: usize,
+    step: usize,
+) -> Bits
+    requires { ⌜ (n ≤ 8) × (length (now ts) ≡ length (now d) + 1) ⌝ }
+    requires { ⌜ (Within (now s) (now ts) 0 (recordLen n) 1) × (Within (now zs) (now ts) behind step 1) × (1 ≤ step) ⌝ }
+    ensures { λ r. ⌜ (r .x ≡ bucketX Group.bits (λ e. xOf n (now (s .entry)) (now (ts .entry)) e .bit) (length (now (d .entry))))
+        × (r .z ≡ bucketZ Group.bits (λ e. xOf n (now (s .entry)) (now (ts .entry)) e .bit)
+        (λ e. odd (getD (now (zs .entry)) ((getD (now (ts .entry)) e 0 + behind) * step) 0))
+        (λ e. odd (getD (now (d .entry)) e 0)) (length (now (d .entry)))) ⌝ }
 {
     let len = share::record_len(n);
-    share::add_record(&mut t[0..len], s, x2, n, i, true);
-    let e = z_at + len;
-    combine_z(&mut t[z_at..e], s, x2, zs, z2, n, i, d);
+    let first = ts[0];
+    let mut x = share::bit_at(s, first * len);
+    let mut z = block::bit(zs, (first + behind) * step);
+    let mut e = 1;
+    while e < ts.len() {
+        let t = ts[e];
+        let later = share::bit_at(s, t * len);
+        let next = block::bit(zs, (t + behind) * step);
+        x = x ^ later;
+        z = z ^ next ^ (later & block::bit(d, e - 1));
+        e += 1;
+    }
+    Bits { x: x, z: z }
 }
 
-// The first triple as it is.
-fn put_first(out: &mut [u8], triples: &[u8], n: usize, i: usize)
-    requires { ⌜ (n ≤ 8) × (length (now out) ≡ 3 * recordLen n) × (3 * recordLen n ≤ length (now triples)) ⌝ }
-    ensures { λ _. ⌜ now (out .exit) ≡ C.records n i (C.triple n (now (triples .entry)) 0) ⌝ }
+// ---- a row of records: x at its start, z at `z`
+
+// Writes party k's entries of x and z.
+pub fn put_entries(row: &mut [u8], z: usize, k: usize, s: Sums)
+    requires { ⌜ (k < 8) × (macOff k + ENTRY ≤ z) × (z + (macOff k + ENTRY) ≤ length (now row)) ⌝ }
+    ensures { λ _. ⌜ now (row .exit) ≡ putEntries z k (bytesOf (s .x .mac .0) ++ bytesOf (s .x .key .0))
+        (bytesOf (s .z .mac .0) ++ bytesOf (s .z .key .0)) (now (row .entry)) ⌝ }
 {
-    let len = share::record_len(n);
-    let z = 2 * len;
-    let e = 3 * len;
-    share::copy_record(&mut out[0..len], triples, 0, n, i);
-    share::copy_record(&mut out[len..z], triples, len, n, i);
-    share::copy_record(&mut out[z..e], triples, z, n, i);
+    let a = share::mac_off(k);
+    let e = a + ENTRY;
+    share::put_entry(&mut row[a..e], s.x);
+    let from = z + a;
+    let to = z + e;
+    share::put_entry(&mut row[from..to], s.z);
 }
 
-// All triples, one by one from the left; d's first byte is the second triple's.
+// Writes the heads of x and z.
+pub fn put_heads(row: &mut [u8], z: usize, b: Bits)
+    requires { ⌜ (macOff 0 ≤ z) × (z + macOff 0 ≤ length (now row)) ⌝ }
+    ensures { λ _. ⌜ now (row .exit) ≡ putHeads z (b .x) (b .z) (now (row .entry)) ⌝ }
+{
+    share::put_head(row, b.x);
+    share::put_head(&mut row[z..], b.z);
+}
+
+// ---- the public call
+
+// A triple's records are x, y and z, so the x of the triples are the records 0, 3, 6 ..; how far behind x the others are.
+const TRIPLE: usize = 3;
+
+const Y: usize = 1;
+
+const Z: usize = 2;
+
+// Writes the y of triple t.
+fn put_y(out: &mut [u8], triples: &[u8], t: usize, n: usize, i: usize)
+    requires { ⌜ (n ≤ 8) × (t ≤ 4) × (length (now out) ≡ recordLen n) ⌝ }
+    requires { ⌜ (3 * t + 1) * recordLen n + recordLen n ≤ length (now triples) ⌝ }
+    ensures { λ _. ⌜ now (out .exit) ≡ recordOf n i (C.triple n (now (triples .entry)) t .ty) ⌝ }
+{
+    let at = (TRIPLE * t + Y) * share::record_len(n);
+    share::copy_record(out, triples, at, n, i);
+}
+
+// What stands for party k in party i's records of the combined x and z.
+fn party(triples: &[u8], ts: &[usize], d: &[u8], n: usize, i: usize, k: usize) -> Sums
+    requires { ⌜ (Lies n (now triples) (now ts) 2 (now d)) × (k < n) ⌝ }
+    ensures { λ r. ⌜ Entries i k (bucketX shares (xOf n (now (triples .entry)) (now (ts .entry))) (length (now (d .entry))))
+        (bucketZ shares (xOf n (now (triples .entry)) (now (ts .entry))) (zOf n (now (triples .entry)) (now (ts .entry)) 2)
+        (λ e. odd (getD (now (d .entry)) e 0)) (length (now (d .entry)))) r ⌝ }
+{
+    if k == i {
+        return nothing();
+    }
+    sum_entries(triples, ts, Z, d, n, k)
+}
+
+// All triples as one sum; d's first byte is the second triple's.
 fn combine_all(out: &mut [u8], triples: &[u8], d: &[u8], n: usize, i: usize)
     requires { ⌜ (n ≤ 8) × (length (now out) ≡ 3 * recordLen n) × (length (now d) ≤ 4) ⌝ }
     requires { ⌜ length (now triples) ≡ 3 * (length (now d) + 1) * recordLen n ⌝ }
     ensures { λ _. ⌜ now (out .exit) ≡ C.records n i
         (B.combine (C.triple n (now (triples .entry))) (λ e. odd (getD (now (d .entry)) e 0)) (length (now (d .entry)))) ⌝ }
 {
+    let firsts = [0usize, 3, 6, 9, 12];
+    let count = d.len() + 1;
     let len = share::record_len(n);
-    put_first(out, triples, n, i);
-    let mut e = 0;
-    while e < d.len() {
-        let t = 3 * (e + 1);
-        let x2 = t * len;
-        let z2 = (t + 2) * len;
-        combine_two(
-            out,
-            2 * len,
-            triples,
-            x2,
-            triples,
-            z2,
-            n,
-            i,
-            block::bit(d, e),
-        );
-        e += 1;
+    let z = Z * len;
+    put_y(&mut out[len..z], triples, 0, n, i);
+    let mut k = 0;
+    while k < n {
+        let s = party(triples, &firsts[..count], d, n, i, k);
+        put_entries(out, z, k, s);
+        k += 1;
     }
+    let b = sum_bits(triples, &firsts[..count], d, n, triples, Z, len);
+    put_heads(out, z, b);
 }
 
 // 1 where a byte is above 1, else 0.

@@ -7,7 +7,7 @@ use Prim.Native.Nat.{ℕ, zero, suc, _+_, _-_, _*_, _<_, _≤_, min}
 use native.Mathlib.Nat.{le-refl, mul-comm}
 use native.Mathlib.Omega.{arith}
 use lib.ListN.{length, getD, take, drop, length-append, length-take, length-drop, take-append-drop}
-use lib.Seq.{take-at, drop-at, take-take, drop-drop, take-add, take-append-le, drop-append-le, length-take-le}
+use lib.Seq.{take-at, drop-at, take-take, drop-drop, take-add, drop-append-le, length-take-le}
 use lib.Dec.{ltb, eqb}
 use borrow.Author.Tests.{ltb-true, ltb-false, le-ltb, eqb-true}
 use Rattle.lists.specs.Pick.{pick}
@@ -49,13 +49,6 @@ module _ {A : Type 0} where
       let lo : length (take o w) ≡ o = length-take-le o w l in
       ap₂ (λ (p r : List A). p ++ (xs ++ r)) (take-at (take o w) (ys ++ z) o lo)
       (ap (drop m) (drop-at (take o w) (ys ++ z) o lo) ∙ drop-at ys z m h)
-
-  put-append : (o m : ℕ) (xs u z : List A) → o + m ≤ length u → put o m xs (u ++ z) ≡ put o m xs u ++ z
-  put-append o m xs u z h =
-      ap₂ (λ (p r : List A). p ++ (xs ++ r)) (take-append-le o u z (omega arith))
-      (ap (drop m) (drop-append-le o u z (omega arith)) ∙ drop-append-le m (drop o u) z (rw (length-drop o u) (omega arith)))
-      ∙ ap (λ (r : List A). take o u ++ r) (sym (append-assoc xs (drop m (drop o u)) z))
-      ∙ sym (append-assoc (take o u) (xs ++ drop m (drop o u)) z)
 
 -- ---- sections
 module _ (size : ℕ → ℕ) where

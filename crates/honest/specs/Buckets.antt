@@ -16,7 +16,8 @@ use Rattle.lists.specs.Rows.{cat-ext, tab-ext}
 use Rattle.lists.specs.Bytes.{Bytes, bytes-append, bytes-cat}
 use Rattle.algebra.specs.Group.{bits, addb, addb-comm, sel, odd, num, odd-num}
 use Rattle.algebra.specs.Sum.{sum, others, others-ext, others-all}
-use Rattle.algebra.specs.Share.{Shared, shared, total, Good, good-op, Triple}
+use Rattle.algebra.specs.Bucket.{bucketX, bucketZ}
+use Rattle.algebra.specs.Share.{Shared, shared, total, Good, good-op, Triple, bucket}
 use Rattle.block.specs.declared.Block.{Block}
 use Rattle.block.specs.Block.{blockAt, le8, bytesOf, Small}
 use Rattle.block.specs.Group.{blocks, eq-block}
@@ -51,7 +52,7 @@ use Rattle.honest.specs.Script as S
 use Rattle.honest.specs.Inputs.{Run, box, Boxes, Inputs, deltas, small-bits}
 use Rattle.honest.specs.Base.{Receives, Sends, list-form, Fit, delta-is, bits-at, perm-at, keep-one}
 use Rattle.honest.specs.Values.{xOf, yOf, zOf, share-x, share-y, share-z, small-z, LeakyTriples}
-use Rattle.honest.specs.Combining.{sumX, sumZ, sum-triple, tripleOf, combined, small-sumX, small-sumZ}
+use Rattle.honest.specs.Combining.{tripleOf, combined, small-bucket-x, small-bucket-z}
 
 -- ---- what is read of an item that stands at a place in a message
 module _ (m g : List ℕ) (at size : ℕ) (here : take size (drop at m) ≡ g) where
@@ -151,13 +152,13 @@ module _ (R : Run) where
 
   -- the combined x and z: a and c of bucket j; b is its first y
   abbrev pub aOf : ℕ → Shared Block
-  aOf j = sumX (xIn j) (yIn j) (zIn j) (λ e. total n (dOf j e)) (more l)
+  aOf j = bucketX (shared blocks) (xIn j) (more l)
 
   abbrev pub bOf : ℕ → Shared Block
   bOf j = yIn j 0
 
   abbrev pub cOf : ℕ → Shared Block
-  cOf j = sumZ (xIn j) (yIn j) (zIn j) (λ e. total n (dOf j e)) (more l)
+  cOf j = bucketZ (shared blocks) (xIn j) (zIn j) (λ e. total n (dOf j e)) (more l)
 
 -- the own bit and those told by all others are the XOR of all
 pub open-all : (i n : ℕ) (v : ℕ → Bool) (own : Bool) (told : ℕ → Bool) → i < n → own ≡ v i → ((k : ℕ) → k < n → i ≢ k → told k ≡ v k)
@@ -345,7 +346,7 @@ module _ (R : Run) (I : Inputs R) where
       }
   unfolding abc later leakyAnd
   abc-is i j li lj =
-      combine-ext _ (tripleOf (xs j) (ys j) (zs j) (opened j) i) _ _ (more l) entry-triple (λ e le. ds-read i j e li lj le)
+      combine-ext _ (tripleOf (xs j) (ys j) (zs j) i) _ _ (more l) entry-triple (λ e le. ds-read i j e li lj le)
       ∙ combined (xs j) (ys j) (zs j) (opened j) i (more l)
     where
       at-place : ℕ → B.Triple
@@ -357,7 +358,7 @@ module _ (R : Run) (I : Inputs R) where
 
       entry-triple : (e : ℕ) → e < suc (more l)
           → leakyAnd (box R i) (deltas R i) (inputs i .bits) (S.zRows R i) (S.es R i) (perm i) j e
-          ≡ tripleOf (xs j) (ys j) (zs j) (opened j) i e
+          ≡ tripleOf (xs j) (ys j) (zs j) i e
       entry-triple e le =
           ap at-place (entry-is i j e lj (all-in l e le))
           ∙ (λ q. record {
@@ -381,11 +382,11 @@ module _ (R : Run) (I : Inputs R) where
   small-x i j e li = rw (share-x R i (place R j e)) (small-bits R X i li _)
 
   pub small-a : (i j : ℕ) → i < n → SmallShare n (shareOf i (aOf R j))
-  small-a i j li = small-sumX (xs j) (ys j) (zs j) (opened j) n i (more l) (λ e le. small-x i j e li)
+  small-a i j li = small-bucket-x (xs j) (ys j) (zs j) (opened j) i (more l) n (λ e le. small-x i j e li)
 
   pub small-c : (i j : ℕ) → i < n → SmallShare n (shareOf i (cOf R j))
   small-c i j li =
-      small-sumZ (xs j) (ys j) (zs j) (opened j) n i (more l) (λ e le. small-x i j e li) (λ e le. small-z R X i li (place R j e))
+      small-bucket-z (xs j) (ys j) (zs j) (opened j) i (more l) n (λ e le. small-x i j e li) (λ e le. small-z R X i li (place R j e))
 
   -- read back
   small-own : (i j : ℕ) → i < n → j < l → SmallTriple n (own i j)
@@ -407,5 +408,5 @@ module _ (R : Run) (I : Inputs R) where
   -- c is the AND of a and b
   pub abc-triple : LeakyTriples R → (j : ℕ) → j < l → Triple blocks n (deltas R) (aOf R j) (bOf R j) (cOf R j)
   abc-triple L j lj =
-      sum-triple (xs j) (ys j) (zs j) (opened j) n (deltas R) (more l)
-      (λ e le. L (place R j e) (place-below (box R 0) permutation ordered j e lj (all-in l e le))) (λ e le. refl)
+      bucket blocks n (deltas R) (xs j) (ys j) (zs j) (more l)
+      (λ e le. L (place R j e) (place-below (box R 0) permutation ordered j e lj (all-in l e le)))

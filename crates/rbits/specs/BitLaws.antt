@@ -17,10 +17,10 @@ use Rattle.lists.specs.Over.{tab, getD-tab, in-record}
 use Rattle.lists.specs.Rows.{tab-ext}
 use Rattle.lists.specs.Bytes.{Bytes}
 use Rattle.algebra.specs.Group.{numbers, bits, sel, odd, num, odd-num, sel-nil}
-use Rattle.algebra.specs.Sum.{sum, sum-ext, sum-swap, sum-lt}
+use Rattle.algebra.specs.Sum.{sum, sum-ext, sum-turn, sum-swap, sum-lt}
 use Rattle.rbits.specs.Chosen.{chosen, bitSum}
 use Rattle.rbits.specs.Tables.{rWord, recordBit, packed, maskedAt}
-use Rattle.rbits.specs.SumLaws.{sum-turn, sum-groups, sum-past}
+use Rattle.rbits.specs.SumLaws.{sum-groups, sum-past}
 use Rattle.rbits.specs.DigitLaws.{mod-digit, and-digit, sum-digit, parity}
 use Rattle.rbits.specs.ChosenLaws.{chosen-digit}
 

@@ -8,14 +8,14 @@ use borrow.Author.Tests.{lt-ltb, le-ltb}
 use Rattle.lists.specs.Over.{getD-tab, in-record}
 use Rattle.lists.specs.Bytes.{Bytes}
 use Rattle.algebra.specs.Group.{sel, odd, sel-nil}
-use Rattle.algebra.specs.Sum.{sum, sum-ext}
+use Rattle.algebra.specs.Sum.{sum, sum-ext, sum-turn}
 use Rattle.block.specs.declared.Block.{Block}
 use Rattle.block.specs.Block.{blockAt}
 use Rattle.block.specs.Group.{blocks}
 use Rattle.rbits.specs.Chosen.{chosen, blockSum, wordsOf, pairAt}
 use Rattle.rbits.specs.Tables.{recordBlock, tables, lookup, rWord, rWords, addedAt}
 use Rattle.rbits.specs.WordLaws.{words-ext, words-at, words-zero}
-use Rattle.rbits.specs.SumLaws.{sum-turn, sum-groups, sum-past}
+use Rattle.rbits.specs.SumLaws.{sum-groups, sum-past}
 use Rattle.rbits.specs.DigitLaws.{word-digit}
 use Rattle.rbits.specs.TableLaws.{lookup-tables}
 

@@ -1,16 +1,10 @@
--- Sums in an XOR group: a loop's turn, sums of sums, and terms that are nothing.
-use mathlib.Core.Path.{_≡_, refl, sym, ap, _∙_}
+-- Sums in an XOR group: sums of sums, and terms that are nothing.
+use mathlib.Core.Path.{_≡_, sym, ap, _∙_}
 use Prim.Native.Nat.{ℕ, zero, suc, _+_, _-_, _*_, _≤_}
 use native.Mathlib.Nat.{zero-mul, suc-mul}
-use native.Mathlib.Numerals.{add-one}
 use native.Mathlib.Omega.{arith}
 use Rattle.algebra.specs.Group.{XorGroup, unit-r}
 use Rattle.algebra.specs.Sum.{sum, sum-ext, sum-nil, sum-split}
-
--- a turn of a loop that counts up
-pub sum-turn : {A : Type 0} (G : XorGroup A) (n : ℕ) (f : ℕ → A) → sum G (n + 1) f ≡ G .op (sum G n f) (f n)
-unfolding sum
-sum-turn G n f = rw (add-one n) refl
 
 -- a sum of sums is one sum
 pub sum-groups : {A : Type 0} (G : XorGroup A) (n m : ℕ) (f : ℕ → A) → sum G n (λ k. sum G m (λ e. f (k * m + e))) ≡ sum G (n * m) f

@@ -16,14 +16,14 @@ use Rattle.lists.specs.Over.{cat}
 use Rattle.lists.specs.Rows.{chunk-cat}
 use Rattle.algebra.specs.Xor.{xor-assoc}
 use Rattle.algebra.specs.Group.{numbers, sel, odd, unit-r}
-use Rattle.algebra.specs.Sum.{sum, sum-ext}
+use Rattle.algebra.specs.Sum.{sum, sum-ext, sum-turn}
 use Rattle.block.specs.declared.Block.{Block}
 use Rattle.block.specs.Block.{xorOf}
 use Rattle.block.specs.Group.{blocks}
 use Rattle.rbits.specs.Chosen.{wordsOf, pairAt}
 use Rattle.rbits.specs.Tables.{sums, sumAt, three, four, sums8, table4, tables, entry, lookup}
 use Rattle.rbits.specs.WordLaws.{sel-words, sum-words, words-ext, words-at, pair-chunk}
-use Rattle.rbits.specs.SumLaws.{sum-turn, sum-groups}
+use Rattle.rbits.specs.SumLaws.{sum-groups}
 use Rattle.rbits.specs.DigitLaws.{mod-digit, part-digit}
 
 pub length-sums : (n : ℕ) (f : ℕ → ℕ) → length (sums n f) ≡ 2 ^ n

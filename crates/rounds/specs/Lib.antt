@@ -6,6 +6,7 @@ pub mod Haand
 pub mod Flaand
 pub mod FlaandLaws
 pub mod Buckets
+pub mod BucketLaws
 pub mod Beaver
 pub mod Echo
 pub mod Mail

@@ -15,7 +15,7 @@ use Rattle.lists.specs.Over.{cat, cat-add, length-cat, over-put, length-over, o
 use Rattle.lists.specs.Rows.{cat-ext, even-zero, even-put, even-turn, even-end}
 use Rattle.lists.specs.Sect.{length-get}
 use Rattle.algebra.specs.Group.{XorGroup, sel}
-use Rattle.algebra.specs.Sum.{neq, neq-self, neq-true, sum, others, Same, apart, apart?}
+use Rattle.algebra.specs.Sum.{neq, neq-own, neq-true, sum, others, Same, apart, apart?}
 use Rattle.engine.specs.declared.Frame.{Frame}
 use Rattle.engine.specs.StepLaws.{other-neq}
 use Rattle.engine.specs.Area.{off, sec, putSec, nth, nth-below, toOthers, length-sec, length-putSec, sec-same, sec-other, putSec-twice}
@@ -51,9 +51,6 @@ length-rowOf i m g k h = go (neq i k) (apart? i k)
 pub length-rows : (f : Frame) (m : ℕ) (g : ℕ → List ℕ) → ((k : ℕ) → k < f .n → length (g k) ≡ m) → length (rows f m g) ≡ f .n * m
 length-rows f m g h =
     ap length (sym (rows-of f m g)) ∙ length-cat (f .n) m (rowOf (f .i) m g) (λ k l. length-rowOf (f .i) m g k (λ ne. h k l))
-
-pub neq-own : (i k : ℕ) → i ≡ k → neq i k ≡ false
-neq-own i k e = ap (neq i) (sym e) ∙ neq-self i
 
 -- the summand of the own party, and of another
 pub sel-own : {A : Type 0} (G : XorGroup A) (i k : ℕ) (v : A) → i ≡ k → G .nil ≡ sel G (neq i k) v

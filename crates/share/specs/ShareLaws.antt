@@ -2,7 +2,7 @@
 use mathlib.Core.Path.{_≡_, refl, sym, ap, ap₂, _∙_, subst}
 use mathlib.Core.Bool.{Bool, true, false}
 use mathlib.Core.Logic.{_≢_}
-use mathlib.Core.List.{List, [], _∷_, _++_, append-nil}
+use mathlib.Core.List.{List, [], _++_, append-nil}
 use Prim.Native.Nat.{ℕ, zero, suc, _+_, _*_, _<_, _≤_}
 use native.Mathlib.Nat.{le-refl}
 use native.Mathlib.Omega.{arith}
@@ -14,7 +14,8 @@ use Rattle.lists.specs.Sect.{get}
 use Rattle.lists.specs.Rows.{chunk, chunk-cat, cat-ext}
 use Rattle.lists.specs.Bytes.{Bytes, bytes-append, bytes-cat, bytes-replicate}
 use Rattle.algebra.specs.Group.{XorGroup, bits, addb, sel, odd, num, odd-num}
-use Rattle.algebra.specs.Sum.{sum, neq, neq-true, Same, same, apart, apart?}
+use Rattle.algebra.specs.Sum.{sum, sum-ext, neq, neq-own, neq-true, Same, same, apart, apart?}
+use Rattle.algebra.specs.Bucket.{bucketX, bucketZ}
 use Rattle.block.specs.declared.Block.{Block}
 use Rattle.block.specs.Block.{blockAt, bytesOf, le8, zeroOf}
 use Rattle.block.specs.Group.{blocks}
@@ -56,6 +57,33 @@ pub key-sum : (m : ℕ) (f : ℕ → Share) (k : ℕ) → (sum shares m f) .key 
 unfolding sum shares
 key-sum zero f k = refl
 key-sum (suc m) f k = ap (λ (b : Block). blocks .op b (f m .key k)) (key-sum m f k)
+
+-- ---- a bucket, part by part
+module _ (x : ℕ → Share) (c : ℕ) where
+  pub bit-bucket-x : (bucketX shares x c) .bit ≡ bucketX bits (λ e. x e .bit) c
+  unfolding bucketX
+  bit-bucket-x = bit-sum (suc c) x
+
+  module _ (z : ℕ → Share) (d : ℕ → Bool) where
+    pub bit-bucket-z : (bucketZ shares x z d c) .bit ≡ bucketZ bits (λ e. x e .bit) (λ e. z e .bit) d c
+    unfolding bucketZ shares
+    bit-bucket-z =
+        ap₂ addb (bit-sum (suc c) z)
+        (bit-sum c (λ e. sel shares (d e) (x (suc e))) ∙ sum-ext bits c _ (λ e. sel bits (d e) (x (suc e) .bit)) (λ e l. bit-sel (d e) (x (suc e))))
+
+    pub mac-bucket-z : (k : ℕ) → (bucketZ shares x z d c) .mac k ≡ bucketZ blocks (λ e. x e .mac k) (λ e. z e .mac k) d c
+    unfolding bucketZ shares
+    mac-bucket-z k =
+        ap₂ (blocks .op) (mac-sum (suc c) z k)
+        (mac-sum c (λ e. sel shares (d e) (x (suc e))) k
+        ∙ sum-ext blocks c _ (λ e. sel blocks (d e) (x (suc e) .mac k)) (λ e l. mac-sel (d e) (x (suc e)) k))
+
+    pub key-bucket-z : (k : ℕ) → (bucketZ shares x z d c) .key k ≡ bucketZ blocks (λ e. x e .key k) (λ e. z e .key k) d c
+    unfolding bucketZ shares
+    key-bucket-z k =
+        ap₂ (blocks .op) (key-sum (suc c) z k)
+        (key-sum c (λ e. sel shares (d e) (x (suc e))) k
+        ∙ sum-ext blocks c _ (λ e. sel blocks (d e) (x (suc e) .key k)) (λ e l. key-sel (d e) (x (suc e)) k))
 
 -- ---- what is read
 module _ (s : List ℕ) (at : ℕ) where
@@ -107,6 +135,10 @@ module _ (i k : ℕ) (m y : Block) where
   pub entry-other : i ≢ k → entryBytes i k m y ≡ bytesOf m ++ bytesOf y
   unfolding entryBytes
   entry-other ne = ap (λ (b : Bool). pick b (bytesOf m ++ bytesOf y) (replicate ENTRY 0)) (neq-true i k ne)
+
+  pub entry-own : i ≡ k → entryBytes i k m y ≡ replicate ENTRY 0
+  unfolding entryBytes
+  entry-own e = ap (λ (b : Bool). pick b (bytesOf m ++ bytesOf y) (replicate ENTRY 0)) (neq-own i k e)
 
   length-pair : length (bytesOf m ++ bytesOf y) ≡ ENTRY
   length-pair = length-append (bytesOf m) (bytesOf y) ∙ ap₂ _+_ (length-bytesOf m) (length-bytesOf y)

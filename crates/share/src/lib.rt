@@ -1,7 +1,6 @@
 // Shares of authenticated bits: the types Delta, Mac and Key with the sums that are allowed, and share records in lent bytes.
 // From src/mpc/data_types.rs of polytune.
 ghost use mathlib.Core.Path.{_≡_};
-ghost use mathlib.Core.Bool.{true};
 ghost use mathlib.Core.List.{_++_};
 ghost use Prim.Native.Nat.{_+_, _*_, _<_, _≤_};
 ghost use lib.ListN.{length, getD, drop};
@@ -38,6 +37,13 @@ impl Mac {
         Mac(self.0.xor(o.0))
     }
 
+    // bit times the MAC
+    fn times(self, bit: bool) -> Mac
+        ensures { λ r. ⌜ r .0 ≡ sel blocks bit (self .0) ⌝ }
+    {
+        Mac(self.0.const_mul(bit))
+    }
+
     // a MAC plus a delta is a key
     pub fn xor_delta(self, d: Delta) -> Key
         ensures { λ r. ⌜ r .0 ≡ blocks .op (self .0) (d .0) ⌝ }
@@ -51,6 +57,13 @@ impl Key {
         ensures { λ r. ⌜ r .0 ≡ blocks .op (self .0) (o .0) ⌝ }
     {
         Key(self.0.xor(o.0))
+    }
+
+    // bit times the key
+    fn times(self, bit: bool) -> Key
+        ensures { λ r. ⌜ r .0 ≡ sel blocks bit (self .0) ⌝ }
+    {
+        Key(self.0.const_mul(bit))
     }
 
     // a key plus a delta is a MAC
@@ -68,12 +81,45 @@ impl Key {
     }
 }
 
-// The bytes of a record's head, of a party's entry, and the most that a record has.
+// What a record has of one party: the MAC for it, and the key of its bit.
+pub struct Entry {
+    pub mac: Mac,
+    pub key: Key,
+}
+
+impl Entry {
+    // That of the own number.
+    pub fn zero() -> Entry
+        ensures { λ r. ⌜ (r .mac .0 ≡ blocks .nil) × (r .key .0 ≡ blocks .nil) ⌝ }
+    {
+        Entry {
+            mac: Mac(Block::zero()),
+            key: Key(Block::zero()),
+        }
+    }
+
+    pub fn xor(self, o: Entry) -> Entry
+        ensures { λ r. ⌜ (r .mac .0 ≡ blocks .op (self .mac .0) (o .mac .0)) × (r .key .0 ≡ blocks .op (self .key .0) (o .key .0)) ⌝ }
+    {
+        let mac = self.mac.xor(o.mac);
+        let key = self.key.xor(o.key);
+        Entry { mac: mac, key: key }
+    }
+
+    // bit times the entry
+    pub fn times(self, bit: bool) -> Entry
+        ensures { λ r. ⌜ (r .mac .0 ≡ sel blocks bit (self .mac .0)) × (r .key .0 ≡ sel blocks bit (self .key .0)) ⌝ }
+    {
+        let mac = self.mac.times(bit);
+        let key = self.key.times(bit);
+        Entry { mac: mac, key: key }
+    }
+}
+
+// The bytes of a record's head, and of a party's entry.
 const HEAD: usize = 1;
 
 pub const ENTRY: usize = 32;
-
-pub const RECORD_MOST: usize = HEAD + 8 * ENTRY;
 
 // The bytes of a record among n parties.
 pub fn record_len(n: usize) -> usize
@@ -115,6 +161,16 @@ pub fn key_at(s: &[u8], at: usize, k: usize) -> Key
     Key(block::load(s, at + key_off(k)))
 }
 
+// The entry of k in the record at `at`.
+pub fn entry_at(s: &[u8], at: usize, k: usize) -> Entry
+    requires { ⌜ (k < 8) × (at + recordLen (k + 1) ≤ length (now s)) ⌝ }
+    ensures { λ r. ⌜ (r .mac .0 ≡ macAt (now (s .entry)) at k) × (r .key .0 ≡ keyAt (now (s .entry)) at k) ⌝ }
+{
+    let mac = mac_at(s, at, k);
+    let key = key_at(s, at, k);
+    Entry { mac: mac, key: key }
+}
+
 // The bit of the record at `at`.
 pub fn bit_at(s: &[u8], at: usize) -> bool
     requires { ⌜ at < length (now s) ⌝ }
@@ -124,21 +180,23 @@ pub fn bit_at(s: &[u8], at: usize) -> bool
 }
 
 // Writes an entry: the MAC, then the key.
-pub fn put_entry(out: &mut [u8], m: Mac, k: Key)
+pub fn put_entry(out: &mut [u8], x: Entry)
     requires { ⌜ length (now out) ≡ ENTRY ⌝ }
-    ensures { λ _. ⌜ now (out .exit) ≡ bytesOf (m .0) ++ bytesOf (k .0) ⌝ }
+    ensures { λ _. ⌜ now (out .exit) ≡ bytesOf (x .mac .0) ++ bytesOf (x .key .0) ⌝ }
 {
-    block::store(&mut out[0..16], m.0);
-    block::store(&mut out[16..ENTRY], k.0);
+    let mac = x.mac;
+    let key = x.key;
+    block::store(&mut out[0..16], mac.0);
+    block::store(&mut out[16..ENTRY], key.0);
 }
 
 // Writes the entry of party `of` in a record of party i: zero where it is the own one.
-pub fn put_entry_of(out: &mut [u8], i: usize, of: usize, m: Mac, k: Key)
+fn put_entry_of(out: &mut [u8], i: usize, of: usize, x: Entry)
     requires { ⌜ length (now out) ≡ ENTRY ⌝ }
-    ensures { λ _. ⌜ now (out .exit) ≡ entryBytes i of (m .0) (k .0) ⌝ }
+    ensures { λ _. ⌜ now (out .exit) ≡ entryBytes i of (x .mac .0) (x .key .0) ⌝ }
 {
     let other = i != of;
-    put_entry(out, Mac(m.0.const_mul(other)), Key(k.0.const_mul(other)));
+    put_entry(out, x.times(other));
 }
 
 // Writes the head of a record: the bit.
@@ -159,7 +217,7 @@ pub fn copy_record(out: &mut [u8], s: &[u8], at: usize, n: usize, i: usize)
     while k < n {
         let a = mac_off(k);
         let e = a + ENTRY;
-        put_entry_of(&mut out[a..e], i, k, mac_at(s, at, k), key_at(s, at, k));
+        put_entry_of(&mut out[a..e], i, k, entry_at(s, at, k));
         k += 1;
     }
     put_head(out, bit_at(s, at));
@@ -173,11 +231,10 @@ fn add_entry(out: &mut [u8], s: &[u8], at: usize, i: usize, of: usize, d: bool)
         (blocks .op (blockAt (now (out .entry)) 0) (sel blocks d (macAt (now (s .entry)) at of)))
         (blocks .op (blockAt (now (out .entry)) 16) (sel blocks d (keyAt (now (s .entry)) at of))) ⌝ }
 {
-    let m = Mac(mac_at(s, at, of).0.const_mul(d));
-    let k = Key(key_at(s, at, of).0.const_mul(d));
-    let m2 = Mac(block::load(out, 0)).xor(m);
-    let k2 = Key(block::load(out, 16)).xor(k);
-    put_entry_of(out, i, of, m2, k2);
+    let x = entry_at(s, at, of).times(d);
+    let mac = Mac(block::load(out, 0));
+    let key = Key(block::load(out, 16));
+    put_entry_of(out, i, of, Entry { mac: mac, key: key }.xor(x));
 }
 
 // Adds d times the record at `at` of s to party i's record `out` among n parties.

@@ -1,148 +1,81 @@
-// The triples: the leaky ANDs of each bucket, combined, kept in section TRIPLES when round 22 is made. From `faand` and `combine_bucket` of
-// src/mpc/faand.rs; the definitions stand in crates/rounds (Buckets). The permutation and the opened d are public; bits, MACs, keys and
-// delta decide no branch and no index.
+// The triples: the leaky ANDs of each bucket, combined as one sum (../combine), kept in section TRIPLES when round 22 is made. From `faand` and
+// `combine_bucket` of src/mpc/faand.rs; the definitions stand in crates/rounds (Buckets). Records are read where they lie, and each bit, MAC
+// and key of a row is written once. The permutation and the opened d are public; bits, MACs, keys and delta decide no branch and no index.
 ghost use mathlib.Core.Path.{_≡_};
-ghost use mathlib.Core.List.{_++_};
-ghost use Prim.Native.Nat.{_+_, _-_, _*_, _<_, _≤_};
-ghost use lib.ListN.{length, getD, replicate};
-ghost use Rattle.algebra.specs.Group.{XorGroup, sel, odd};
-ghost use Rattle.block.specs.Group.{blocks};
-ghost use Rattle.share.specs.Layout.{RECORD-MOST};
-ghost use Rattle.share.specs.Record.{recordLen, keyAt};
-ghost use Rattle.share.specs.Share.{recordOf};
-ghost use Rattle.plan.specs.Plan.{leaky};
+ghost use mathlib.Core.List.{List};
+ghost use Prim.Native.Nat.{ℕ, _+_, _*_, _<_};
+ghost use lib.ListN.{length, getD};
+ghost use Rattle.lists.specs.Sect.{put};
+ghost use Rattle.lists.specs.Rows.{chunk};
+ghost use Rattle.algebra.specs.Group.{bits, odd};
+ghost use Rattle.algebra.specs.Sum.{sum};
+ghost use Rattle.algebra.specs.Bucket.{bucketX, bucketZ};
+ghost use Rattle.block.specs.declared.Block.{Block};
+ghost use Rattle.share.specs.Record.{recordLen};
+ghost use Rattle.share.specs.Share.{shares};
+ghost use Rattle.engine.specs.Area.{off};
 ghost use Rattle.rounds.specs.Area as Area;
+ghost use Rattle.rounds.specs.Haand.{x};
 ghost use Rattle.rounds.specs.Buckets as B;
 ghost use Rattle.rounds.specs.Table as Table;
-ghost use Rattle.combine.specs.PairLaws.{Holds};
+ghost use Rattle.combine.specs.Sums.{Entries};
 ghost use Rattle.area.specs.Given.{Ranged, Work};
-ghost use Rattle.triples.specs.Given.{LeakyAnds, Bucketed, Placed};
-ghost use Rattle.triples.specs.Laws.{leakyAt, rowOf};
+ghost use Rattle.triples.specs.Given.{Bucket, Numbered, Placed};
+ghost use Rattle.triples.specs.Laws.{tripleAt, rowOf};
 use area::Span;
+use combine::Bits;
+use combine::Sums;
 use engine::Frame;
 use share::Delta;
-use share::ENTRY;
-use share::Key;
-use share::RECORD_MOST;
+use share::Entry;
 
-// The most bytes of the two records that are kept.
-const PAIR: usize = 2 * RECORD_MOST;
+// ---- one bucket: its leaky ANDs are those at the positions ts, d the opened bits of all but the first
 
-// z's key of party k at position t: that of the r record at `at`, plus delta where k's e is 1.
-fn z_key(recs: &[u8], at: usize, es: &[u8], delta: Delta, l: usize, t: usize, k: usize) -> Key
-    requires { ⌜ (k < 8) × (at + recordLen (k + 1) ≤ length (now recs)) ⌝ }
-    requires { ⌜ (l ≤ 300000) × (k * leaky l + t < length (now es)) ⌝ }
-    ensures { λ r. ⌜ r .0 ≡ blocks .op (keyAt (now (recs .entry)) at k)
-        (sel blocks (odd (getD (now (es .entry)) (k * leaky l + t) 0)) (delta .0)) ⌝ }
+// The sum of a party's bits e, which begin at `from`.
+fn told_sum(es: &[u8], ts: &[usize], from: usize) -> bool
+    requires { ⌜ ((e : ℕ) → e < length (now ts) → from + getD (now ts) e 0 < length (now es)) ⌝ }
+    ensures { λ r. ⌜ r ≡ sum bits (length (now (ts .entry))) (λ e. odd (getD (now (es .entry)) (from + getD (now (ts .entry)) e 0) 0)) ⌝ }
 {
-    let e = block::bit(es, k * plan::leaky(l) + t);
-    share::key_at(recs, at, k).z_key(delta.times(e))
-}
-
-// z's record at position t: r's MACs, the own bit z.
-fn put_z_record(out: &mut [u8], recs: &[u8], zs: &[u8], es: &[u8], delta: Delta, f: Frame, t: usize)
-    requires { ⌜ (Ranged f) × (t < leaky (f .l)) × (length (now out) ≡ recordLen (f .n)) ⌝ }
-    requires { ⌜ LeakyAnds f (now recs) (now zs) (now es) ⌝ }
-    ensures { λ _. ⌜ now (out .exit) ≡ recordOf (f .n) (f .i)
-        (B.zShare f (delta .0) (now (recs .entry)) (now (zs .entry)) (now (es .entry)) t) ⌝ }
-{
-    let at = area::r_at(f, t);
-    let n = f.n;
-    let i = f.i;
-    let l = f.l;
-    let mut k = 0;
-    while k < n {
-        let a = share::mac_off(k);
-        let e = a + ENTRY;
-        let key = z_key(recs, at, es, delta, l, t, k);
-        share::put_entry_of(&mut out[a..e], i, k, share::mac_at(recs, at, k), key);
-        k += 1;
-    }
-    share::put_head(out, block::bit(zs, t * area::Z_LEN));
-}
-
-// The same by value, with zeros behind it.
-fn z_record(
-    recs: &[u8],
-    zs: &[u8],
-    es: &[u8],
-    delta: Delta,
-    f: Frame,
-    t: usize,
-) -> [u8; RECORD_MOST]
-    requires { ⌜ (Ranged f) × (t < leaky (f .l)) ⌝ }
-    requires { ⌜ LeakyAnds f (now recs) (now zs) (now es) ⌝ }
-    ensures { λ r. ⌜ r ≡ recordOf (f .n) (f .i)
-        (B.zShare f (delta .0) (now (recs .entry)) (now (zs .entry)) (now (es .entry)) t)
-        ++ replicate (RECORD-MOST - recordLen (f .n)) 0 ⌝ }
-{
-    let mut z = [0u8; RECORD_MOST];
-    let len = share::record_len(f.n);
-    put_z_record(&mut z[..len], recs, zs, es, delta, f, t);
-    z
-}
-
-// The records x and z at position t.
-fn put_first(pair: &mut [u8], recs: &[u8], zs: &[u8], es: &[u8], delta: Delta, f: Frame, t: usize)
-    requires { ⌜ (Ranged f) × (t < leaky (f .l)) × (length (now pair) ≡ 2 * recordLen (f .n)) ⌝ }
-    requires { ⌜ LeakyAnds f (now recs) (now zs) (now es) ⌝ }
-    ensures { λ _. ⌜ now (pair .exit) ≡ B.tripleRow f
-        (leakyAt f (delta .0) (now (recs .entry)) (now (zs .entry)) (now (es .entry)) t) ⌝ }
-{
-    let len = share::record_len(f.n);
-    share::copy_record(&mut pair[0..len], recs, t * len, f.n, f.i);
-    put_z_record(&mut pair[len..], recs, zs, es, delta, f, t);
-}
-
-// Combines what stands in pair, x and z, with the leaky AND at position t.
-fn add_entry(
-    pair: &mut [u8],
-    recs: &[u8],
-    zs: &[u8],
-    es: &[u8],
-    delta: Delta,
-    f: Frame,
-    t: usize,
-    d: bool,
-)
-    requires { ⌜ (Ranged f) × (t < leaky (f .l)) × (length (now pair) ≡ 2 * recordLen (f .n)) ⌝ }
-    requires { ⌜ LeakyAnds f (now recs) (now zs) (now es) ⌝ }
-    ensures { λ _. ⌜ ((g : B.Triple) → Holds (f .n) (f .i) (recordLen (f .n)) g (now (pair .entry))
-        → Holds (f .n) (f .i) (recordLen (f .n))
-        (B.two g (leakyAt f (delta .0) (now (recs .entry)) (now (zs .entry)) (now (es .entry)) t) d) (now (pair .exit))) ⌝ }
-{
-    let z = z_record(recs, zs, es, delta, f, t);
-    let len = share::record_len(f.n);
-    combine::combine_two(pair, len, recs, t * len, &z, 0, f.n, f.i, d);
-}
-
-// The records a and c of bucket j: its leaky ANDs combined, one by one.
-fn put_triple(
-    pair: &mut [u8],
-    recs: &[u8],
-    zs: &[u8],
-    es: &[u8],
-    perm: &[u8],
-    opened: &[u8],
-    delta: Delta,
-    f: Frame,
-    j: usize,
-)
-    requires { ⌜ (Ranged f) × (j < f .l) × (length (now pair) ≡ 2 * recordLen (f .n)) ⌝ }
-    requires { ⌜ Bucketed f (now recs) (now zs) (now es) (now perm) (now opened) ⌝ }
-    ensures { λ _. ⌜ now (pair .exit) ≡ B.tripleRow f (B.abc f (delta .0) (now (recs .entry)) (now (zs .entry)) (now (es .entry))
-        (now (perm .entry)) (now (opened .entry)) j) ⌝ }
-{
-    let due = buckets::later(f);
-    put_first(pair, recs, zs, es, delta, f, buckets::entry(perm, f, j, 0));
+    let mut told = false;
     let mut e = 0;
-    while e < due {
-        let t = buckets::entry(perm, f, j, e + 1);
-        let d = block::bit(opened, j * due + e);
-        add_entry(pair, recs, zs, es, delta, f, t, d);
+    while e < ts.len() {
+        told = told ^ block::bit(es, from + ts[e]);
         e += 1;
     }
+    told
 }
+
+// What stands for party k in the records a and c. z has r's MACs, and r's keys, plus delta where k's e is 1: delta is added once, where the
+// sum of the e is 1.
+fn party(recs: &[u8], es: &[u8], ts: &[usize], d: &[u8], delta: Delta, f: Frame, k: usize) -> Sums
+    requires { ⌜ (Ranged f) × (k < f .n) ⌝ }
+    requires { ⌜ Bucket f (now recs) (now es) (now ts) (now d) ⌝ }
+    ensures { λ r. ⌜ ((zs : List ℕ) → Entries (f .i) k
+        (bucketX shares (λ e. x f (now (recs .entry)) (getD (now (ts .entry)) e 0)) (length (now (d .entry))))
+        (bucketZ shares (λ e. x f (now (recs .entry)) (getD (now (ts .entry)) e 0))
+        (λ e. B.zShare f (delta .0) (now (recs .entry)) zs (now (es .entry)) (getD (now (ts .entry)) e 0))
+        (λ e. odd (getD (now (d .entry)) e 0)) (length (now (d .entry)))) r) ⌝ }
+{
+    let n = f.n;
+    let i = f.i;
+    if k == i {
+        return combine::nothing();
+    }
+    let count = plan::leaky(f.l);
+    let s = combine::sum_entries(recs, ts, 2 * count, d, n, k);
+    let told = told_sum(es, ts, k * count);
+    let x = s.x;
+    let r = s.z;
+    let mac = r.mac;
+    let key = r.key;
+    let z = Entry {
+        mac: mac,
+        key: key.z_key(delta.times(told)),
+    };
+    Sums { x: x, z: z }
+}
+
+// ---- from the work area
 
 // Where the sections lie that the triples are made from.
 struct Places {
@@ -171,20 +104,70 @@ fn sections(f: Frame) -> Places
     }
 }
 
-// The records a and c of bucket j, with zeros behind them.
-fn triple_row(work: &[u8], at: Places, delta: Delta, f: Frame, j: usize) -> [u8; PAIR]
+// The d of bucket j.
+fn ds(work: &[u8], at: Places, f: Frame, j: usize) -> &[u8]
     requires { ⌜ (Work f (now work)) × (j < f .l) × (Placed f at) ⌝ }
-    ensures { λ r. ⌜ r ≡ rowOf f (delta .0) (now (work .entry)) j ++ replicate (2 * RECORD-MOST - 2 * recordLen (f .n)) 0 ⌝ }
+    ensures { λ r. ⌜ now r ≡ chunk (B.later f) j (Area.at f Area.DS (now (work .entry))) ⌝ }
 {
-    let mut pair = [0u8; PAIR];
-    let len = 2 * share::record_len(f.n);
+    let opened = at.opened;
+    let due = buckets::later(f);
+    let a = opened.0 + j * due;
+    let e = a + due;
+    &work[a..e]
+}
+
+// What stands for party k in row j.
+fn row_party(
+    work: &[u8],
+    at: Places,
+    ts: &[usize],
+    delta: Delta,
+    f: Frame,
+    j: usize,
+    k: usize,
+) -> Sums
+    requires { ⌜ (Work f (now work)) × (j < f .l) × (Placed f at) × (k < f .n) ⌝ }
+    requires { ⌜ Numbered f (now work) j (now ts) ⌝ }
+    ensures { λ r. ⌜ Entries (f .i) k (tripleAt f (delta .0) (now (work .entry)) j .tx) (tripleAt f (delta .0) (now (work .entry)) j .tz) r ⌝ }
+{
+    let recs = area::lent(work, at.recs);
+    let es = area::lent(work, at.es);
+    let d = ds(work, at, f, j);
+    party(recs, es, ts, d, delta, f, k)
+}
+
+// The bits of row j.
+fn row_bits(work: &[u8], at: Places, ts: &[usize], f: Frame, j: usize) -> Bits
+    requires { ⌜ (Work f (now work)) × (j < f .l) × (Placed f at) ⌝ }
+    requires { ⌜ Numbered f (now work) j (now ts) ⌝ }
+    ensures { λ r. ⌜ ((delta : Block) → (r .x ≡ tripleAt f delta (now (work .entry)) j .tx .bit)
+        × (r .z ≡ tripleAt f delta (now (work .entry)) j .tz .bit)) ⌝ }
+{
     let recs = area::lent(work, at.recs);
     let zs = area::lent(work, at.zs);
-    let es = area::lent(work, at.es);
-    let perm = area::lent(work, at.perm);
-    let opened = area::lent(work, at.opened);
-    put_triple(&mut pair[..len], recs, zs, es, perm, opened, delta, f, j);
-    pair
+    let d = ds(work, at, f, j);
+    combine::sum_bits(recs, ts, d, f.n, zs, 0, area::Z_LEN)
+}
+
+// Row j of TRIPLES, which starts at `row`: the records a and c of bucket j.
+fn put_row(work: &mut [u8], at: Places, delta: Delta, f: Frame, j: usize, row: usize)
+    requires { ⌜ (Work f (now work)) × (j < f .l) × (Placed f at) ⌝ }
+    requires { ⌜ row ≡ off (Area.sizeOf f) Area.TRIPLES + j * (2 * recordLen (f .n)) ⌝ }
+    ensures { λ _. ⌜ now (work .exit) ≡ put row (2 * recordLen (f .n)) (rowOf f (delta .0) (now (work .entry)) j) (now (work .entry)) ⌝ }
+{
+    let n = f.n;
+    let b = plan::bucket_size(f.l);
+    let len = share::record_len(n);
+    let end = row + 2 * len;
+    let all = buckets::entries(area::lent(work, at.perm), f, j);
+    let mut k = 0;
+    while k < n {
+        let s = row_party(work, at, &all[..b], delta, f, j, k);
+        combine::put_entries(&mut work[row..end], len, k, s);
+        k += 1;
+    }
+    let heads = row_bits(work, at, &all[..b], f, j);
+    combine::put_heads(&mut work[row..end], len, heads);
 }
 
 // When round 22 is made: the triples of all buckets stay in TRIPLES.
@@ -202,10 +185,7 @@ pub fn hold(work: &mut [u8], f: Frame)
     let len = 2 * share::record_len(f.n);
     let mut j = 0;
     while j < l {
-        let row = triple_row(work, at, delta, f, j);
-        let a = rows + j * len;
-        let e = a + len;
-        fill::copy(&mut work[a..e], &row);
+        put_row(work, at, delta, f, j, rows + j * len);
         j += 1;
     }
 }

@@ -5,8 +5,8 @@ use Rattle.algebra.specs.Group.{XorGroup, sel}
 use Rattle.share.specs.Layout.{ENTRY, headOf, entry-within, record-within, record-some}
 use Rattle.share.specs.Share.{Share, shareAt, shares, entryOf, recordOf}
 use Rattle.share.specs.ShareLaws.{length-entryOf}
-use Rattle.share.proofs.Laws.{Entered, entered-none, entered-part, entered-turn, entered-head, entered-long, headed, added}
-use Rattle.share.proofs.Laws.{added-bit}
+use Rattle.share.specs.Entered.{Entered, entered-none, entered-part, entered-turn, entered-head, entered-long, headed}
+use Rattle.share.proofs.Laws.{added, added-bit}
 use Rattle.share.proofs.add_record.Statement.{statement}
 use Rattle.share.proofs.add_record.Tie as tie
 

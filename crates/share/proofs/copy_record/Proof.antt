@@ -1,9 +1,9 @@
-use Rattle.lists.specs.Kit.{_≡_, refl, ap, ap₂, _∙_, _++_, Bool, ℕ, _+_, _-_, _≤_, arith, length, now, needs}
+use Rattle.lists.specs.Kit.{_≡_, refl, ap, ap₂, _∙_, _++_, Bool, _+_, _-_, _≤_, arith, length, now, needs}
 use Rattle.lists.specs.Over.{cat}
 use Rattle.share.specs.Layout.{ENTRY, headOf, recordLen, entry-within, record-within, record-some}
 use Rattle.share.specs.Share.{shareAt, entryBytes, entryOf, recordOf}
 use Rattle.share.specs.ShareLaws.{length-entryOf}
-use Rattle.share.proofs.Laws.{Entered, entered-none, entered-turn, entered-head, entered-long, headed}
+use Rattle.share.specs.Entered.{Entered, entered-none, entered-turn, entered-head, entered-long, headed}
 use Rattle.share.proofs.copy_record.Statement.{statement}
 use Rattle.share.proofs.copy_record.Tie as tie
 
@@ -40,21 +40,18 @@ module _ (c : tie.After-put-entry-of-arg Inv-loop μ-loop) where
       let s = l .before .before .before in
       omega (arith, record-within (s .args .n) (l .loop .k) (c .before .before .loop-test .taken), s .pre .1)
 
-mac-at-requires : tie.Need-mac-at-requires Inv-loop μ-loop
-mac-at-requires c κs = (search needs, read-in c)
-
-key-at-requires : tie.Need-key-at-requires Inv-loop μ-loop
-key-at-requires c κs = (search needs, read-in (c .before))
+entry-at-requires : tie.Need-entry-at-requires Inv-loop μ-loop
+entry-at-requires c κs = (search needs, read-in c)
 
 loop-again : tie.Need-loop-again Inv-loop μ-loop
 unfolding entryOf shareAt
 loop-again c =
     let p = c .before .before in
-    let o = p .before .before .before .before in
+    let o = p .before .before .before in
     let l = o .before .before in
     let i = l .before .before .before .args .i in
     let w : _ ≡ entryBytes i (l .loop .k) _ _ =
-    p .put-entry-of .ensures ∙ ap₂ (entryBytes i (l .loop .k)) (p .before .before .mac-at .ensures) (p .before .key-at .ensures) in (
+    p .put-entry-of .ensures ∙ ap₂ (entryBytes i (l .loop .k)) (p .before .entry-at .ensures .0) (p .before .entry-at .ensures .1) in (
       omega (arith, o),
       entered-turn (l .loop .inv .1) (o .mac-off .result) (o .mac-off .result + ENTRY) (o .mac-off .ensures) refl (p .put-entry-of .last .0)
           (o .before .loop-test .taken) w,
@@ -84,5 +81,5 @@ returns c =
 pub copy-record-spec : {M : Type 1} → statement M
 copy-record-spec =
     tie.close (tie.spec Inv-loop μ-loop loop-holds (λ c κs. search needs) add-e (λ c. search needs) (λ c. search needs) part-end
-    mac-at-requires key-at-requires (λ c κs. search needs) (λ c. search needs) (λ c. search needs) loop-again bit-at-requires
+    entry-at-requires (λ c κs. search needs) (λ c. search needs) (λ c. search needs) loop-again bit-at-requires
     put-head-requires same-length returns)

@@ -7,10 +7,10 @@ use Rattle.share.proofs.put_entry.Tie as tie
 
 returns : tie.Need-returns
 returns c =
-    let s = c .before .before .before .before .before .before .before .before .before in
+    let s = c .before .before .before .before .before .before .before .before .before .before .before in
     rw (c .before .before .before .before .before .before .store .ensures, c .before .before .store2 .ensures)
-    (over-put (bytesOf (s .args .m .0)) (bytesOf (s .args .k .0)) (now (s .args .out)) 16 16 (length-bytesOf (s .args .m .0))
-    ∙ over-full (bytesOf (s .args .m .0) ++ bytesOf (s .args .k .0)) (now (s .args .out)) 32 (omega arith))
+    (over-put (bytesOf (s .args .x .mac .0)) (bytesOf (s .args .x .key .0)) (now (s .args .out)) 16 16 (length-bytesOf (s .args .x .mac .0))
+    ∙ over-full (bytesOf (s .args .x .mac .0) ++ bytesOf (s .args .x .key .0)) (now (s .args .out)) 32 (omega arith))
 
 pub put-entry-spec : {M : Type 1} → statement M
 put-entry-spec =

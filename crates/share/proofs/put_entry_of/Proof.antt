@@ -9,11 +9,11 @@ use Rattle.share.proofs.put_entry_of.Tie as tie
 returns : tie.Need-returns
 unfolding neq
 returns c =
-    let s = c .before .before .before .before .before .before .before in
+    let a = c .before .before .before .before .before .before .args in
+    let t = c .before .before .before .times .ensures in
     c .before .before .put-entry .ensures
-    ∙ ap₂ (λ (m k : Block). bytesOf m ++ bytesOf k) (c .before .before .before .before .const-mul .ensures)
-    (c .before .before .before .const-mul2 .ensures)
-    ∙ own-entry (s .args .i) (s .args .of) (s .args .m .0) (s .args .k .0)
+    ∙ ap₂ (λ (m k : Block). bytesOf m ++ bytesOf k) (t .0) (t .1)
+    ∙ own-entry (a .i) (a .of) (a .x .mac .0) (a .x .key .0)
 
 pub put-entry-of-spec : {M : Type 1} → statement M
-put-entry-of-spec = tie.close (tie.spec (λ c κs. search needs) (λ c κs. search needs) (λ c κs. search needs) (λ c. search needs) returns)
+put-entry-of-spec = tie.close (tie.spec (λ c κs. search needs) (λ c κs. search needs) (λ c. search needs) returns)

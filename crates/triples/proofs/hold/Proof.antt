@@ -1,12 +1,13 @@
 -- The loop's invariant: the rows of the first j buckets are kept. The other sections are as they were.
-use Rattle.lists.specs.Kit.{_≡_, sym, ap, _∙_, List, _++_, ℕ, _+_, _-_, _*_, _≤_, arith, length, replicate, now, needs}
+use Rattle.lists.specs.Kit.{_≡_, refl, sym, ap, ap₂, subst, _∙_, List, ℕ, _+_, _-_, _*_, _≤_, arith, length, now, needs}
+use Rattle.lists.specs.Sect.{put}
 use Rattle.block.specs.declared.Block.{Block}
-use Rattle.share.specs.Layout.{RECORD-MOST, recordLen, record-most}
+use Rattle.share.specs.Layout.{recordLen, record-most}
 use Rattle.engine.specs.declared.Frame.{Frame}
 use Rattle.rounds.specs.Area.{TRIPLES, BITS, ZS, ES, PERM, DS, at, keep, sizeOf}
 use Rattle.rounds.specs.Buckets.{tripleRows}
 use Rattle.area.specs.Sizes.{size-triples}
-use Rattle.area.specs.Filled.{Filled, filled-none, filled-work, filled-other, filled-end, row-in, row-long, filled-turn}
+use Rattle.area.specs.Filled.{Filled, filled-none, filled-work, filled-other, filled-end, row-in, filled-put}
 use Rattle.triples.specs.Laws.{rowOf, row-kept, length-rowOf, rows-are}
 use Rattle.triples.proofs.hold.Statement.{statement}
 use Rattle.triples.proofs.hold.Tie as tie
@@ -75,58 +76,42 @@ module _ (c : tie.In-loop Inv-loop μ-loop) where
       (placed .section-at .ensures) len-is
       (c .loop-test .taken)
 
--- the row that is copied
-row-is : (c : tie.After-triple-row Inv-loop μ-loop) → let i = c .before .before in
-    c .triple-row .result ≡ g (given i) (j i) ++ replicate (2 * RECORD-MOST - size (given i)) 0
-row-is c =
-    let i = c .before .before in
-    let d = given i in
-    c .triple-row .ensures
-    ∙ ap (λ (x : List ℕ). x ++ replicate (2 * RECORD-MOST - size d) 0)
-    (row-kept (f d) (delta d) (w₀ d) (w i) (j i) (filled-other (s d .pre) TRIPLES (size d) (omega arith) (g d) (f d .l) (full d) (j i) (w i)
-    (i .before .loop .inv .1)))
+  -- the row of bucket j is still what it was
+  row-same : rowOf (f given) (delta given) w j ≡ g given j
+  row-same =
+      row-kept (f given) (delta given) (w₀ given) w j
+      (filled-other (s given .pre) TRIPLES (size given) (omega arith) (g given) (f given .l) (full given) j w (c .before .loop .inv .1))
 
-triple-row-requires : tie.Need-triple-row-requires Inv-loop μ-loop
-triple-row-requires c κs =
+mul-put-row : tie.Need-mul-put-row Inv-loop μ-loop
+mul-put-row c = let i = c .before in omega (arith, inside i, i .before .loop .inv .1 .same, s (given i) .good)
+
+add-put-row : tie.Need-add-put-row Inv-loop μ-loop
+add-put-row c = let i = c .before in omega (arith, inside i, i .before .loop .inv .1 .same, s (given i) .good)
+
+put-row-requires : tie.Need-put-row-requires Inv-loop μ-loop
+put-row-requires c κs =
     let i = c .before in
     let d = given i in (
-      filled-work (s d .pre) TRIPLES (size d) (omega arith) (g d) (f d .l) (full d) (j i) (w i) (i .before .loop .inv .1),
-      i .loop-test .taken,
-      placed i .before .sections .ensures,
+      (
+        filled-work (s d .pre) TRIPLES (size d) (omega arith) (g d) (f d .l) (full d) (j i) (w i) (i .before .loop .inv .1),
+        i .loop-test .taken,
+        placed i .before .sections .ensures,
+      ),
+      ap₂ (λ a m. a + j i * m) (placed i .section-at .ensures) (len-is i),
     )
-
-mul-a : tie.Need-mul-a Inv-loop μ-loop
-mul-a c = let i = c .before .before in omega (arith, inside i, i .before .loop .inv .1 .same, s (given i) .good)
-
-add-a : tie.Need-add-a Inv-loop μ-loop
-add-a c = let i = c .before .before in omega (arith, inside i, i .before .loop .inv .1 .same, s (given i) .good)
-
-add-e : tie.Need-add-e Inv-loop μ-loop
-add-e c = let i = c .before .before in omega (arith, inside i, i .before .loop .inv .1 .same, s (given i) .good)
-
-part-copy-end : tie.Need-part-copy-end Inv-loop μ-loop
-part-copy-end c = inside (c .before .before)
-
-copy-requires : tie.Need-copy-requires Inv-loop μ-loop
-copy-requires c κs =
-    let r = c .before .before in
-    let i = r .before .before in
-    let d = given i in
-    row-long (s d .pre) TRIPLES (size d) (omega arith) (g d) (f d .l) (full d) (j i) (w i) (i .before .loop .inv .1) (rows i) (len i)
-    (placed i .section-at .ensures) (len-is i) (i .loop-test .taken)
-    (r .triple-row .result) (replicate (2 * RECORD-MOST - size d) 0) (w i) (row-is r) (length-rowOf (f d) (delta d) (w₀ d) (j i))
 
 loop-again : tie.Need-loop-again Inv-loop μ-loop
 loop-again c =
     let p = c .before .before in
-    let r = p .before .before .before in
-    let i = r .before .before in
-    let d = given i in (
+    let i = p .before .before in
+    let d = given i in
+    let at : ℕ = rows i + j i * len i in
+    let m : 2 * recordLen (f d .n) ≡ at + len i - at = omega (arith, len-is i) in (
       omega (arith, i .loop-test .taken),
-      filled-turn (s d .pre) TRIPLES (size d) (omega arith) (g d) (f d .l) (full d) (j i) (w i) (i .before .loop .inv .1) (rows i) (len i)
-          (placed i .section-at .ensures) (len-is i) (i .loop-test .taken)
-          (r .triple-row .result) (replicate (2 * RECORD-MOST - size d) 0) (p .copy .last .0) (row-is r)
-          (length-rowOf (f d) (delta d) (w₀ d) (j i)) (p .copy .ensures),
+      subst (Filled (f d) TRIPLES (size d) (g d) (j i + 1) (w₀ d))
+          (sym (p .put-row .ensures ∙ ap₂ (λ k (x : List ℕ). put at k x (w i)) m (row-same i)))
+          (filled-put (s d .pre) TRIPLES (size d) (omega arith) (g d) (f d .l) (full d) (j i) (w i) (i .before .loop .inv .1) (rows i) (len i)
+          (placed i .section-at .ensures) (len-is i) (i .loop-test .taken) (g d (j i)) refl (length-rowOf (f d) (delta d) (w₀ d) (j i))),
     )
 
 same-length : tie.Need-same-length Inv-loop μ-loop
@@ -149,5 +134,4 @@ hold-spec =
     (λ c κs. (c .before .before .before .before .pre .ranges .range, omega arith))
     (λ c κs. c .before .before .before .before .before .pre .ranges .range .eight)
     (λ c. let s = c .before .before .before .before .before .before in omega (arith, c .record-len .ensures, record-most (s .args .f .n) (s .pre .ranges .range .eight)))
-    loop-holds triple-row-requires mul-a add-a add-e (λ c. search needs) (λ c. search needs) part-copy-end (λ c. search needs) copy-requires
-    (λ c. search needs) (λ c. search needs) loop-again same-length returns)
+    loop-holds mul-put-row add-put-row put-row-requires (λ c. search needs) (λ c. search needs) loop-again same-length returns)
