@@ -1,4 +1,2 @@
-pub mod Sums
-pub mod Row
 pub mod Triples
 pub mod Stops

@@ -1,5 +1,5 @@
--- A bucket of leaky ANDs, combined, seen over all boxes: the combined x and z are shared bits, and each box has its share of them. That with
--- the opened d they are an AND again is ../algebra's `bucket`.
+-- A bucket of leaky ANDs, combined, seen over all boxes: the combined x and z are shared bits, and each box has its share of them. That
+-- with the opened d they are an AND again is ../algebra's `bucket`.
 use mathlib.Core.Path.{_≡_, sym, ap₂, _∙_}
 use mathlib.Core.Bool.{Bool}
 use Prim.Native.Nat.{ℕ, suc, _<_}

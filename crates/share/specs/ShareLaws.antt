@@ -69,7 +69,8 @@ module _ (x : ℕ → Share) (c : ℕ) where
     unfolding bucketZ shares
     bit-bucket-z =
         ap₂ addb (bit-sum (suc c) z)
-        (bit-sum c (λ e. sel shares (d e) (x (suc e))) ∙ sum-ext bits c _ (λ e. sel bits (d e) (x (suc e) .bit)) (λ e l. bit-sel (d e) (x (suc e))))
+        (bit-sum c (λ e. sel shares (d e) (x (suc e)))
+        ∙ sum-ext bits c _ (λ e. sel bits (d e) (x (suc e) .bit)) (λ e l. bit-sel (d e) (x (suc e))))
 
     pub mac-bucket-z : (k : ℕ) → (bucketZ shares x z d c) .mac k ≡ bucketZ blocks (λ e. x e .mac k) (λ e. z e .mac k) d c
     unfolding bucketZ shares

@@ -15,7 +15,7 @@ use Rattle.engine.specs.declared.Frame.{Frame}
 use Rattle.engine.specs.Area.{off, sec, get-get}
 use Rattle.rounds.specs.Area.{BITS, ZS, ES, PERM, DS, sizeOf, at}
 use Rattle.rounds.specs.Buckets.{entry, later}
-use Rattle.combine.specs.Sums.{Within, Lies}
+use Rattle.bucket_sum.specs.Sums.{Within, BucketIn}
 use Rattle.area.specs.Given.{Ranged, Work, Place}
 use Rattle.area.specs.Positions as Positions
 use Rattle.area.specs.GivenLaws.{length-at, row-inside}
@@ -25,16 +25,16 @@ use Rattle.buckets.specs.Given.{size-opened}
 use Rattle.triples.specs.declared.Places.{Places}
 
 -- the records, the others' bits e, the positions of a bucket's leaky ANDs and the d of all but the first
-pub record Bucket (f : Frame) (recs es ts d : List ℕ) : Type 0 where
+pub record Bucketed (f : Frame) (recs es ts d : List ℕ) : Type 0 where
   pub records : length recs ≡ bitsCount (f .l) * recordLen (f .n)
   pub told : length es ≡ f .n * leaky (f .l)
   pub count : length ts ≡ length d + 1
   pub below : (e : ℕ) → e < length ts → getD ts e 0 < leaky (f .l)
 
-module _ {f : Frame} {recs es ts d : List ℕ} (h : Bucket f recs es ts d) where
+module _ {f : Frame} {recs es ts d : List ℕ} (h : Bucketed f recs es ts d) where
   -- each r lies 2·l·b records behind its x
-  pub lies : Ranged f → Lies (f .n) recs ts (2 * leaky (f .l)) d
-  lies g = record {
+  pub bucket-in : Ranged f → BucketIn (f .n) recs ts (2 * leaky (f .l)) d
+  bucket-in g = record {
     few = g .range .eight;
     count = h .count;
     inside = λ e l.
@@ -66,7 +66,9 @@ Numbered f w j ts = ts ≡ tab (bucketSize (f .l)) (entry f (at f PERM w) j)
 module _ (f : Frame) (w : List ℕ) (j : ℕ) (ts : List ℕ) (h : Numbered f w j ts) where
   pub number-count : length ts ≡ later f + 1
   unfolding later
-  number-count = ap length h ∙ length-tab (bucketSize (f .l)) (entry f (at f PERM w) j) ∙ (let e : bucketSize (f .l) ≡ bucketSize (f .l) - 1 + 1 = omega (arith, bucket-low (f .l)) in e)
+  number-count =
+      ap length h ∙ length-tab (bucketSize (f .l)) (entry f (at f PERM w) j)
+      ∙ (let e : bucketSize (f .l) ≡ bucketSize (f .l) - 1 + 1 = omega (arith, bucket-low (f .l)) in e)
 
   number-at : (e : ℕ) → e < length ts → getD ts e 0 ≡ entry f (at f PERM w) j e
   number-at e l =
@@ -83,7 +85,7 @@ module _ (f : Frame) (w : List ℕ) (j : ℕ) (ts : List ℕ) (h : Numbered f w 
 -- a bucket of the sections as they were lent
 pub bucket-is : {f : Frame} {w recs es ts d : List ℕ} (j : ℕ) → Work f w → recs ≡ at f BITS w → es ≡ at f ES w → Numbered f w j ts
     → length d ≡ later f
-    → Bucket f recs es ts d
+    → Bucketed f recs es ts d
 bucket-is {f} {w} {recs} {es} {ts} {d} j h hr he ht hd = record {
   records = ap length hr ∙ length-at h BITS (omega arith) ∙ size-bits f;
   told = ap length he ∙ length-at h ES (omega arith) ∙ size-es f;
@@ -122,4 +124,5 @@ module _ {f : Frame} {w : List ℕ} (h : Work f w) (j : ℕ) (lj : j < f .l) whe
     unfolding chunk at sec
     ds-lent =
         ap₂ (λ b m. get b m w) (start ∙ ap (λ m. off (sizeOf f) DS + j * m) long) (let q : e - a ≡ later f = omega arith in q)
-        ∙ sym (get-get (off (sizeOf f) DS) (sizeOf f DS) (j * later f) (later f) w (omega (arith, in-chunks j (f .l) (later f) lj, size-opened f)))
+        ∙ sym (get-get (off (sizeOf f) DS) (sizeOf f DS) (j * later f) (later f) w
+        (omega (arith, in-chunks j (f .l) (later f) lj, size-opened f)))

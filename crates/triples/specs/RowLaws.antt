@@ -16,7 +16,7 @@ use Rattle.engine.specs.declared.Frame.{Frame}
 use Rattle.engine.specs.Area.{off, sec, length-sec, put-twice, put-sec, sec-other}
 use Rattle.rounds.specs.Area.{SECTIONS, TRIPLES, sizeOf, at}
 use Rattle.rounds.specs.Buckets.{Triple}
-use Rattle.combine.specs.Row.{Rowed, rowed-none, rowed-turn, rowed-end, rowed-long, putEntries, putHeads}
+use Rattle.bucket_sum.specs.Row.{Rowed, rowed-none, rowed-turn, rowed-end, rowed-long, putEntries, putHeads}
 use Rattle.area.specs.Given.{Work}
 use Rattle.area.specs.GivenLaws.{area, row-inside}
 use Rattle.area.specs.Sizes.{size-triples}
@@ -74,7 +74,8 @@ module _ (f : Frame) (delta : Block) (w₀ : List ℕ) (j row : ℕ) (h : Work f
         (v .here ∙ ap (λ a. put a size (v .part) w₀) start
         ∙ put-sec (sizeOf f) SECTIONS w₀ (area h) TRIPLES (j * size) size (v .part) (omega arith) in-section)
         ∙ sec-other (sizeOf f) SECTIONS w₀ (area h) s TRIPLES _ (omega arith) ne
-        (length-put (j * size) size (v .part) (sec (sizeOf f) TRIPLES w₀) part-long (omega (arith, section-long, in-section)) ∙ section-long)
+        (length-put (j * size) size (v .part) (sec (sizeOf f) TRIPLES w₀) part-long (omega (arith, section-long, in-section))
+        ∙ section-long)
       where
         section-long : length (sec (sizeOf f) TRIPLES w₀) ≡ sizeOf f TRIPLES
         section-long = length-sec (sizeOf f) SECTIONS w₀ (area h) TRIPLES (omega arith)

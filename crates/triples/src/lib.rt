@@ -1,6 +1,7 @@
-// The triples: the leaky ANDs of each bucket, combined as one sum (../combine), kept in section TRIPLES when round 22 is made. From `faand` and
-// `combine_bucket` of src/mpc/faand.rs; the definitions stand in crates/rounds (Buckets). Records are read where they lie, and each bit, MAC
-// and key of a row is written once. The permutation and the opened d are public; bits, MACs, keys and delta decide no branch and no index.
+// The triples: the leaky ANDs of each bucket, combined as one sum (../bucket_sum), kept in section TRIPLES when round 22 is made. From
+// `faand` and `combine_bucket` of src/mpc/faand.rs; the definitions stand in crates/rounds (Buckets). Records are read where they lie, and
+// each bit, MAC and key of a row is written once. The permutation and the opened d are public; bits, MACs, keys and delta decide no branch
+// and no index.
 ghost use mathlib.Core.Path.{_≡_};
 ghost use mathlib.Core.List.{List};
 ghost use Prim.Native.Nat.{ℕ, _+_, _*_, _<_};
@@ -18,13 +19,13 @@ ghost use Rattle.rounds.specs.Area as Area;
 ghost use Rattle.rounds.specs.Haand.{x};
 ghost use Rattle.rounds.specs.Buckets as B;
 ghost use Rattle.rounds.specs.Table as Table;
-ghost use Rattle.combine.specs.Sums.{Entries};
+ghost use Rattle.bucket_sum.specs.Sums.{Entries};
 ghost use Rattle.area.specs.Given.{Ranged, Work};
-ghost use Rattle.triples.specs.Given.{Bucket, Numbered, Placed};
+ghost use Rattle.triples.specs.Given.{Bucketed, Numbered, Placed};
 ghost use Rattle.triples.specs.Laws.{tripleAt, rowOf};
 use area::Span;
-use combine::Bits;
-use combine::Sums;
+use bucket_sum::Bits;
+use bucket_sum::Sums;
 use engine::Frame;
 use share::Delta;
 use share::Entry;
@@ -32,7 +33,7 @@ use share::Entry;
 // ---- one bucket: its leaky ANDs are those at the positions ts, d the opened bits of all but the first
 
 // The sum of a party's bits e, which begin at `from`.
-fn told_sum(es: &[u8], ts: &[usize], from: usize) -> bool
+fn e_sum(es: &[u8], ts: &[usize], from: usize) -> bool
     requires { ⌜ ((e : ℕ) → e < length (now ts) → from + getD (now ts) e 0 < length (now es)) ⌝ }
     ensures { λ r. ⌜ r ≡ sum bits (length (now (ts .entry))) (λ e. odd (getD (now (es .entry)) (from + getD (now (ts .entry)) e 0) 0)) ⌝ }
 {
@@ -49,7 +50,7 @@ fn told_sum(es: &[u8], ts: &[usize], from: usize) -> bool
 // sum of the e is 1.
 fn party(recs: &[u8], es: &[u8], ts: &[usize], d: &[u8], delta: Delta, f: Frame, k: usize) -> Sums
     requires { ⌜ (Ranged f) × (k < f .n) ⌝ }
-    requires { ⌜ Bucket f (now recs) (now es) (now ts) (now d) ⌝ }
+    requires { ⌜ Bucketed f (now recs) (now es) (now ts) (now d) ⌝ }
     ensures { λ r. ⌜ ((zs : List ℕ) → Entries (f .i) k
         (bucketX shares (λ e. x f (now (recs .entry)) (getD (now (ts .entry)) e 0)) (length (now (d .entry))))
         (bucketZ shares (λ e. x f (now (recs .entry)) (getD (now (ts .entry)) e 0))
@@ -59,11 +60,11 @@ fn party(recs: &[u8], es: &[u8], ts: &[usize], d: &[u8], delta: Delta, f: Frame,
     let n = f.n;
     let i = f.i;
     if k == i {
-        return combine::nothing();
+        return bucket_sum::nothing();
     }
     let count = plan::leaky(f.l);
-    let s = combine::sum_entries(recs, ts, 2 * count, d, n, k);
-    let told = told_sum(es, ts, k * count);
+    let s = bucket_sum::sum_entries(recs, ts, 2 * count, d, n, k);
+    let told = e_sum(es, ts, k * count);
     let x = s.x;
     let r = s.z;
     let mac = r.mac;
@@ -128,7 +129,8 @@ fn row_party(
 ) -> Sums
     requires { ⌜ (Work f (now work)) × (j < f .l) × (Placed f at) × (k < f .n) ⌝ }
     requires { ⌜ Numbered f (now work) j (now ts) ⌝ }
-    ensures { λ r. ⌜ Entries (f .i) k (tripleAt f (delta .0) (now (work .entry)) j .tx) (tripleAt f (delta .0) (now (work .entry)) j .tz) r ⌝ }
+    ensures { λ r. ⌜ Entries (f .i) k (tripleAt f (delta .0) (now (work .entry)) j .tx)
+        (tripleAt f (delta .0) (now (work .entry)) j .tz) r ⌝ }
 {
     let recs = area::lent(work, at.recs);
     let es = area::lent(work, at.es);
@@ -146,7 +148,7 @@ fn row_bits(work: &[u8], at: Places, ts: &[usize], f: Frame, j: usize) -> Bits
     let recs = area::lent(work, at.recs);
     let zs = area::lent(work, at.zs);
     let d = ds(work, at, f, j);
-    combine::sum_bits(recs, ts, d, f.n, zs, 0, area::Z_LEN)
+    bucket_sum::sum_bits(recs, ts, d, f.n, zs, 0, area::Z_LEN)
 }
 
 // Row j of TRIPLES, which starts at `row`: the records a and c of bucket j.
@@ -163,11 +165,11 @@ fn put_row(work: &mut [u8], at: Places, delta: Delta, f: Frame, j: usize, row: u
     let mut k = 0;
     while k < n {
         let s = row_party(work, at, &all[..b], delta, f, j, k);
-        combine::put_entries(&mut work[row..end], len, k, s);
+        bucket_sum::put_entries(&mut work[row..end], len, k, s);
         k += 1;
     }
     let heads = row_bits(work, at, &all[..b], f, j);
-    combine::put_heads(&mut work[row..end], len, heads);
+    bucket_sum::put_heads(&mut work[row..end], len, heads);
 }
 
 // When round 22 is made: the triples of all buckets stay in TRIPLES.

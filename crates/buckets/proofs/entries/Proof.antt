@@ -30,7 +30,7 @@ module _ (c : tie.In-loop Inv-loop μ-loop) where
   few = omega (arith, more, bucket-high (s .args .f .l))
 
 entry-requires : tie.Need-entry-requires Inv-loop μ-loop
-entry-requires c κs = (s c .pre .0, (s c .pre .1 .0, s c .pre .1 .1, more c))
+entry-requires c κs = (s c .pre .0, (s c .pre .1 .0, s c .pre .1 .1, omega (arith, more c)))
 
 array-write-ts : tie.Need-array-write-ts Inv-loop μ-loop
 array-write-ts c = few (c .before)
@@ -60,5 +60,5 @@ returns c =
 
 pub entries-spec : {M : Type 1} → statement M
 entries-spec =
-    tie.close (tie.spec Inv-loop μ-loop (λ c κs. search needs) loop-holds entry-requires (λ c. omega (arith, few (c .before))) array-write-ts add-e loop-less
-    loop-again returns)
+    tie.close (tie.spec Inv-loop μ-loop (λ c κs. search needs) loop-holds entry-requires (λ c. omega (arith, few (c .before))) array-write-ts
+    add-e loop-less loop-again returns)

@@ -1,5 +1,6 @@
 -- The loop's invariant: y is written, and of x and z the entries of the first k parties.
-use Rattle.lists.specs.Kit.{_≡_, refl, sym, ap, ap₂, subst, _∙_, List, _++_, ℕ, _+_, _-_, _*_, _≤_, arith, length, getD, take, drop, now, needs}
+use Rattle.lists.specs.Kit.{_≡_, refl, sym, ap, ap₂, subst, _∙_, List, _++_, ℕ, _+_, _-_, _*_, _≤_}
+use Rattle.lists.specs.Kit.{arith, length, getD, take, drop, now, needs}
 use lib.ListN.{length-append, length-drop}
 use lib.Seq.{length-take-le}
 use Rattle.lists.specs.Over.{length-take-drop}
@@ -11,30 +12,30 @@ use Rattle.share.specs.Record.{recordLen, bitAt}
 use Rattle.share.specs.Share.{Share, shareAt, shares, recordOf}
 use Rattle.share.specs.ShareLaws.{bit-bucket-x, bit-bucket-z, length-recordOf}
 use Rattle.rounds.specs.Combine.{triple}
-use Rattle.combine.specs.Sums.{xOf, zOf, Lies, x-bits, z-bits}
-use Rattle.combine.specs.Row.{Rowed, rowed-none, rowed-long, rowed-turn, rowed-end}
-use Rattle.combine.specs.Triples.{firsts, lies, y-inside, sum-records}
+use Rattle.bucket_sum.specs.Sums.{xAmong, zAmong, BucketIn, x-bits, z-bits}
+use Rattle.bucket_sum.specs.Row.{Rowed, rowed-none, rowed-long, rowed-turn, rowed-end}
+use Rattle.combine.specs.Triples.{xPlaces, triples-in, y-inside, sum-records}
 use Rattle.combine.proofs.combine_all.Statement.{statement}
 use Rattle.combine.proofs.combine_all.Tie as tie
 
 -- the numbers of the records x, and the sums
 abbrev ts : List ℕ → List ℕ
-ts d = take (length d + 1) firsts
+ts d = take (length d + 1) xPlaces
 
 abbrev X : ℕ → List ℕ → List ℕ → Share
-X n s d = bucketX shares (xOf n s (ts d)) (length d)
+X n s d = bucketX shares (xAmong n s (ts d)) (length d)
 
 abbrev Z : ℕ → List ℕ → List ℕ → Share
-Z n s d = bucketZ shares (xOf n s (ts d)) (zOf n s (ts d) 2) (λ e. odd (getD d e 0)) (length d)
+Z n s d = bucketZ shares (xAmong n s (ts d)) (zAmong n s (ts d) 2) (λ e. odd (getD d e 0)) (length d)
 
 abbrev Y : ℕ → ℕ → List ℕ → List ℕ
 Y n i s = recordOf n i (triple n s 0 .ty)
 
 abbrev Inv-loop : tie.InvT-loop
-Inv-loop out₀ triples d n i firsts count len z k₀ out k = (k ≤ n) × Rowed n i k (X n triples d) (Z n triples d) (Y n i triples) out
+Inv-loop out₀ triples d n i xPlaces count len z k₀ out k = (k ≤ n) × Rowed n i k (X n triples d) (Z n triples d) (Y n i triples) out
 
 abbrev μ-loop : tie.MeasureT-loop
-μ-loop out₀ triples d n i firsts count len z k₀ out k = n - k
+μ-loop out₀ triples d n i xPlaces count len z k₀ out k = n - k
 
 -- ---- of a call
 module _ (c : tie.After-record-len Inv-loop μ-loop) where
@@ -47,16 +48,18 @@ module _ (c : tie.After-record-len Inv-loop μ-loop) where
   long : len ≡ recordLen (s .args .n)
   long = c .record-len .ensures
 
-  here : Lies (s .args .n) (now (s .args .triples)) (ts (now (s .args .d))) 2 (now (s .args .d))
+  here : BucketIn (s .args .n) (now (s .args .triples)) (ts (now (s .args .d))) 2 (now (s .args .d))
   here =
-      lies (s .args .n) (length (now (s .args .d))) (s .pre .0 .2) (now (s .args .triples)) (now (s .args .d)) (s .pre .0 .0) refl (s .pre .1)
+      triples-in (s .args .n) (length (now (s .args .d))) (s .pre .0 .2) (now (s .args .triples)) (now (s .args .d)) (s .pre .0 .0) refl
+      (s .pre .1)
 
   -- z starts behind x and y
   behind : 2 * len ≡ recordLen (s .args .n) + length (Y (s .args .n) (s .args .i) (now (s .args .triples)))
   behind = omega (arith, long, length-recordOf (s .args .n) (s .args .i) (triple (s .args .n) (now (s .args .triples)) 0 .ty))
 
   -- each y lies within
-  y-there : (t : ℕ) → t ≤ length (now (s .args .d)) → (3 * t + 1) * recordLen (s .args .n) + recordLen (s .args .n) ≤ length (now (s .args .triples))
+  y-there : (t : ℕ) → t ≤ length (now (s .args .d))
+      → (3 * t + 1) * recordLen (s .args .n) + recordLen (s .args .n) ≤ length (now (s .args .triples))
   y-there t h = y-inside (s .args .n) (length (now (s .args .d))) (s .pre .0 .2) (now (s .args .triples)) t h (s .pre .1)
 
 put-y-requires : tie.Need-put-y-requires Inv-loop μ-loop
@@ -78,7 +81,8 @@ loop-holds c =
     let a = s r .args in
     let rest : List ℕ = drop (2 * len r - len r) (drop (len r) (now (a .out))) in (
       omega arith,
-      rowed-none (a .n) (a .i) (X (a .n) (now (a .triples)) (now (a .d))) (Z (a .n) (now (a .triples)) (now (a .d))) (Y (a .n) (a .i) (now (a .triples)))
+      rowed-none (a .n) (a .i) (X (a .n) (now (a .triples)) (now (a .d))) (Z (a .n) (now (a .triples)) (now (a .d)))
+          (Y (a .n) (a .i) (now (a .triples)))
           (take (len r) (now (a .out))) rest _
           (length-take-le (len r) (now (a .out)) (omega (arith, long r, s r .pre .0 .1)) ∙ long r)
           (length-drop (2 * len r - len r) (drop (len r) (now (a .out)))
@@ -99,11 +103,12 @@ module _ (c : tie.At-loop Inv-loop μ-loop) where
 
   row-long : length row ≡ 2 * len r + recordLen (S .args .n)
   row-long =
-      rowed-long (S .args .n) (S .args .i) (X (S .args .n) (now (S .args .triples)) (now (S .args .d))) (Z (S .args .n) (now (S .args .triples)) (now (S .args .d)))
+      rowed-long (S .args .n) (S .args .i) (X (S .args .n) (now (S .args .triples)) (now (S .args .d)))
+      (Z (S .args .n) (now (S .args .triples)) (now (S .args .d)))
       (Y (S .args .n) (S .args .i) (now (S .args .triples))) (c .loop .inv .1) (2 * len r) (behind r)
 
   ts-long : length (now (S .args .d)) + 1 ≡ length (ts (now (S .args .d)))
-  ts-long = sym (length-take-le (length (now (S .args .d)) + 1) firsts (omega (arith, S .pre .0 .2)))
+  ts-long = sym (length-take-le (length (now (S .args .d)) + 1) xPlaces (omega (arith, S .pre .0 .2)))
 
 slice-aggregate-party : tie.Need-slice-aggregate-party Inv-loop μ-loop
 slice-aggregate-party c = ts-long (c .before .before)
@@ -134,10 +139,12 @@ loop-again c =
     let l = t .before in
     let a = S l .args in (
       omega (arith, t .loop-test .taken),
-      subst (Rowed (a .n) (a .i) (l .loop .k + 1) (X (a .n) (now (a .triples)) (now (a .d))) (Z (a .n) (now (a .triples)) (now (a .d))) (Y (a .n) (a .i) (now (a .triples))))
+      subst (Rowed (a .n) (a .i) (l .loop .k + 1) (X (a .n) (now (a .triples)) (now (a .d))) (Z (a .n) (now (a .triples)) (now (a .d)))
+          (Y (a .n) (a .i) (now (a .triples))))
           (sym (p .put-entries .ensures))
-          (rowed-turn (a .n) (a .i) (X (a .n) (now (a .triples)) (now (a .d))) (Z (a .n) (now (a .triples)) (now (a .d))) (Y (a .n) (a .i) (now (a .triples)))
-          (l .loop .inv .1) (2 * len (r l)) (behind (r l)) (t .loop-test .taken) _ _ (e .party .ensures .x-bytes) (e .party .ensures .z-bytes)),
+          (rowed-turn (a .n) (a .i) (X (a .n) (now (a .triples)) (now (a .d))) (Z (a .n) (now (a .triples)) (now (a .d)))
+          (Y (a .n) (a .i) (now (a .triples))) (l .loop .inv .1) (2 * len (r l)) (behind (r l)) (t .loop-test .taken) _ _
+          (e .party .ensures .x-bytes) (e .party .ensures .z-bytes)),
     )
 
 slice-aggregate-sum-bits : tie.Need-slice-aggregate-sum-bits Inv-loop μ-loop
@@ -180,11 +187,12 @@ module _ (c : tie.After-slice-known4 Inv-loop μ-loop) where
   d = now (A .args .d)
 
   bit-z : b .sum-bits .result .z ≡ Z n triples d .bit
-  unfolding zOf shareAt bitAt
+  unfolding zAmong shareAt bitAt
   bit-z =
       b .sum-bits .ensures .1
-      ∙ ap (λ m. bucketZ bits (λ e. xOf n triples (ts d) e .bit) (λ e. odd (getD triples ((getD (ts d) e 0 + 2) * m) 0)) (λ e. odd (getD d e 0)) (length d)) (long (r l))
-      ∙ sym (bit-bucket-z (xOf n triples (ts d)) (length d) (zOf n triples (ts d) 2) (λ e. odd (getD d e 0)))
+      ∙ ap (λ m. bucketZ bits (λ e. xAmong n triples (ts d) e .bit) (λ e. odd (getD triples ((getD (ts d) e 0 + 2) * m) 0))
+      (λ e. odd (getD d e 0)) (length d)) (long (r l))
+      ∙ sym (bit-bucket-z (xAmong n triples (ts d)) (length d) (zAmong n triples (ts d) 2) (λ e. odd (getD d e 0)))
 
   left : c .before .before .put-heads .last .0
       ≡ recordOf n (A .args .i) (X n triples d) ++ (Y n (A .args .i) triples ++ recordOf n (A .args .i) (Z n triples d))
@@ -192,7 +200,7 @@ module _ (c : tie.After-slice-known4 Inv-loop μ-loop) where
       c .before .before .put-heads .ensures
       ∙ rowed-end n (A .args .i) (X n triples d) (Z n triples d) (Y n (A .args .i) triples) (l .loop .inv .1) (2 * len (r l)) (behind (r l))
       (omega (arith, b .before .before .loop-test .left, l .loop .inv .0)) _ _
-      (b .sum-bits .ensures .0 ∙ sym (bit-bucket-x (xOf n triples (ts d)) (length d))) bit-z
+      (b .sum-bits .ensures .0 ∙ sym (bit-bucket-x (xAmong n triples (ts d)) (length d))) bit-z
 
 same-length : tie.Need-same-length Inv-loop μ-loop
 same-length c =
@@ -213,6 +221,6 @@ returns c =
 
 pub combine-all-spec : {M : Type 1} → statement M
 combine-all-spec =
-    tie.close (tie.spec Inv-loop μ-loop (λ c. search needs) (λ c κs. search needs) (λ c. search needs) (λ c. search needs) (λ c. search needs) (λ c. search needs) put-y-requires
-    loop-holds (λ c. search needs) slice-aggregate-party party-requires put-entries-requires add-k (λ c. search needs) loop-again
+    tie.close (tie.spec Inv-loop μ-loop (λ c. search needs) (λ c κs. search needs) (λ c. search needs) (λ c. search needs)
+    (λ c. search needs) (λ c. search needs) put-y-requires loop-holds (λ c. search needs) slice-aggregate-party party-requires put-entries-requires add-k (λ c. search needs) loop-again
     (λ c. search needs) slice-aggregate-sum-bits sum-bits-requires put-heads-requires same-length returns)

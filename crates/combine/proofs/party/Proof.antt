@@ -1,5 +1,5 @@
 use Rattle.lists.specs.Kit.{sym, needs}
-use Rattle.combine.specs.Sums.{entries-own, entries-other}
+use Rattle.bucket_sum.specs.Sums.{entries-own, entries-other}
 use Rattle.combine.proofs.party.Statement.{statement}
 use Rattle.combine.proofs.party.Tie as tie
 

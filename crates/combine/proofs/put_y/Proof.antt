@@ -23,8 +23,10 @@ unfolding triple
 returns c =
     let a = c .before .before .before .before .before .before .before .args in
     c .before .before .copy-record .ensures
-    ∙ ap (λ m. recordOf (a .n) (a .i) (shareAt (now (a .triples)) ((3 * a .t + 1) * m))) (c .before .before .before .before .record-len .ensures)
+    ∙ ap (λ m. recordOf (a .n) (a .i) (shareAt (now (a .triples)) ((3 * a .t + 1) * m)))
+    (c .before .before .before .before .record-len .ensures)
 
 pub put-y-spec : {M : Type 1} → statement M
 put-y-spec =
-    tie.close (tie.spec (λ c. search needs) (λ c. search needs) (λ c κs. search needs) mul-at-2 copy-record-requires (λ c. search needs) returns)
+    tie.close (tie.spec (λ c. search needs) (λ c. search needs) (λ c κs. search needs) mul-at-2 copy-record-requires (λ c. search needs)
+    returns)

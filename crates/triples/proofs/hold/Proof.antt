@@ -110,8 +110,8 @@ loop-again c =
       omega (arith, i .loop-test .taken),
       subst (Filled (f d) TRIPLES (size d) (g d) (j i + 1) (w₀ d))
           (sym (p .put-row .ensures ∙ ap₂ (λ k (x : List ℕ). put at k x (w i)) m (row-same i)))
-          (filled-put (s d .pre) TRIPLES (size d) (omega arith) (g d) (f d .l) (full d) (j i) (w i) (i .before .loop .inv .1) (rows i) (len i)
-          (placed i .section-at .ensures) (len-is i) (i .loop-test .taken) (g d (j i)) refl (length-rowOf (f d) (delta d) (w₀ d) (j i))),
+          (filled-put (s d .pre) TRIPLES (size d) (omega arith) (g d) (f d .l) (full d) (j i) (w i) (i .before .loop .inv .1) (rows i)
+          (len i) (placed i .section-at .ensures) (len-is i) (i .loop-test .taken) (g d (j i)) refl (length-rowOf (f d) (delta d) (w₀ d) (j i))),
     )
 
 same-length : tie.Need-same-length Inv-loop μ-loop

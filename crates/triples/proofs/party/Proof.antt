@@ -9,8 +9,8 @@ use Rattle.share.specs.Share.{Share, shares}
 use Rattle.plan.specs.Plan.{leaky}
 use Rattle.plan.specs.PlanLaws.{leaky-most}
 use Rattle.rounds.specs.Haand.{x}
-use Rattle.combine.specs.Sums.{xOf, zOf, Lies, entries-own, entries-other}
-use Rattle.triples.specs.Given.{lies, e-in}
+use Rattle.bucket_sum.specs.Sums.{xAmong, zAmong, BucketIn, entries-own, entries-other}
+use Rattle.triples.specs.Given.{bucket-in, e-in}
 use Rattle.triples.specs.Laws.{z-mac, z-key}
 use Rattle.triples.proofs.party.Statement.{statement}
 use Rattle.triples.proofs.party.Tie as tie
@@ -36,22 +36,24 @@ mul-sum-entries c = omega (arith, few c)
 
 sum-entries-requires : tie.Need-sum-entries-requires
 sum-entries-requires c κs =
-    let a = s c .args in
-    (subst (λ m. Lies (a .f .n) (now (a .recs)) (now (a .ts)) (2 * m) (now (a .d))) (sym (is c)) (lies (s c .pre .1) (s c .pre .0 .0)), s c .pre .0 .1)
+    let a = s c .args in (
+      subst (λ m. BucketIn (a .f .n) (now (a .recs)) (now (a .ts)) (2 * m) (now (a .d))) (sym (is c)) (bucket-in (s c .pre .1) (s c .pre .0 .0)),
+      s c .pre .0 .1,
+    )
 
-mul-told-sum : tie.Need-mul-told-sum
-mul-told-sum c =
+mul-e-sum : tie.Need-mul-e-sum
+mul-e-sum c =
     let g = c .before in
     let k : s g .args .k < 8 = omega (arith, s g .pre .0 .1, s g .pre .0 .0 .range .eight) in
     omega (arith, mul-le-mul-right (c .before .leaky .result) k, few g)
 
-told-sum-requires : tie.Need-told-sum-requires
-told-sum-requires c κs e l =
+e-sum-requires : tie.Need-e-sum-requires
+e-sum-requires c κs e l =
     let g = c .before in
     omega (arith, e-in (s g .pre .1) (s g .args .k) (s g .pre .0 .1) e l, ap (λ m. s g .args .k * m) (is g))
 
 returns-2 : tie.Need-returns-2
-unfolding xOf x
+unfolding xAmong x
 returns-2 c zs =
     let t = c .before .before .before .before .before .before in
     let u = t .before in
@@ -65,9 +67,9 @@ returns-2 c zs =
     let n : ℕ = length (now (a .d)) in
     let v = u .sum-entries .ensures in
     let count : length ts ≡ suc n = s g .pre .1 .count ∙ add-one n in
-    let told : t .told-sum .result ≡ sum bits (suc n) (λ e. odd (getD es (a .k * leaky (f .l) + getD ts e 0) 0)) =
-    t .told-sum .ensures ∙ (λ q. sum bits (count q) (λ e. odd (getD es (a .k * is g q + getD ts e 0) 0))) in
-    let z : (m : ℕ) → Share = λ m. bucketZ shares (xOf (f .n) recs ts) (zOf (f .n) recs ts (2 * m)) d n in
+    let told : t .e-sum .result ≡ sum bits (suc n) (λ e. odd (getD es (a .k * leaky (f .l) + getD ts e 0) 0)) =
+    t .e-sum .ensures ∙ (λ q. sum bits (count q) (λ e. odd (getD es (a .k * is g q + getD ts e 0) 0))) in
+    let z : (m : ℕ) → Share = λ m. bucketZ shares (xAmong (f .n) recs ts) (zAmong (f .n) recs ts (2 * m)) d n in
     entries-other (f .i) (a .k) _ _ _ (λ e. g .before .if1 .left (sym e)) (record {
       x-mac = v .x-mac;
       x-key = v .x-key;
@@ -75,10 +77,10 @@ returns-2 c zs =
       z-key =
           c .z-key .ensures
           ∙ ap (blocks .op (u .sum-entries .result .z .key .0)) (c .before .times .ensures)
-          ∙ z-key f (a .delta .0) recs zs es ts d n (a .k) _ (t .told-sum .result) (v .z-key ∙ ap (λ m. z m .key (a .k)) (is g)) told;
+          ∙ z-key f (a .delta .0) recs zs es ts d n (a .k) _ (t .e-sum .result) (v .z-key ∙ ap (λ m. z m .key (a .k)) (is g)) told;
     })
 
 pub party-spec : {M : Type 1} → statement M
 party-spec =
-    tie.close (tie.spec (λ c κs. search needs) returns (λ c κs. search needs) mul-sum-entries sum-entries-requires mul-told-sum
-    told-sum-requires (λ c κs. search needs) (λ c κs. search needs) returns-2)
+    tie.close (tie.spec (λ c κs. search needs) returns (λ c κs. search needs) mul-sum-entries sum-entries-requires mul-e-sum
+    e-sum-requires (λ c κs. search needs) (λ c κs. search needs) returns-2)

@@ -76,8 +76,13 @@ perm-is c = let r = c .before .before in c .lent .ensures ∙ place-at (f r) PER
 
 entries-requires : tie.Need-entries-requires Inv-loop μ-loop
 entries-requires c κs =
-    let r = c .before .before in
-    (work r .ranges, (lent-length (work r) PERM (leaky (f r .l) * 4) (now (c .lent .result)) (omega arith) (size-perm (f r)) (perm-is c), s r .pre .0 .1))
+    let r = c .before .before in (
+      work r .ranges,
+      (
+        lent-length (work r) PERM (leaky (f r .l) * 4) (now (c .lent .result)) (omega arith) (size-perm (f r)) (perm-is c),
+        s r .pre .0 .1,
+      ),
+    )
 
 -- the bucket's positions
 module _ (c : tie.After-entries Inv-loop μ-loop) where
@@ -96,8 +101,8 @@ module _ (c : tie.After-entries Inv-loop μ-loop) where
   numbers : take b (c .entries .result) ≡ tab (bucketSize (f r .l)) (of (at (f r) PERM (w₀ r)))
   numbers =
       ap₂ take b-is (c .entries .ensures)
-      ∙ take-at (tab (bucketSize (f r .l)) (of (now (c .before .lent .result)))) (replicate (5 - bucketSize (f r .l)) 0) (bucketSize (f r .l))
-      (length-tab (bucketSize (f r .l)) (of (now (c .before .lent .result))))
+      ∙ take-at (tab (bucketSize (f r .l)) (of (now (c .before .lent .result)))) (replicate (5 - bucketSize (f r .l)) 0)
+      (bucketSize (f r .l)) (length-tab (bucketSize (f r .l)) (of (now (c .before .lent .result))))
       ∙ ap (λ (p : List ℕ). tab (bucketSize (f r .l)) (of p)) (perm-is (c .before))
 
   all-long : b ≤ length (c .entries .result)
@@ -184,8 +189,8 @@ loop-again c =
     let l = t .before in
     let g = q l in (
       omega (arith, t .loop-test .taken),
-      going-turn (f g) (delta g) (w₀ g) (j g) (row g) (work g) (s g .pre .0 .1) (s g .pre .1) (going l) (row g + 2 * len g) (ends g) (len g) _ _
-          (p .put-entries .last .0) (long g) (t .loop-test .taken)
+      going-turn (f g) (delta g) (w₀ g) (j g) (row g) (work g) (s g .pre .0 .1) (s g .pre .1) (going l) (row g + 2 * len g) (ends g)
+          (len g) _ _ (p .put-entries .last .0) (long g) (t .loop-test .taken)
           (e .row-party .ensures .x-bytes ∙ ap (λ (v : Triple). entryOf (f g .i) (v .tx) (l .loop .k)) (triple l))
           (e .row-party .ensures .z-bytes ∙ ap (λ (v : Triple). entryOf (f g .i) (v .tz) (l .loop .k)) (triple l))
           (p .put-entries .ensures),
@@ -223,24 +228,26 @@ module _ (c : tie.After-slice-known3 Inv-loop μ-loop) where
   left =
       let g = q o in
       let t = h .row-bits .ensures (delta g) in
-      going-end (f g) (delta g) (w₀ g) (j g) (row g) (work g) (s g .pre .0 .1) (s g .pre .1) (going o) (row g + 2 * len g) (ends g) (len g) _ _
-      (c .before .before .put-heads .last .0) (long g)
+      going-end (f g) (delta g) (w₀ g) (j g) (row g) (work g) (s g .pre .0 .1) (s g .pre .1) (going o) (row g + 2 * len g) (ends g)
+      (len g) _ _ (c .before .before .put-heads .last .0) (long g)
       (omega (arith, h .before .before .before .loop-test .left, o .loop .inv .0))
-      (t .0 ∙ ap (λ (v : Triple). v .tx .bit) (triple o)) (t .1 ∙ ap (λ (v : Triple). v .tz .bit) (triple o)) (c .before .before .put-heads .ensures)
+      (t .0 ∙ ap (λ (v : Triple). v .tx .bit) (triple o)) (t .1 ∙ ap (λ (v : Triple). v .tz .bit) (triple o))
+      (c .before .before .put-heads .ensures)
 
 same-length : tie.Need-same-length Inv-loop μ-loop
 same-length c =
     let g = q (o c) in
     ap length (left c)
-    ∙ length-put (row g) (2 * recordLen (f g .n)) (rowOf (f g) (delta g) (w₀ g) (j g)) (w₀ g) (length-rowOf (f g) (delta g) (w₀ g) (j g)) (row-in g)
+    ∙ length-put (row g) (2 * recordLen (f g .n)) (rowOf (f g) (delta g) (w₀ g) (j g)) (w₀ g) (length-rowOf (f g) (delta g) (w₀ g) (j g))
+    (row-in g)
 
 returns : tie.Need-returns Inv-loop μ-loop
 returns c = left c
 
 pub put-row-spec : {M : Type 1} → statement M
 put-row-spec =
-    tie.close (tie.spec Inv-loop μ-loop (λ c κs. search needs) (λ c κs. let s = c .before .before in s .pre .0 .0 .ranges .range .eight) mul-end add-end lent-requires
-    entries-requires loop-holds array-share-prefix-all slice-aggregate-row-party row-party-requires (λ c. search needs) (λ c. search needs)
+    tie.close (tie.spec Inv-loop μ-loop (λ c κs. search needs) (λ c κs. let s = c .before .before in s .pre .0 .0 .ranges .range .eight)
+    mul-end add-end lent-requires entries-requires loop-holds array-share-prefix-all slice-aggregate-row-party row-party-requires (λ c. search needs) (λ c. search needs)
     part-put-entries-end put-entries-requires add-k (λ c. search needs) loop-again array-share-prefix-all-2
     slice-aggregate-row-bits row-bits-requires (λ c. search needs) (λ c. search needs) part-put-heads-end put-heads-requires same-length
     returns)

@@ -37,9 +37,9 @@ returns : tie.Need-returns
 returns c =
     let d = c .before in
     let a = s d .args in
-    entries-at (f d) (a .delta .0) (w d) (a .j) (now (a .ts)) (now (d .ds .result)) (number-entry (f d) (w d) (a .j) (now (a .ts)) (s d .pre .1))
-    (d .ds .ensures) (long d) (now (d .before .before .lent .result)) (recs-are d) (now (d .before .lent2 .result)) (a .k) (c .party .result)
-    (es-are d) (c .party .ensures (at (f d) ZS (w d)))
+    entries-at (f d) (a .delta .0) (w d) (a .j) (now (a .ts)) (now (d .ds .result))
+    (number-entry (f d) (w d) (a .j) (now (a .ts)) (s d .pre .1)) (d .ds .ensures) (long d) (now (d .before .before .lent .result))
+    (recs-are d) (now (d .before .lent2 .result)) (a .k) (c .party .result) (es-are d) (c .party .ensures (at (f d) ZS (w d)))
 
 pub row-party-spec : {M : Type 1} → statement M
 row-party-spec =

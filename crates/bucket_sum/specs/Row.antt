@@ -87,7 +87,8 @@ module _ (n i : ℕ) (x z : Share) (m : List ℕ) where
           z₁ = zs;
           is =
               ap (λ (s : List ℕ). put (at + macOff k) ENTRY b s)
-              (ap (put (macOff k) ENTRY a) (w .is) ∙ put-front (macOff k) ENTRY a (w .x₁) (m ++ w .z₁) (omega (arith, x-long, entry-within n k lt))
+              (ap (put (macOff k) ENTRY a) (w .is)
+              ∙ put-front (macOff k) ENTRY a (w .x₁) (m ++ w .z₁) (omega (arith, x-long, entry-within n k lt))
               ∙ sym (append-assoc xs m (w .z₁)))
               ∙ put-back at (macOff k) ENTRY b (xs ++ m) (w .z₁)
               (length-append xs m ∙ (let e : length xs + length m ≡ at = omega (arith, xe .same, xe .whole) in e))

@@ -16,22 +16,22 @@ use Rattle.share.specs.Layout.{record-some}
 use Rattle.share.specs.Record.{recordLen}
 use Rattle.share.specs.Share.{Share, shareAt, shares, entryOf}
 use Rattle.share.specs.ShareLaws.{mac-sel, key-sel, entry-own, entry-other, zero-pair}
-use Rattle.combine.specs.declared.Sums.{Sums}
+use Rattle.bucket_sum.specs.declared.Sums.{Sums}
 
 -- the e-th x is record ts[e] of s
-unfoldable pub xOf : ℕ → List ℕ → List ℕ → ℕ → Share
-xOf n s ts e = shareAt s (getD ts e 0 * recordLen n)
+unfoldable pub xAmong : ℕ → List ℕ → List ℕ → ℕ → Share
+xAmong n s ts e = shareAt s (getD ts e 0 * recordLen n)
 
 -- and its z lies `behind` records behind it
-unfoldable pub zOf : ℕ → List ℕ → List ℕ → ℕ → ℕ → Share
-zOf n s ts behind e = shareAt s ((getD ts e 0 + behind) * recordLen n)
+unfoldable pub zAmong : ℕ → List ℕ → List ℕ → ℕ → ℕ → Share
+zAmong n s ts behind e = shareAt s ((getD ts e 0 + behind) * recordLen n)
 
 -- `room` bytes at a step of `step` bytes for each record: all of them lie in s
 abbrev pub Within : List ℕ → List ℕ → ℕ → ℕ → ℕ → Type 0
 Within s ts behind step room = (e : ℕ) → e < length ts → (getD ts e 0 + behind) * step + room ≤ length s
 
 -- the records of a bucket lie in s, and d has a byte for each but the first
-pub record Lies (n : ℕ) (s ts : List ℕ) (behind : ℕ) (d : List ℕ) : Type 0 where
+pub record BucketIn (n : ℕ) (s ts : List ℕ) (behind : ℕ) (d : List ℕ) : Type 0 where
   pub few : n ≤ 8
   pub count : length ts ≡ length d + 1
   pub inside : Within s ts behind (recordLen n) (recordLen n)
@@ -41,7 +41,8 @@ pub step-most : (t step : ℕ) → 1 ≤ step → t ≤ t * step
 step-most t step h = omega (arith, mul-le-mul (let e : t ≤ t = omega arith in e) h)
 
 -- the e-th of them, where the code has `len` for a record's length
-module _ {n : ℕ} {s ts : List ℕ} {behind : ℕ} {d : List ℕ} (h : Lies n s ts behind d) (e len : ℕ) (l : e < length ts) (long : len ≡ recordLen n) where
+module _ {n : ℕ} {s ts : List ℕ} {behind : ℕ} {d : List ℕ} (h : BucketIn n s ts behind d) (e len : ℕ) (l : e < length ts)
+    (long : len ≡ recordLen n) where
   pub z-fits : (getD ts e 0 + behind) * len + recordLen n ≤ length s
   z-fits = omega (arith, h .inside e l, ap (λ m. (getD ts e 0 + behind) * m) long)
 
@@ -52,7 +53,7 @@ module _ {n : ℕ} {s ts : List ℕ} {behind : ℕ} {d : List ℕ} (h : Lies n s
   no-wrap = omega (arith, h .inside e l, step-most (getD ts e 0 + behind) (recordLen n) (record-some n))
 
 -- the first bytes of all of them
-module _ {n : ℕ} {s ts : List ℕ} {behind : ℕ} {d : List ℕ} (h : Lies n s ts behind d) where
+module _ {n : ℕ} {s ts : List ℕ} {behind : ℕ} {d : List ℕ} (h : BucketIn n s ts behind d) where
   pub x-bits : Within s ts 0 (recordLen n) 1
   x-bits e l =
       omega (
@@ -114,8 +115,10 @@ module _ (k : ℕ) (xs zs : ℕ → Share) (d : ℕ → Bool) (c e : ℕ) (he : 
       → Summed k (bucketX shares xs (suc c)) (bucketZ shares xs zs d (suc c)) n
   unfolding shares
   summed-turn r n b lm lk nm nk s hlm hlk hnm hnk hb xm xk zm zk = record {
-    x-mac = xm ∙ ap₂ (blocks .op) (s .x-mac) (hlm ∙ ap (λ j. xs j .mac k) (sym he)) ∙ sym (ap (λ (t : Share). t .mac k) (next-x shares xs c));
-    x-key = xk ∙ ap₂ (blocks .op) (s .x-key) (hlk ∙ ap (λ j. xs j .key k) (sym he)) ∙ sym (ap (λ (t : Share). t .key k) (next-x shares xs c));
+    x-mac =
+        xm ∙ ap₂ (blocks .op) (s .x-mac) (hlm ∙ ap (λ j. xs j .mac k) (sym he)) ∙ sym (ap (λ (t : Share). t .mac k) (next-x shares xs c));
+    x-key =
+        xk ∙ ap₂ (blocks .op) (s .x-key) (hlk ∙ ap (λ j. xs j .key k) (sym he)) ∙ sym (ap (λ (t : Share). t .key k) (next-x shares xs c));
     z-mac =
         zm
         ∙ ap₂ (blocks .op) (ap₂ (blocks .op) (s .z-mac) (hnm ∙ ap (λ j. zs j .mac k) (sym he)))

@@ -1,7 +1,7 @@
 use Rattle.lists.specs.Kit.{now, needs}
-use Rattle.combine.specs.Row.{heads-left}
-use Rattle.combine.proofs.put_heads.Statement.{statement}
-use Rattle.combine.proofs.put_heads.Tie as tie
+use Rattle.bucket_sum.specs.Row.{heads-left}
+use Rattle.bucket_sum.proofs.put_heads.Statement.{statement}
+use Rattle.bucket_sum.proofs.put_heads.Tie as tie
 
 returns : tie.Need-returns
 returns c =

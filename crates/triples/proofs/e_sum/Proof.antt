@@ -2,8 +2,8 @@
 use Rattle.lists.specs.Kit.{_≡_, refl, sym, ap, ap₂, _∙_, List, Bool, ℕ, _+_, _-_, _<_, _≤_, arith, length, getD, now, needs}
 use Rattle.algebra.specs.Group.{bits, addb, odd, xor-addb}
 use Rattle.algebra.specs.Sum.{sum, sum-turn}
-use Rattle.triples.proofs.told_sum.Statement.{statement}
-use Rattle.triples.proofs.told_sum.Tie as tie
+use Rattle.triples.proofs.e_sum.Statement.{statement}
+use Rattle.triples.proofs.e_sum.Tie as tie
 
 -- bit e
 abbrev bit : List ℕ → List ℕ → ℕ → ℕ → Bool
@@ -54,9 +54,10 @@ returns c =
     let l = c .before .loop in
     let a = c .before .before .before .before .args in
     l .inv .1
-    ∙ ap (λ m. sum bits m (bit (now (a .es)) (now (a .ts)) (a .from))) (let q : l .e ≡ length (now (a .ts)) = omega (arith, c .loop-test .left, l .inv .0) in q)
+    ∙ ap (λ m. sum bits m (bit (now (a .es)) (now (a .ts)) (a .from)))
+    (let q : l .e ≡ length (now (a .ts)) = omega (arith, c .loop-test .left, l .inv .0) in q)
 
-pub told-sum-spec : {M : Type 1} → statement M
-told-sum-spec =
+pub e-sum-spec : {M : Type 1} → statement M
+e-sum-spec =
     tie.close (tie.spec Inv-loop μ-loop loop-holds (λ c. search needs) (λ c. search needs) add-bit bit-requires add-e (λ c. search needs)
     loop-again returns)

@@ -5,13 +5,13 @@ use Rattle.algebra.specs.Group.{bits, odd}
 use Rattle.algebra.specs.Bucket.{bucketX, bucketZ, first-x, first-z}
 use Rattle.share.specs.Record.{recordLen, bitAt}
 use Rattle.share.specs.Share.{shareAt}
-use Rattle.combine.specs.Sums.{xOf, step-most, bit-turn-x, bit-turn-z}
-use Rattle.combine.proofs.sum_bits.Statement.{statement}
-use Rattle.combine.proofs.sum_bits.Tie as tie
+use Rattle.bucket_sum.specs.Sums.{xAmong, step-most, bit-turn-x, bit-turn-z}
+use Rattle.bucket_sum.proofs.sum_bits.Statement.{statement}
+use Rattle.bucket_sum.proofs.sum_bits.Tie as tie
 
 -- the bits of x, of z, and d
 abbrev xs : ℕ → List ℕ → List ℕ → ℕ → Bool
-xs n s ts e = xOf n s ts e .bit
+xs n s ts e = xAmong n s ts e .bit
 
 abbrev zs : List ℕ → List ℕ → ℕ → ℕ → ℕ → Bool
 zs z ts behind step e = odd (getD z ((getD ts e 0 + behind) * step) 0)
@@ -79,15 +79,17 @@ bit-requires : tie.Need-bit-requires Inv-loop μ-loop
 bit-requires c κs = let g = c .before in z-in g 0 (some g)
 
 loop-holds : tie.Need-loop-holds Inv-loop μ-loop
-unfolding xOf shareAt
+unfolding xAmong shareAt
 loop-holds c =
     let g = c .before .before in
     let a = s g .args in (
       omega arith,
       omega (arith, some g),
-      c .before .bit-at .ensures ∙ ap (λ m. bitAt (now (a .s)) (t g 0 (some g) * m)) (long g) ∙ sym (first-x bits (xs (a .n) (now (a .s)) (now (a .ts)))),
+      c .before .bit-at .ensures ∙ ap (λ m. bitAt (now (a .s)) (t g 0 (some g) * m)) (long g)
+          ∙ sym (first-x bits (xs (a .n) (now (a .s)) (now (a .ts)))),
       c .bit .ensures
-          ∙ sym (first-z bits (xs (a .n) (now (a .s)) (now (a .ts))) (zs (now (a .zs)) (now (a .ts)) (a .behind) (a .step)) (ds (now (a .d)))),
+          ∙ sym (first-z bits (xs (a .n) (now (a .s)) (now (a .ts))) (zs (now (a .zs)) (now (a .ts)) (a .behind) (a .step))
+          (ds (now (a .d)))),
     )
 
 -- ---- in a turn
@@ -132,7 +134,7 @@ add-e : tie.Need-add-e Inv-loop μ-loop
 add-e c = let i = c .before .before .before in omega (arith, next i, s (g i) .good)
 
 loop-again : tie.Need-loop-again Inv-loop μ-loop
-unfolding xOf shareAt
+unfolding xAmong shareAt
 loop-again c =
     let n2 = c .before in
     let n1 = n2 .before in
@@ -144,7 +146,8 @@ loop-again c =
     let D : ℕ → Bool = ds (now (a .d)) in
     let p : suc (e i - 1) ≡ e i = omega (arith, first-done i) in
     let q : suc (e i - 1) ≡ e i + 1 - 1 = omega (arith, first-done i) in
-    let later : n1 .bit-at2 .result ≡ X (e i) = n1 .bit-at2 .ensures ∙ ap (λ m. bitAt (now (a .s)) (t (g i) (e i) (next i) * m)) (long (g i)) in (
+    let later : n1 .bit-at2 .result ≡ X (e i) =
+    n1 .bit-at2 .ensures ∙ ap (λ m. bitAt (now (a .s)) (t (g i) (e i) (next i) * m)) (long (g i)) in (
       omega arith,
       omega (arith, next i),
       bit-turn-x X Z D (e i - 1) (e i) p (l .x) (n1 .bit-at2 .result) (l .inv .2) later ∙ ap (bucketX bits X) q,
@@ -165,6 +168,6 @@ returns c =
 
 pub sum-bits-spec : {M : Type 1} → statement M
 sum-bits-spec =
-    tie.close (tie.spec Inv-loop μ-loop (λ c κs. search needs) shared-slice-read-first mul-bit-at bit-at-requires add-bit mul-bit bit-requires
-    loop-holds (λ c. search needs) shared-slice-read-t mul-bit-at-2 bit-at-requires-2 add-bit-2 mul-bit-2 bit-requires-2 sub-bit
+    tie.close (tie.spec Inv-loop μ-loop (λ c κs. search needs) shared-slice-read-first mul-bit-at bit-at-requires add-bit mul-bit
+    bit-requires loop-holds (λ c. search needs) shared-slice-read-t mul-bit-at-2 bit-at-requires-2 add-bit-2 mul-bit-2 bit-requires-2 sub-bit
     bit-requires-3 add-e (λ c. search needs) loop-again returns)

@@ -6,15 +6,15 @@ use Rattle.block.specs.Group.{blocks}
 use Rattle.share.specs.Layout.{record-within}
 use Rattle.share.specs.Record.{recordLen, macAt, keyAt}
 use Rattle.share.specs.Share.{shareAt, shares}
-use Rattle.combine.specs.declared.Sums.{Sums}
-use Rattle.combine.specs.Sums.{xOf, zOf, Summed, z-fits, x-fits, no-wrap, summed-first, summed-turn}
-use Rattle.combine.proofs.sum_entries.Statement.{statement}
-use Rattle.combine.proofs.sum_entries.Tie as tie
+use Rattle.bucket_sum.specs.declared.Sums.{Sums}
+use Rattle.bucket_sum.specs.Sums.{xAmong, zAmong, Summed, z-fits, x-fits, no-wrap, summed-first, summed-turn}
+use Rattle.bucket_sum.proofs.sum_entries.Statement.{statement}
+use Rattle.bucket_sum.proofs.sum_entries.Tie as tie
 
 -- the sums over the first c + 1
 abbrev Sofar : ℕ → List ℕ → List ℕ → ℕ → List ℕ → ℕ → ℕ → Sums → Type 0
 Sofar n s ts behind d k c r =
-    Summed k (bucketX shares (xOf n s ts) c) (bucketZ shares (xOf n s ts) (zOf n s ts behind) (λ i. odd (getD d i 0)) c) r
+    Summed k (bucketX shares (xAmong n s ts) c) (bucketZ shares (xAmong n s ts) (zAmong n s ts behind) (λ i. odd (getD d i 0)) c) r
 
 abbrev Inv-loop : tie.InvT-loop
 Inv-loop s ts behind d n k len first x₀ z₀ e₀ x z e =
@@ -76,7 +76,7 @@ entry-at-requires-2 : tie.Need-entry-at-requires-2 Inv-loop μ-loop
 entry-at-requires-2 c κs = let g = c .before in (few g, omega (arith, z-in g 0 (some g), within g))
 
 loop-holds : tie.Need-loop-holds Inv-loop μ-loop
-unfolding xOf zOf shareAt
+unfolding xAmong zAmong shareAt
 loop-holds c =
     let g = c .before .before in
     let a = s g .args in
@@ -84,7 +84,7 @@ loop-holds c =
     let z = c .entry-at2 .ensures in (
       omega arith,
       omega (arith, some g),
-      summed-first (a .k) (xOf (a .n) (now (a .s)) (now (a .ts))) (zOf (a .n) (now (a .s)) (now (a .ts)) (a .behind)) _ _ (record {
+      summed-first (a .k) (xAmong (a .n) (now (a .s)) (now (a .ts))) (zAmong (a .n) (now (a .s)) (now (a .ts)) (a .behind)) _ _ (record {
         x-mac = x .0 ∙ ap (λ m. macAt (now (a .s)) (t g 0 (some g) * m) (a .k)) (long g);
         x-key = x .1 ∙ ap (λ m. keyAt (now (a .s)) (t g 0 (some g) * m) (a .k)) (long g);
         z-mac = z .0 ∙ ap (λ m. macAt (now (a .s)) ((t g 0 (some g) + a .behind) * m) (a .k)) (long g);
@@ -107,10 +107,12 @@ module _ (c : tie.After-shared-slice-known5 Inv-loop μ-loop) where
   first-done = c .before .before .loop .inv .0
 
   -- the e-th and the first lie within
-  x-there : (t g e next * len g + recordLen (s g .args .n) ≤ length (now (s g .args .s))) × (t g 0 (some g) * len g + recordLen (s g .args .n) ≤ length (now (s g .args .s)))
+  x-there : (t g e next * len g + recordLen (s g .args .n) ≤ length (now (s g .args .s)))
+      × (t g 0 (some g) * len g + recordLen (s g .args .n) ≤ length (now (s g .args .s)))
   x-there = (x-in g e next, x-in g 0 (some g))
 
-  z-there : ((t g e next + s g .args .behind) * len g + recordLen (s g .args .n) ≤ length (now (s g .args .s))) × ((t g 0 (some g) + s g .args .behind) * len g + recordLen (s g .args .n) ≤ length (now (s g .args .s)))
+  z-there : ((t g e next + s g .args .behind) * len g + recordLen (s g .args .n) ≤ length (now (s g .args .s)))
+      × ((t g 0 (some g) + s g .args .behind) * len g + recordLen (s g .args .n) ≤ length (now (s g .args .s)))
   z-there = (z-in g e next, z-in g 0 (some g))
 
 shared-slice-read-t : tie.Need-shared-slice-read-t Inv-loop μ-loop
@@ -144,7 +146,7 @@ add-e c =
     omega (arith, next i, s (g i) .good)
 
 loop-again : tie.Need-loop-again Inv-loop μ-loop
-unfolding xOf zOf shareAt
+unfolding xAmong zAmong shareAt
 loop-again c =
     let b = c .before .before in
     let z2 = b .before in
@@ -156,12 +158,13 @@ loop-again c =
     let a = s (g i) .args in
     let p : suc (e i - 1) ≡ e i = omega (arith, first-done i) in
     let q : suc (e i - 1) ≡ e i + 1 - 1 = omega (arith, first-done i) in
-    let at : ℕ = t (g i) (e i) (next i) in (
+    let at : ℕ = t (g i) (e i) (next i) in
+    let now-have : Sums = record { x = x2 .xor .result; z = c .xor3 .result } in (
       omega arith,
       omega (arith, next i),
-      subst (λ m. Sofar (a .n) (now (a .s)) (now (a .ts)) (a .behind) (now (a .d)) (a .k) m (record { x = x2 .xor .result; z = c .xor3 .result })) q
-          (summed-turn (a .k) (xOf (a .n) (now (a .s)) (now (a .ts))) (zOf (a .n) (now (a .s)) (now (a .ts)) (a .behind))
-          (λ j. odd (getD (now (a .d)) j 0)) (e i - 1) (e i) p (record { x = l .x; z = l .z }) (record { x = x2 .xor .result; z = c .xor3 .result })
+      subst (λ m. Sofar (a .n) (now (a .s)) (now (a .ts)) (a .behind) (now (a .d)) (a .k) m now-have) q
+          (summed-turn (a .k) (xAmong (a .n) (now (a .s)) (now (a .ts))) (zAmong (a .n) (now (a .s)) (now (a .ts)) (a .behind))
+          (λ j. odd (getD (now (a .d)) j 0)) (e i - 1) (e i) p (record { x = l .x; z = l .z }) now-have
           (b .bit .result) (n3 .entry-at3 .result .mac .0) (n3 .entry-at3 .result .key .0) (n4 .entry-at4 .result .mac .0)
           (n4 .entry-at4 .result .key .0) (l .inv .2)
           (n3 .entry-at3 .ensures .0 ∙ ap (λ m. macAt (now (a .s)) (at * m) (a .k)) (long (g i)))
@@ -183,7 +186,7 @@ returns c =
 
 pub sum-entries-spec : {M : Type 1} → statement M
 sum-entries-spec =
-    tie.close (tie.spec Inv-loop μ-loop (λ c κs. c .before .before .before .pre .0 .few) shared-slice-read-first mul-entry-at entry-at-requires add-entry-at
-    mul-entry-at-2 entry-at-requires-2 loop-holds (λ c. search needs) shared-slice-read-t mul-entry-at-3 entry-at-requires-3 add-entry-at-2
+    tie.close (tie.spec Inv-loop μ-loop (λ c κs. c .before .before .before .pre .0 .few) shared-slice-read-first mul-entry-at
+    entry-at-requires add-entry-at mul-entry-at-2 entry-at-requires-2 loop-holds (λ c. search needs) shared-slice-read-t mul-entry-at-3 entry-at-requires-3 add-entry-at-2
     mul-entry-at-4 entry-at-requires-4 (λ c κs. search needs) (λ c κs. search needs) sub-bit bit-requires (λ c κs. search needs)
     (λ c κs. search needs) add-e (λ c. search needs) loop-again returns)
