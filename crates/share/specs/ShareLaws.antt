@@ -320,7 +320,7 @@ pub record-row : (n i count : ℕ) (f : ℕ → Share) (t : ℕ) → t < count
 unfolding chunk
 record-row n i count f t h = chunk-cat (recordLen n) count (λ j. recordOf n i (f j)) (λ j l. length-recordOf n i (f j)) t h
 
-pub read-front : (n i : ℕ) (x : Share) (rest : List ℕ) → SmallShare n x → Agree n i (shareAt (recordOf n i x ++ rest) 0) x
+read-front : (n i : ℕ) (x : Share) (rest : List ℕ) → SmallShare n x → Agree n i (shareAt (recordOf n i x ++ rest) 0) x
 read-front n i x rest = read-here n i x (recordOf n i x ++ rest) 0 (record-behind n i x [] rest 0 refl)
 
 -- a record that is all there is: what is added to it is added to x

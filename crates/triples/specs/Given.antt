@@ -79,7 +79,7 @@ module _ (f : Frame) (w : List ℕ) (j : ℕ) (ts : List ℕ) (h : Numbered f w 
   pub number-entry : (e : ℕ) → e < suc (later f) → getD ts e 0 ≡ entry f (at f PERM w) j e
   number-entry e l = number-at e (omega (arith, number-count))
 
-  pub number-below : 1 ≤ f .l → (e : ℕ) → e < length ts → getD ts e 0 < leaky (f .l)
+  number-below : 1 ≤ f .l → (e : ℕ) → e < length ts → getD ts e 0 < leaky (f .l)
   number-below one e l = omega (arith, number-at e l, entry-lt f (at f PERM w) j e one)
 
 -- a bucket of the sections as they were lent

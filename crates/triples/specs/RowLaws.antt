@@ -60,7 +60,7 @@ module _ (f : Frame) (delta : Block) (w₀ : List ℕ) (j row : ℕ) (h : Work f
         rowed-long (f .n) (f .i) (g .tx) (g .tz) [] (v .done) (recordLen (f .n)) (omega arith)
         ∙ (let e : recordLen (f .n) + recordLen (f .n) ≡ 2 * recordLen (f .n) = omega arith in e)
 
-    pub going-long : length w ≡ length w₀
+    going-long : length w ≡ length w₀
     going-long = ap length (v .here) ∙ length-put row size (v .part) w₀ part-long inside
 
     pub going-work : Work f w
@@ -85,7 +85,7 @@ module _ (f : Frame) (delta : Block) (w₀ : List ℕ) (j row : ℕ) (h : Work f
       pub going-end-in : end ≤ length w
       going-end-in = omega (arith, inside, going-long)
 
-      pub going-lent : get row (end - row) w ≡ v .part
+      going-lent : get row (end - row) w ≡ v .part
       going-lent =
           ap₂ (get row) (let e : end - row ≡ size = omega arith in e) (v .here)
           ∙ get-put-same row size (v .part) w₀ part-long (omega (arith, inside))
