@@ -23,6 +23,10 @@ extern "C" {
 #define NUZSDIKE_PARTY(answer) ((uint64_t)(answer) >> 8)
 #define NUZSDIKE_NO_PARTY ((uint64_t)1 << 32)
 
+/* Bytes of a seed that r is drawn from: a key of AES-128 (FIPS 197). Block c of the strings, counted from 0 over all of them, is c as 128 bits, low byte
+ * first, enciphered. The seed is as public as r is. */
+#define NUZSDIKE_R_SEED 16
+
 /* Opens a session of party i of n, for l ANDs; round 1 is due. session: 4 numbers, written. delta 16 bytes, seed 32, pairs 32 for each party; bits, alpha
  * and beta share records; masks a byte for each party and leaky AND. out: the messages of round 1 to the others, by party, own left out.
  * A refused opening writes nothing: a session that stands in the buffers goes on. */
@@ -35,8 +39,9 @@ uint64_t nuzsdike_open(uint32_t *session, size_t session_len, uint32_t n, uint32
 
 /* The call for a round, with the messages of the others: party k's lies in incoming from starts[k] on, lens[k] bytes and not one more (bytes after a
  * message's value are 21, and end the session); missing[k] other than 0 says that there is none. starts, lens and missing have n entries, the own one
- * is ignored. r and perm are empty but for the calls that nuzsdike_r_len and nuzsdike_perm_len tell. out: the messages of the next round, or the results
- * after the last. */
+ * is ignored. r and perm are empty but for the calls that nuzsdike_r_len and nuzsdike_perm_len tell. There r is all strings, nuzsdike_r_len bytes, or a
+ * seed, NUZSDIKE_R_SEED bytes, from which the library draws them; whichever form a box is lent, the strings have to be the same at all boxes. Any other
+ * length is 17, and so is a seed in another call. out: the messages of the next round, or the results after the last. */
 uint64_t nuzsdike_round(uint32_t *session, size_t session_len, uint32_t round,
                         const uint8_t *incoming, size_t incoming_len, const size_t *starts, size_t starts_len,
                         const size_t *lens, size_t lens_len, const uint8_t *missing, size_t missing_len,
@@ -55,14 +60,14 @@ size_t nuzsdike_bits_len(uint32_t n, uint32_t l);                    /* bytes of
 size_t nuzsdike_shares_len(uint32_t n, uint32_t l);                  /* bytes of alpha, of beta and of the results */
 size_t nuzsdike_masks_len(uint32_t n, uint32_t l);                   /* bytes of the masks */
 size_t nuzsdike_pairs_len(uint32_t n);                               /* bytes of the pairwise seeds */
-size_t nuzsdike_r_len(uint32_t n, uint32_t l, uint32_t round);       /* bytes of r, lent with the call for that round */
+size_t nuzsdike_r_len(uint32_t n, uint32_t l, uint32_t round);       /* bytes of r, lent with the call for that round; or a seed in its place */
 size_t nuzsdike_perm_len(uint32_t n, uint32_t l, uint32_t round);    /* numbers of the permutation, lent with that call */
 size_t nuzsdike_record_len(uint32_t n);                              /* bytes of a share record */
 uint32_t nuzsdike_bucket_size(uint32_t l);                           /* leaky ANDs for each AND */
 
 /* Where the tossed seeds start in the work area of a live session, 0 where opening would refuse n or l. The joint seed, 32 bytes and the same for all,
- * is there once the call for round 3 was accepted: draw r and the permutation from it. The pairwise seeds, nuzsdike_pairs_len(n) bytes by party, once
- * the call for round 5 was. */
+ * is there once the call for round 3 was accepted: take the seed of r from it (its first 16 bytes will do), and draw the permutation. The pairwise seeds,
+ * nuzsdike_pairs_len(n) bytes by party, once the call for round 5 was. */
 size_t nuzsdike_joint_seed_at(uint32_t n, uint32_t l);
 size_t nuzsdike_pairwise_seeds_at(uint32_t n, uint32_t l);
 

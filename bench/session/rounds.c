@@ -1,14 +1,18 @@
 /* Where the time of a session goes: CPU time of box 0, call by call. Boxes in one process, dealt inputs; dealing and copying are not timed.
- * Round 5, which makes `fabitn`, beside the same sums in plain C, to which its messages are held.
- *   rounds N L TIMES: the least of TIMES sessions for each call, in microseconds */
+ * Round 5, which makes `fabitn`, beside the same sums in plain C, to which its messages are held. r is lent as strings, and as the seed that they are
+ * drawn from, in turn.
+ *   rounds N L TIMES [strings | seed]: the least of TIMES sessions for each call, in microseconds */
 #include <stdio.h>
 #include <stdlib.h>
 #include <string.h>
 #include <time.h>
+#include "aes.h"
 #include "nuzsdike.h"
 #include "plain.h"
 
-enum { MOST = 8, LAST = 22, MAKES_FABITN = 5 };
+enum { MOST = 8, LAST = 22, MAKES_FABITN = 5, FORMS = 2 };
+
+static const char *const form_name[FORMS] = {"strings", "seed"};
 
 static uint64_t state = 1;
 static uint64_t word(void) {
@@ -51,11 +55,21 @@ static void deal(uint8_t *list[], size_t count) {
         }
 }
 
+static int usage(void) {
+    fputs("usage: rounds N L TIMES [strings | seed]\n", stderr);
+    return 2;
+}
+
 int main(int argc, char **argv) {
-    if (argc != 4) return fputs("usage: rounds N L TIMES\n", stderr), 2;
+    if (argc != 4 && argc != 5) return usage();
     n = (uint32_t)strtoul(argv[1], 0, 10), l = (uint32_t)strtoul(argv[2], 0, 10);
     size_t times = strtoul(argv[3], 0, 10), work_len = nuzsdike_work_len(n, l), most = nuzsdike_shares_len(n, l), r_len = 0, perm_len = 0;
-    if (!work_len || !times) return fputs("usage: rounds N L TIMES\n", stderr), 2;
+    size_t first = 0, last = FORMS - 1;
+    if (argc == 5) {
+        while (first < FORMS && strcmp(argv[4], form_name[first])) first++;
+        last = first;
+    }
+    if (!work_len || !times || last == FORMS) return usage();
     for (uint32_t k = 0; k <= LAST; k++) {
         if (nuzsdike_out_len(n, l, k) > most) most = nuzsdike_out_len(n, l, k);
         if (nuzsdike_r_len(n, l, k)) r_len = nuzsdike_r_len(n, l, k);
@@ -68,15 +82,18 @@ int main(int argc, char **argv) {
     }
     in = buffer(most * n);
     deal(bits, bits_len / nuzsdike_record_len(n)), deal(alpha, l), deal(beta, l);
-    uint8_t *r = drawn(r_len, 255);
+    uint8_t *r_seed = drawn(NUZSDIKE_R_SEED, 255), *r = buffer(r_len);
+    aes_draw(r_seed, r, r_len / 16);
     uint32_t *perm = malloc(4 * perm_len + 4);
     for (size_t t = 0; t < perm_len; t++) {
         size_t k = word() % (t + 1);
         perm[t] = perm[k], perm[k] = (uint32_t)t;
     }
-    double least[LAST + 1], plain = 1e18;
-    for (size_t k = 0; k <= LAST; k++) least[k] = 1e18;
-    for (size_t turn = 0; turn < times; turn++) {
+    double least[FORMS][LAST + 1], plain = 1e18;
+    for (size_t form = 0; form < FORMS; form++)
+        for (size_t k = 0; k <= LAST; k++) least[form][k] = 1e18;
+    for (size_t turn = 0; turn < times * (last - first + 1); turn++) {
+        size_t form = first + turn % (last - first + 1);
         uint32_t session[MOST][NUZSDIKE_SESSION];
         for (uint32_t i = 0; i < n; i++) {
             double t = now();
@@ -84,11 +101,13 @@ int main(int argc, char **argv) {
                                        masks[i], masks_len, work[i], work_len, out[i], nuzsdike_out_len(n, l, 0));
             t = now() - t;
             if (a) return fprintf(stderr, "opening refused: %u\n", NUZSDIKE_CODE(a)), 1;
-            if (!i && t < least[0]) least[0] = t;
+            if (!i && t < least[form][0]) least[form][0] = t;
         }
         for (uint32_t k; (k = nuzsdike_due(session[0], NUZSDIKE_SESSION)) != 0;) {
             size_t len = nuzsdike_message_len(n, l, k), starts[MOST] = {0}, lens[MOST] = {0};
-            uint8_t missing[MOST] = {0}, *sent[MOST];
+            uint8_t missing[MOST] = {0}, *sent[MOST], *lent = form ? r_seed : r;
+            size_t lent_len = nuzsdike_r_len(n, l, k);
+            if (lent_len && form) lent_len = NUZSDIKE_R_SEED;
             for (size_t j = 0; j < n; j++) memcpy(sent[j] = buffer((n - 1) * len), out[j], (n - 1) * len);
             for (size_t i = 0; i < n; i++) {
                 for (size_t j = 0; j < n; j++) {
@@ -96,11 +115,11 @@ int main(int argc, char **argv) {
                     if (j != i) memcpy(in + j * len, sent[j] + (i < j ? i : i - 1) * len, len);
                 }
                 double t = now();
-                uint64_t a = nuzsdike_round(session[i], NUZSDIKE_SESSION, k, in, n * len, starts, n, lens, n, missing, n, r, nuzsdike_r_len(n, l, k), perm, nuzsdike_perm_len(n, l, k),
+                uint64_t a = nuzsdike_round(session[i], NUZSDIKE_SESSION, k, in, n * len, starts, n, lens, n, missing, n, lent, lent_len, perm, nuzsdike_perm_len(n, l, k),
                                             work[i], work_len, out[i], nuzsdike_out_len(n, l, k));
                 t = now() - t;
                 if (a) return fprintf(stderr, "round %u refused: %u\n", k, NUZSDIKE_CODE(a)), 1;
-                if (!i && t < least[k]) least[k] = t;
+                if (!i && t < least[form][k]) least[form][k] = t;
                 if (i || k != MAKES_FABITN) continue;
                 t = now();
                 if (!plain_sums(bits[0], n, bits_len / (1 + 32 * n), r, r_len / STRINGS, out[0], nuzsdike_message_len(n, l, k + 1)))
@@ -111,15 +130,20 @@ int main(int argc, char **argv) {
             for (size_t j = 0; j < n; j++) free(sent[j]);
         }
     }
-    double sum = 0;
-    for (uint32_t k = 0; k <= LAST; k++)
-        if (least[k] < 1e18) {
-            char name[17] = {0};
-            for (size_t b = 0; b < 16; b++) name[b] = (char)nuzsdike_round_name(k, b);
-            printf("%2u %-14s %12.0f", k, k ? name : "opening", least[k]), sum += least[k];
-            if (k == MAKES_FABITN) printf("  (plain C: %.0f for its sums)", plain);
-            puts("");
-        }
-    printf("n %u l %u: %.2f ms, %.2f us an AND\n", n, l, sum / 1e3, sum / l);
+    double sum[FORMS] = {0};
+    printf("%-17s", "r lent as");
+    for (size_t form = first; form <= last; form++) printf(" %12s", form_name[form]);
+    puts("");
+    for (uint32_t k = 0; k <= LAST; k++) {
+        if (least[first][k] == 1e18) continue;
+        char name[17] = {0};
+        for (size_t b = 0; b < 16; b++) name[b] = (char)nuzsdike_round_name(k, b);
+        printf("%2u %-14s", k, k ? name : "opening");
+        for (size_t form = first; form <= last; form++) printf(" %12.0f", least[form][k]), sum[form] += least[form][k];
+        if (k == MAKES_FABITN) printf("  (plain C: %.0f for its sums; r has %zu Blocks)", plain, r_len / 16);
+        puts("");
+    }
+    for (size_t form = first; form <= last; form++)
+        printf("n %u l %u, r lent as %s: %.2f ms, %.2f us an AND\n", n, l, form_name[form], sum[form] / 1e3, sum[form] / l);
     return 0;
 }

@@ -5,8 +5,10 @@
  *   secrets N L K     the same with one bit of box 1's message of round K to box 0 flipped: the ways of a refusal too
  *   secrets N L K all the same bit for every receiver, so that no echo tells and content is refused
  *   secrets control   a jump and an address that do depend on a secret: memcheck has to see both
+ * Before N, `strings` lends r as strings; else it is a seed, from which the library draws.
  *
- * Secret: delta, the seeds, the share records and the masks. Public: n, i, l, r, the permutation, and what is on the line. So what a call wrote to
+ * Secret: delta, the seeds of the tosses, the share records and the masks. Public: n, i, l, r in either form (bytes of a seed are indices of AES' tables,
+ * and may be), the permutation, and what is on the line. So what a call wrote to
  * the outgoing buffer is declared defined before it is carried over; the results stay undefined, and are looked at by nobody.
  */
 #include <stdio.h>
@@ -75,11 +77,13 @@ int main(int argc, char **argv) {
         control_address(&secret);
         return 0;
     }
+    size_t strings = argc > 1 && !strcmp(argv[1], "strings");
+    argc -= (int)strings, argv += strings;
     uint32_t n = argc > 1 ? (uint32_t)strtoul(argv[1], 0, 10) : 0, l = argc > 2 ? (uint32_t)strtoul(argv[2], 0, 10) : 0;
     uint32_t flip = argc > 3 ? (uint32_t)strtoul(argv[3], 0, 10) : 0, flipped = argc > 4 ? n : 1;
     size_t work_len = nuzsdike_work_len(n, l), record = nuzsdike_record_len(n);
     if (!work_len) {
-        fputs("usage: secrets N L [K [all]] | secrets control\n", stderr);
+        fputs("usage: secrets [strings] N L [K [all]] | secrets control\n", stderr);
         return 2;
     }
     size_t bits_len = nuzsdike_bits_len(n, l), shares_len = nuzsdike_shares_len(n, l), masks_len = nuzsdike_masks_len(n, l);
@@ -125,9 +129,11 @@ int main(int argc, char **argv) {
             size_t starts[MOST] = {0}, lens[MOST] = {0};
             uint8_t missing[MOST] = {0};
             for (size_t k = 0; k < n; k++) starts[k] = k * len, lens[k] = len;
+            size_t lent = nuzsdike_r_len(n, l, round); /* the first of the bytes are the seed */
+            if (lent && !strings) lent = NUZSDIKE_R_SEED;
             VALGRIND_PRINTF("CALL round %u\n", round);
             uint64_t answer = nuzsdike_round(session[i], NUZSDIKE_SESSION, round, incoming[i], n * len, starts, n, lens, n, missing, n, r,
-                                             nuzsdike_r_len(n, l, round), perm, nuzsdike_perm_len(n, l, round), work[i], work_len, next[i], out_len);
+                                             lent, perm, nuzsdike_perm_len(n, l, round), work[i], work_len, next[i], out_len);
             VALGRIND_PRINTF("CALL none\n");
             show(&answer, sizeof answer), show(session[i], sizeof session[i]);
             if (answer) printf("round %u: box %u refuses %u, naming %llu\n", round, i, NUZSDIKE_CODE(answer), (unsigned long long)NUZSDIKE_PARTY(answer)), refused = 1;

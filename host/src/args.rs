@@ -35,6 +35,13 @@ impl Args {
         self.get(name).ok_or(format!("--{name} is missing"))
     }
 
+    /// One of some words, the first where there is none.
+    pub fn choice<'a>(&self, name: &str, words: &[&'a str]) -> Result<&'a str, String> {
+        let value = self.get(name).unwrap_or(words[0]);
+        let found = words.iter().find(|word| **word == value);
+        found.copied().ok_or_else(|| format!("--{name} takes {}, not '{value}'", words.join(" or ")))
+    }
+
     /// A number within bounds, digits alone.
     pub fn number<T: FromStr + PartialOrd + Display>(&self, name: &str, least: T, most: T) -> Result<Option<T>, String> {
         let Some(value) = self.get(name) else { return Ok(None) };
@@ -61,6 +68,15 @@ mod tests {
         assert_eq!(args.number("l", 1, 300_000), Ok(Some(7)));
         assert!(parse(&["--n", "3", "--help", "nonsense"]).unwrap().is_none());
         assert_eq!(parse(&[]).unwrap().unwrap().number("n", 2, 8), Ok(None));
+    }
+
+    #[test]
+    fn choices_are_taken() {
+        let args = parse(&["--l", "ten"]).unwrap().unwrap();
+        assert_eq!(args.choice("n", &["two", "three"]), Ok("two"));
+        assert_eq!(args.choice("l", &["one", "ten"]), Ok("ten"));
+        assert_eq!(args.choice("l", &["one", "two"]), Err("--l takes one or two, not 'ten'".into()));
+        assert!(args.choice("l", &["tens", ""]).is_err());
     }
 
     #[test]

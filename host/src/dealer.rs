@@ -1,7 +1,7 @@
 //! A dealer: honest inputs for demos and tests, in the place of oblivious transfer.
 //!
 //! It knows every box's secrets, and its generator is no cryptographic one. A deployment makes delta, seeds and masks from its own
-//! randomness, the share records by oblivious transfer with the other boxes, and r and the permutation from the tossed joint seed.
+//! randomness, the share records by oblivious transfer with the other boxes, and the permutation from the tossed joint seed, as the boxes do r.
 
 use std::io::{self, Write};
 
@@ -69,7 +69,6 @@ pub fn deal<W: Write>(plan: Plan, seed: u64, boxes: &mut [W], common: &mut impl 
     }
 
     files::Header { kind: files::Kind::Common, n, i: 0, l, id }.write(common)?;
-    common.write_all(&g.bytes(plan.r_total()))?;
     let mut perm: Vec<u32> = (0..plan.perm_total() as u32).collect();
     for t in (1..perm.len()).rev() {
         perm.swap(t, g.below(t + 1));

@@ -5,6 +5,7 @@
 compile_error!("libnuzsdike.a is for 64-bit machines");
 
 pub const SESSION: usize = 4;
+pub const R_SEED: usize = 16;
 
 /// A number for the interface. What 32 bits do not hold is above every limit, and so is the largest that they hold.
 pub fn number(x: usize) -> u32 {

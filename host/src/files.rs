@@ -1,7 +1,7 @@
 //! Files of the demo: a box's inputs, what all boxes have in common, and results. A deployment keeps its inputs elsewhere.
 //!
 //! A file is a header (16 bytes of kind, then n, i and l as 8 bytes each, low byte first, then 16 bytes that name the deal) and the lists one
-//! after another, as long as the library says: delta, seed, pairs, masks, bits, alpha, beta; r and the permutation; the results.
+//! after another, as long as the library says: delta, seed, pairs, masks, bits, alpha, beta; the permutation; the results.
 
 use std::{
     fs::{self, File, OpenOptions},
@@ -66,9 +66,8 @@ impl Header {
     }
 }
 
-/// What all boxes have in common: lent with the calls that ask for it.
+/// What all boxes have in common and do not toss: lent with the call that asks for it.
 pub struct Common {
-    pub r: Vec<u8>,
     pub perm: Vec<u32>,
 }
 
@@ -109,11 +108,10 @@ pub fn read_inputs(file: &mut impl Read) -> io::Result<(Header, Inputs)> {
 
 pub fn read_common(file: &mut impl Read) -> io::Result<(Header, Common)> {
     let header = Header::read(file, Kind::Common)?;
-    let r = list(file, header.plan().r_total())?;
     let perm = list(file, 4 * header.plan().perm_total())?;
     let perm = perm.chunks_exact(4).map(|entry| u32::from_le_bytes(entry.try_into().unwrap())).collect();
     end(file)?;
-    Ok((header, Common { r, perm }))
+    Ok((header, Common { perm }))
 }
 
 pub fn read_results(file: &mut impl Read) -> io::Result<(Header, Vec<u8>)> {

@@ -1,5 +1,5 @@
 //! The host kit of Nuzsdike: a safe wrapper over include/nuzsdike.h (this file), lines between boxes (transport), honest inputs for demos
-//! and tests (dealer), a checker that sees every box's outputs (check), and files for both (files).
+//! and tests (dealer), a checker that sees every box's outputs (check), files for both (files), and AES for r (aes).
 //!
 //! A session, with any transport:
 //!
@@ -18,6 +18,7 @@
 
 use std::hint;
 
+pub mod aes;
 pub mod args;
 pub mod check;
 pub mod dealer;
@@ -114,7 +115,7 @@ impl Plan {
         unsafe { ffi::nuzsdike_pairs_len(ffi::number(self.n)) }
     }
 
-    /// The bytes of r to lend with the call for a round.
+    /// The bytes of r to lend with the call for a round, where all strings are lent; in their place a seed of `R_SEED` bytes may be.
     pub fn r_len(self, round: usize) -> usize {
         unsafe { ffi::nuzsdike_r_len(ffi::number(self.n), ffi::number(self.l), ffi::number(round)) }
     }
@@ -292,7 +293,19 @@ impl Mail {
     }
 }
 
+/// The bytes of a seed that r is drawn from.
+pub const R_SEED: usize = ffi::R_SEED;
+
+/// In which form a box lends r: a seed, from which the library draws the strings, or the strings. Boxes of one session may choose differently.
+#[derive(Clone, Copy, Debug, Default, PartialEq, Eq)]
+pub enum Form {
+    #[default]
+    Seed,
+    Strings,
+}
+
 /// What is lent with some calls, the same at every box; both are public. Empty unless `Plan::r_len` and `Plan::perm_len` ask for them.
+/// r is a seed or the strings that it draws.
 #[derive(Clone, Copy, Default)]
 pub struct Lent<'a> {
     pub r: &'a [u8],
@@ -413,9 +426,22 @@ impl Session {
         self.i
     }
 
-    /// The joint seed, the same at every box, once round 3 was accepted: r and the permutation are to be drawn from it.
+    /// The joint seed, the same at every box, once round 3 was accepted: the seed of r and the permutation are to be taken from it.
     pub fn joint_seed(&self) -> &[u8] {
         &self.work[self.plan.joint_seed_at()..][..32]
+    }
+
+    /// The seed of r: the first 16 bytes of the joint seed. So all boxes have the same, and none knew it before the toss was over.
+    pub fn r_seed(&self) -> [u8; R_SEED] {
+        self.joint_seed()[..R_SEED].try_into().expect("16 bytes")
+    }
+
+    /// r, to be lent with the call that is due it: the seed, or all strings, drawn from it here.
+    pub fn r(&self, form: Form) -> Vec<u8> {
+        match form {
+            Form::Seed => self.r_seed().into(),
+            Form::Strings => aes::draw(&self.r_seed(), self.plan.r_total()),
+        }
     }
 
     /// The seeds tossed with each other box, 32 bytes by party, once round 5 was accepted.

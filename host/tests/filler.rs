@@ -99,7 +99,9 @@ impl Boxes {
             incoming.extend_from_slice(letter.unwrap_or(&[]));
             incoming.extend([7; 40]);
         }
-        let r = if self.plan.r_len(round) != 0 { &self.common.r[..] } else { &[] };
+        // Sound: takes numbers.
+        let joint_seed = unsafe { ffi::nuzsdike_joint_seed_at(ffi::number(self.plan.n), ffi::number(self.plan.l)) };
+        let r = if self.plan.r_len(round) != 0 { state.work[joint_seed..][..ffi::R_SEED].to_vec() } else { vec![] };
         let perm = if self.plan.perm_len(round) != 0 { &self.common.perm[..] } else { &[] };
         state.out = vec![MARK; self.plan.out_len(round)];
         // Sound: as above.

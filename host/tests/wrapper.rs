@@ -4,18 +4,16 @@ use nuzsdike_host::{
     check::{self, Checked, Outputs},
     combine, dealer,
     files::Common,
-    record_len, round_name, round_title, Call, Inputs, Lent, Mail, Outgoing, Plan, Reason, Refusal, Session, Step,
+    record_len, round_name, round_title, Call, Form, Inputs, Lent, Mail, Outgoing, Plan, Reason, Refusal, Session, Step, R_SEED,
 };
-
-fn lent(plan: Plan, round: usize, common: &Common) -> Lent<'_> {
-    Lent { r: if plan.r_len(round) != 0 { &common.r } else { &[] }, perm: if plan.perm_len(round) != 0 { &common.perm } else { &[] } }
-}
 
 /// All boxes of a session in memory, in step.
 struct Run {
     plan: Plan,
     inputs: Vec<Inputs>,
     common: Common,
+    /// How each box lends r.
+    forms: Vec<Form>,
     sessions: Vec<Session>,
     outgoing: Vec<Outgoing>,
 }
@@ -26,7 +24,7 @@ impl Run {
         let (inputs, common) = dealer::deal_in_memory(plan, seed);
         let open = |(i, inputs)| Session::open(plan, i, inputs).unwrap_or_else(|refusal| panic!("{refusal}"));
         let (sessions, outgoing) = inputs.iter().enumerate().map(open).unzip();
-        Run { plan, inputs, common, sessions, outgoing }
+        Run { plan, inputs, common, forms: vec![Form::Seed; n], sessions, outgoing }
     }
 
     /// What box i is to be given for the round that is due.
@@ -39,7 +37,14 @@ impl Run {
     }
 
     fn call(&mut self, i: usize, mail: &Mail) -> Result<Step, Refusal> {
-        self.sessions[i].round(mail, lent(self.plan, mail.round(), &self.common))
+        let r = if self.plan.r_len(mail.round()) != 0 { self.sessions[i].r(self.forms[i]) } else { vec![] };
+        self.call_with(i, mail, &r)
+    }
+
+    /// The call with this r.
+    fn call_with(&mut self, i: usize, mail: &Mail, r: &[u8]) -> Result<Step, Refusal> {
+        let perm = if self.plan.perm_len(mail.round()) != 0 { &self.common.perm[..] } else { &[] };
+        self.sessions[i].round(mail, Lent { r, perm })
     }
 
     /// Carries out the round that is due; gives the results after the last.
@@ -202,9 +207,9 @@ fn a_hosts_mistakes_leave_the_session() {
     let mail = run.mail(0);
     // Without r, and with a permutation that is not due.
     refused(run.sessions[0].round(&mail, Lent::default()), 17, 0, false);
-    let perm = run.common.perm.clone();
-    let both = Lent { r: &run.common.r, perm: &perm };
-    refused(run.sessions[0].round(&mail, both), 17, 0, false);
+    let (r, perm) = (run.sessions[0].r(Form::Strings), run.common.perm.clone());
+    refused(run.sessions[0].round(&mail, Lent { r: &r, perm: &perm }), 17, 0, false);
+    refused(run.sessions[0].round(&mail, Lent { r: &r[..R_SEED], perm: &perm }), 17, 0, false);
     refused(run.call(0, &Mail::new(Plan::new(3, 2), 0, 6)), 19, 0, false);
     refused(run.call(0, &Mail::new(Plan::new(3, 2), 0, 0)), 19, 0, false);
     assert_eq!(run.sessions[0].due(), 5);
@@ -220,6 +225,106 @@ fn a_hosts_mistakes_leave_the_session() {
     refused(run.sessions[2].round(&mail, Lent { r: &[], perm: &outside }), 18, 2, false);
     refused(run.sessions[2].round(&mail, Lent::default()), 17, 2, false);
     assert!(run.call(2, &mail).is_ok());
+}
+
+/// A refused call left the session as it was.
+#[track_caller]
+fn not_taken(run: &mut Run, i: usize, mail: &Mail, r: &[u8]) {
+    let (due, work) = (run.sessions[i].due(), run.sessions[i].work().to_vec());
+    refused(run.call_with(i, mail, r), 17, i, false);
+    assert!(run.sessions[i].due() == due && run.sessions[i].work() == work, "a refused call changed something");
+}
+
+/// r is all strings or one Block, a seed: every other length is 17, and so is a Block in a call that is due no r. Each time the session goes on.
+#[test]
+fn r_has_one_of_two_lengths() {
+    for n in [2, 3, 8] {
+        for form in [Form::Seed, Form::Strings] {
+            let mut run = Run::new(n, 2, 16);
+            run.forms.fill(form);
+            let mut calls = 0;
+            let results = loop {
+                let round = run.sessions[0].due();
+                for i in 0..n {
+                    let mail = run.mail(i);
+                    let all = run.plan.r_len(round);
+                    let lens = if all == 0 {
+                        vec![1, 16, run.plan.r_total()]
+                    } else {
+                        vec![0, 1, 15, 17, 32, all - 16, all - 1, all + 1, all + 16]
+                    };
+                    for len in lens {
+                        not_taken(&mut run, i, &mail, &vec![1; len]);
+                        calls += 1;
+                    }
+                }
+                if let Some(results) = run.step() {
+                    break results;
+                }
+            };
+            assert_eq!(calls, n * (3 * (run.plan.rounds().len() - 1) + 9));
+            assert_eq!(run.check(&results), Ok(Checked { ands: 2, macs: 2 * n * (n - 1) }));
+        }
+    }
+}
+
+/// Whichever form each box lends, all send the same messages and end with the same results; r has 240 to 67,680 Blocks.
+#[test]
+fn a_seed_and_its_strings_are_the_same() {
+    for (n, l) in [(2, 1), (2, 60), (3, 7), (8, 2), (2, 6_000)] {
+        let run = |form: &dyn Fn(usize) -> bool| {
+            let mut run = Run::new(n, l, 17);
+            run.forms = (0..n).map(|i| if form(i) { Form::Strings } else { Form::Seed }).collect();
+            let mut sent = vec![];
+            loop {
+                sent.extend(run.outgoing.iter().flat_map(|outgoing| outgoing.messages().concat()));
+                if let Some(results) = run.step() {
+                    assert_eq!(run.check(&results), Ok(Checked { ands: l, macs: l * n * (n - 1) }));
+                    return (sent, results);
+                }
+            }
+        };
+        let seeds = run(&|_| false);
+        assert!(run(&|_| true) == seeds);
+        for place in 0..n {
+            assert!(run(&|i| i == place) == seeds && run(&|i| i != place) == seeds);
+        }
+    }
+}
+
+/// Every bit of a seed counts: another seed makes other messages. Boxes of two seeds do not go on together, nor does one of a seed with one of other strings.
+#[test]
+fn another_seed_is_another_r() {
+    let made = |change: &dyn Fn(&mut Vec<u8>)| {
+        let mut run = Run::new(2, 1, 18).until(5);
+        let (mail, mut r) = (run.mail(0), run.sessions[0].r(Form::Seed));
+        change(&mut r);
+        match run.call_with(0, &mail, &r) {
+            Ok(Step::Send(outgoing)) => outgoing.to(1).to_vec(),
+            _ => panic!("a seed was refused"),
+        }
+    };
+    let usual = made(&|_| {});
+    for bit in 0..128 {
+        assert_ne!(made(&|r| r[bit / 8] ^= 1 << (bit % 8)), usual, "bit {bit}");
+    }
+    for (n, form, round) in [(2, Form::Seed, 6), (3, Form::Seed, 7), (2, Form::Strings, 6), (3, Form::Strings, 7)] {
+        let mut run = Run::new(n, 1, 18).until(5);
+        let (mails, mut r): (Vec<Mail>, _) = ((0..n).map(|i| run.mail(i)).collect(), run.sessions[0].r(form));
+        // of strings one bit of the first, which chooses the first record
+        r[0] ^= 1;
+        for (i, mail) in mails.iter().enumerate() {
+            let step = if i == 0 { run.call_with(0, mail, &r) } else { run.call(i, mail) };
+            let Ok(Step::Send(outgoing)) = step else { panic!("box {i} is refused") };
+            run.outgoing[i] = outgoing;
+        }
+        if n == 3 {
+            assert!(run.step().is_none());
+        }
+        let mail = run.mail(0);
+        let refusal = run.call(0, &mail).err().expect("a refusal");
+        assert_eq!((refusal.reason, refusal.call, refusal.over), (Reason(8), Call::Round(round), true), "{refusal}");
+    }
 }
 
 /// Opening by mistake into a live session's memory is refused, and the session goes on to the end.

@@ -1,6 +1,7 @@
 //! Runs the Rust of sine-fdn/polytune, compiled unchanged, on recorded values: whole sessions of
 //! document 01 with every message written down, and single functions beside them.
 
+mod aes;
 mod ot_core;
 mod run;
 mod session;
@@ -12,7 +13,7 @@ mod staged {
     pub(crate) mod block;
     pub(crate) mod channel;
     pub(crate) mod crypto {
-        mod aes_rng;
+        pub(crate) mod aes_rng;
         pub(crate) use aes_rng::AesRng;
     }
     pub(crate) mod mpc {
@@ -31,6 +32,7 @@ pub mod damage;
 pub mod expect;
 pub mod rules;
 
+pub use aes::{aes_block, aes_blocks, seed_of, tossed};
 pub use mpc::faand::inside::{Sums, combine, r_sum};
-pub use run::{End, Message, Outcome, aes_blocks, cpu_time, honest, round_name, run};
+pub use run::{End, Message, Outcome, cpu_time, honest, round_name, run};
 pub use session::{ENTRY, Party, Session, SplitMix, bucket_size, draw, drawn_bit, key_at, mac_at, record_len};

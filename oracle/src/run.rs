@@ -12,13 +12,11 @@ use std::{
     task::{Context, Poll, Waker},
 };
 
-use rand::{RngExt, SeedableRng};
 use recorded::Values;
 
 use crate::{
     block::Block,
     channel::{Channel, ErrorKind},
-    crypto::AesRng,
     mpc::{
         data_types::{Auth, Delta, Key, Mac, Share},
         faand::{self, Error},
@@ -224,7 +222,7 @@ pub(crate) fn put(out: &mut Vec<u8>, share: &Share) {
 }
 
 /// The recorded values of party i, in the order in which the Rust draws them.
-fn values(s: &Session, i: usize, r: &Arc<Vec<u8>>, permutation: &Arc<Vec<u32>>) -> Values {
+fn values(s: &Session, i: usize, r: &Option<Arc<Vec<u8>>>, permutation: &Arc<Vec<u32>>) -> Values {
     let p = &s.parties[i];
     let lb = s.l * s.b();
     let mut draws = p.joint_seed.to_vec();
@@ -379,7 +377,8 @@ pub fn run(
         values: Option<Values>,
         outputs: Outputs,
     }
-    let r = Arc::new(s.r.clone());
+    // Where r comes from the seed that the Rust tosses itself, it draws it by itself too.
+    let r = (s.r_seed != Some(s.tossed_seed())).then(|| Arc::new(s.r.clone()));
     let permutation = Arc::new(s.permutation.clone());
     let mut running: Vec<Option<Running>> = (0..n)
         .map(|i| {
@@ -470,10 +469,4 @@ pub fn run(
         pair_seeds: lines.iter().map(|line| line.pairs.take()).collect(),
         nanoseconds,
     }
-}
-
-/// Blocks as `AesRng` draws them from a seed, by AES itself.
-pub fn aes_blocks(seed: [u8; 16], count: usize) -> Vec<[u8; 16]> {
-    let mut rng = AesRng::from_seed(Block::new(seed));
-    (0..count).map(|_| rng.random::<Block>().into()).collect()
 }

@@ -1,6 +1,9 @@
 //! The inputs of one session: the file format, a check of their shape, and a generator.
 
-use crate::mpc::faand;
+use crate::{
+    aes::{aes_blocks, tossed},
+    mpc::faand,
+};
 
 /// What opening takes for one party, as document 01 lays it out.
 #[derive(Clone, Debug, Default, PartialEq, Eq)]
@@ -26,6 +29,8 @@ pub struct Session {
     pub parties: Vec<Party>,
     /// 120 strings of Blocks, the same for all.
     pub r: Vec<u8>,
+    /// The seed that r was drawn from, if it was; no part of the session's file.
+    pub r_seed: Option<[u8; 16]>,
     /// Of 0 to l·b − 1, the same for all.
     pub permutation: Vec<u32>,
 }
@@ -67,6 +72,24 @@ impl Session {
     /// Bytes of r.
     pub fn r_len(&self) -> usize {
         120 * self.bits_count().div_ceil(128) * 16
+    }
+
+    /// Takes for r what the Rust's `AesRng` draws from a seed.
+    pub fn draw_r(&mut self, seed: [u8; 16]) {
+        self.r = aes_blocks(seed, self.r_len() / 16).concat();
+        self.r_seed = Some(seed);
+    }
+
+    /// The seed that the Rust itself takes for `AesRng` once the joint toss is over.
+    pub fn tossed_seed(&self) -> [u8; 16] {
+        let mut joint = [0; 32];
+        for p in &self.parties {
+            joint
+                .iter_mut()
+                .zip(p.joint_seed)
+                .for_each(|(sum, byte)| *sum ^= byte);
+        }
+        tossed(joint)
     }
 
     /// Whether the Rust can be given these inputs. What it has no way to hold (a bit of 2, a list

@@ -19,7 +19,7 @@ use Rattle.message.specs.Format as Format
 use Rattle.message.specs.Read as Read
 use Rattle.permutation.specs.Permutation.{isPerm}
 use Rattle.plan.specs.Plan as Plan
-use Rattle.plan.specs.Plan.{FABITN, DVALUE, echo?, isRound, nextRound, kindOf, countDue, msgLen, outLen, leaky, rLen, InRange}
+use Rattle.plan.specs.Plan.{FABITN, DVALUE, echo?, isRound, nextRound, kindOf, countDue, msgLen, outLen, leaky, InRange}
 use Rattle.plan.specs.PlanLaws.{Rest, kind-rest, count-rest, out-len-last, out-len}
 use Rattle.engine.specs.declared.Frame.{Frame}
 use Rattle.engine.specs.declared.Session.{Session}
@@ -37,6 +37,7 @@ use Rattle.rounds.specs.MailLaws.{neq-same}
 use Rattle.rounds.specs.FaultLaws.{Finds}
 use Rattle.rounds.specs.Echo.{echo}
 use Rattle.rounds.specs.EchoLaws.{Received}
+use Rattle.rounds.specs.Fabitn.{rFits}
 use Rattle.rounds.specs.Table.{table, noLoan, lent, fine}
 use Rattle.area.specs.Given.{Ranged}
 use Rattle.admit.specs.Admit.{loan, given, lengthsFit, fits, kindFault, eight, mailOf, posted}
@@ -114,7 +115,7 @@ lent-none k n l q a b = rw (ne-eqb k FABITN a, ne-eqb k DVALUE b) refl
 
 -- by the round that is written
 module _ (j n l : ℕ) (r perm : List ℕ) where
-  pub lent-r : j ≡ FABITN → (x : ℕ) (b : Bool) → b ≡ (eqb (length r) (rLen l) && eqb (length perm) 0) → x ≡ pick b 0 17
+  pub lent-r : j ≡ FABITN → (x : ℕ) (b : Bool) → b ≡ (rFits l (length r) && eqb (length perm) 0) → x ≡ pick b 0 17
       → x ≡ lent j n l (loan r perm)
   unfolding lent
   lent-r e x b h w = rw (e) (w ∙ ap (λ c. pick c 0 17) h)

@@ -4,12 +4,13 @@
 ghost use mathlib.Core.Path.{_≡_};
 ghost use mathlib.Core.Bool.{true, _&&_};
 ghost use mathlib.Core.List.{[]};
-ghost use Prim.Native.Nat.{ℕ, _<_};
+ghost use Prim.Native.Nat.{ℕ, _<_, _≤_};
 ghost use lib.ListN.{length};
 ghost use lib.Dec.{eqb};
 ghost use Rattle.plan.specs.Plan.{InRange};
 ghost use Rattle.engine.specs.Step.{frame, partsIn, reasonOf};
 ghost use Rattle.engine.specs.Plain.{protocolOf, lentOf};
+ghost use Rattle.rounds.specs.Fabitn.{rFits};
 ghost use Rattle.rounds.specs.Table as T;
 ghost use Rattle.rounds.specs.Table.{table};
 ghost use Rattle.admit.specs.Admit.{loan, given, lengthsFit, fits};
@@ -35,6 +36,14 @@ pub fn alive(s: Session) -> bool
 
 // ---- 17 and 18 of what is lent
 
+// r is as long as all strings, or a seed.
+fn r_fits(r: usize, l: usize) -> bool
+    requires { ⌜ l ≤ 300000 ⌝ }
+    ensures { λ b. ⌜ b ≡ rFits l r ⌝ }
+{
+    (r == plan::r_len(l)) | draw::is_seed(r)
+}
+
 // r and the permutation have the lengths due.
 fn loaned(r: usize, r_due: usize, perm: usize, perm_due: usize) -> bool
     ensures { λ b. ⌜ b ≡ (eqb r «r_due» && eqb perm «perm_due») ⌝ }
@@ -49,7 +58,7 @@ pub fn lent(k: usize, n: usize, l: usize, r: &[u8], perm: &[u32]) -> u8
 {
     let next = plan::next_round(n, k);
     if next == plan::FABITN {
-        if loaned(r.len(), plan::r_len(l), perm.len(), 0) {
+        if r_fits(r.len(), l) & (perm.len() == 0) {
             return 0;
         }
         return 17;

@@ -1,6 +1,6 @@
 -- What one box sends and what it ends with, whoever it talks to (document 01, "What each round means"): of what it was opened with, its
 -- inputs, of the r strings and the permutation that it was lent, and of the messages that it received: `mail k j` is party j's for round k.
--- Nothing here knows a work area.
+-- `strings` is r as it was lent, all strings or a seed. Nothing here knows a work area.
 use mathlib.Core.Bool.{Bool, cond, _&&_}
 use mathlib.Core.List.{List, []}
 use Prim.Native.Nat.{ℕ, suc, _+_, _*_}

@@ -13,7 +13,7 @@ use borrow.Author.Tests.{ltb-true, ltb-false}
 use Rattle.lists.specs.Over.{tab, length-tab, getD-tab, cat}
 use Rattle.lists.specs.Rows.{cat-inside, cat-part}
 use Rattle.algebra.specs.Sum.{neq-true, neq-self}
-use Rattle.engine.specs.Step.{frame, Lent, Protocol, gone, part, stretch, reasonOf}
+use Rattle.engine.specs.Step.{frame, Loan, Lent, Protocol, gone, part, stretch, reasonOf}
 use Rattle.engine.specs.StepLaws.{no-reason, lengths-hold}
 use Rattle.engine.specs.World.{In, here, there, All, update, Opening, Box, Note, note, World, Call, opening, turn, start, turned}
 use Rattle.engine.specs.World.{after, run, runs, sessionAt, Scene, Course, Reads, its-own, Fair, FairList, Done}
@@ -25,15 +25,25 @@ update-same f i a = rw (neq-self i) refl
 update-other : {A : Type 0} (f : ℕ → A) (i j : ℕ) (a : A) → i ≢ j → update f i a j ≡ f j
 update-other f i j a ne = rw (neq-true i j ne) refl
 
--- inputs for every box, and r Blocks and a permutation that have no reason
-pub record Cast {Args : Type 0} (S : Scene Args) (D : Duty S) : Type 0 where
-  pub args : ℕ → Args
-  pub given : (b : ℕ) → b < S .n → S .Given b (args b)
-  pub valid : (d : ℕ) → d < S .course .steps
-      → S .protocol .rule (S .course .number d) .lent (S .n) (S .l) (D .loans (S .course .number d)) ≡ 0
-  pub agree : (d : ℕ) → d < S .course .steps → S .Agrees (S .course .number d) (D .loans (S .course .number d))
+-- the last one below suc m, or one below m
+up-to : (b m : ℕ) → b < suc m → (Q : ℕ → Type 0) → Q m → (b < m → Q b) → Q b
+up-to b m h Q qm qb = go (ltb b m) refl
+  where
+    go : (t : Bool) → ltb b m ≡ t → Q b
+    go true e = qb (ltb-true b m e)
+    go false e = subst Q (let p : m ≡ b = omega (arith, ltb-false b m e) in p) qm
 
-module _ {Args : Type 0} (S : Scene Args) (D : Duty S) (K : Cast S D) where
+-- inputs for every box, and r Blocks and a permutation that have no reason: lends b k, with box b's call for round k. What is lent may
+-- differ from box to box.
+pub record Cast {Args : Type 0} (S : Scene Args) : Type 0 where
+  pub args : ℕ → Args
+  pub lends : ℕ → ℕ → Loan
+  pub given : (b : ℕ) → b < S .n → S .Given b (args b)
+  pub valid : (b d : ℕ) → b < S .n → d < S .course .steps
+      → S .protocol .rule (S .course .number d) .lent (S .n) (S .l) (lends b (S .course .number d)) ≡ 0
+  pub agree : (b d : ℕ) → b < S .n → d < S .course .steps → S .Agrees (S .course .number d) (lends b (S .course .number d))
+
+module _ {Args : Type 0} (S : Scene Args) (D : Duty S) (K : Cast S) where
   abbrev P : Protocol
   P = S .protocol
 
@@ -62,7 +72,7 @@ module _ {Args : Type 0} (S : Scene Args) (D : Duty S) (K : Cast S D) where
     starts = tab n (λ j. length (cat j (pieces d b)));
     lens = tab n (λ j. length (pieces d b j));
     missing = tab n (λ j. 0);
-    loan = D .loans (C .number d);
+    loan = K .lends b (C .number d);
     out = replicate (P .rule (C .number d) .outLen (frame n (S .l) b)) 0;
   }
 
@@ -112,18 +122,11 @@ module _ {Args : Type 0} (S : Scene Args) (D : Duty S) (K : Cast S D) where
 
   stage-next : (e m : ℕ) (rest : ℕ → Option Box) (w : World) → Stage e m rest w → Stage e (suc m) rest (onward w e m)
   stage-next e m rest w s = record {
-    ahead = λ b h. split b h (λ i. update (w .box) m (some (at e m)) i ≡ some (at e i)) (update-same (w .box) m (some (at e m)))
+    ahead = λ b h. up-to b m h (λ i. update (w .box) m (some (at e m)) i ≡ some (at e i)) (update-same (w .box) m (some (at e m)))
         (λ h′. update-other (w .box) m b (some (at e m)) (λ q. omega arith) ∙ s .ahead b h′);
     behind = λ b h h′. update-other (w .box) m b (some (at e m)) (λ q. omega arith) ∙ s .behind b (omega arith) h′;
-    wrote = λ b h. split b h (λ i. In (noteAt e i) (noteAt e m ∷ w .log)) here (λ h′. there (s .wrote b h′));
+    wrote = λ b h. up-to b m h (λ i. In (noteAt e i) (noteAt e m ∷ w .log)) here (λ h′. there (s .wrote b h′));
   }
-    where
-      split : (b : ℕ) → b < suc m → (Q : ℕ → Type 0) → Q m → (b < m → Q b) → Q b
-      split b h Q qm qb = go (ltb b m) refl
-        where
-          go : (t : Bool) → ltb b m ≡ t → Q b
-          go true e′ = qb (ltb-true b m e′)
-          go false e′ = subst Q (let p : m ≡ b = omega (arith, ltb-false b m e′) in p) qm
 
   -- ---- openings
   open-after : (w : World) (b : ℕ) → b < n → after P O w (opening b (K .args b)) ≡ onward w 0 b
@@ -158,18 +161,18 @@ module _ {Args : Type 0} (S : Scene Args) (D : Duty S) (K : Cast S D) where
         (lengths-hold _ _ (frame n (S .l) b) (lentFor d b) (on d .work b) long
         (length-replicate (P .rule (C .number d) .outLen (frame n (S .l) b)) 0) (length-tab n _) (length-tab n _) (length-tab n _)
         (λ j lj. rw (start-at d b j lj, len-at d b j lj) (cat-inside n (pieces d b) j lj)))
-        (K .valid d ld)
+        (K .valid b d lb ld)
       where
         long : length (on d .work b) ≡ P .workLen (frame n (S .l) b)
         long = D .rounds d ld .sized (on d) (holds S D d (omega arith)) b lb
 
     turn-fair : w .box b ≡ some (at d b) → Fair S w (turn b (C .number d) (lentFor d b))
-    turn-fair e = (lb, rw e (λ z. (reads, K .agree d ld)))
+    turn-fair e = (lb, rw e (λ z. (reads, K .agree b d lb ld)))
 
     turn-after : w .box b ≡ some (at d b) → Clean w → after P O w (turn b (C .number d) (lentFor d b)) ≡ onward w (suc d) b
     turn-after e c =
         ap (turned P w b (C .number d) (lentFor d b)) e
-        ∙ rw (goes-on S D b (C .number d) d (lentFor d b) (w .log) B reads (K .agree d ld) reason-none) refl
+        ∙ rw (goes-on S D b (C .number d) d (lentFor d b) (w .log) B reads (K .agree b d lb ld) reason-none) refl
       where
         B : Before S D b d (w .log)
         B = record { box = lb; step = omega arith; notes = c }
@@ -236,3 +239,52 @@ module _ {Args : Type 0} (S : Scene Args) (D : Duty S) (K : Cast S D) where
   robin-done b lb =
       let e : runs S (robin (C .steps)) .box b ≡ some (at (C .steps) b) = level (C .steps) (le-refl (C .steps)) .1 .stand b lb in
       (at (C .steps) b, e, every-done S D (robin (C .steps)) fair-robin b (at (C .steps) b) e .1 refl)
+
+  -- ---- what that list lends: every call what the cast says
+  abbrev pub AsCast : Call Args → Type 0
+  AsCast (opening b a) = Unit {0}
+  AsCast (turn b k q) = q .loan ≡ K .lends b k
+
+  all-append : (xs ys : List (Call Args)) → All AsCast xs → All AsCast ys → All AsCast (xs ++ ys)
+  all-append [] ys f g = g
+  all-append (x ∷ xs) ys f g = (f .0, all-append xs ys (f .1) g)
+
+  open-lends : (m : ℕ) → All AsCast (openAll m)
+  open-lends zero = tt
+  open-lends (suc m) = all-append (openAll m) _ (open-lends m) (tt, tt)
+
+  round-lends : (d m : ℕ) → All AsCast (roundAll d m)
+  round-lends d zero = tt
+  round-lends d (suc m) = all-append (roundAll d m) _ (round-lends d m) (refl, tt)
+
+  lends-to : (d : ℕ) → All AsCast (robin d)
+  lends-to zero = open-lends n
+  lends-to (suc d) = all-append (robin d) (roundAll d n) (lends-to d) (round-lends d n)
+
+  pub robin-lends : All AsCast (robin (S .course .steps))
+  robin-lends = lends-to (C .steps)
+
+  -- and it has a call of each box for each round
+  in-left : {c : Call Args} {xs : List (Call Args)} (ys : List (Call Args)) → In c xs → In c (xs ++ ys)
+  in-left ys here = here
+  in-left ys (there h) = there (in-left ys h)
+
+  in-right : {c : Call Args} (xs : List (Call Args)) {ys : List (Call Args)} → In c ys → In c (xs ++ ys)
+  in-right [] h = h
+  in-right (x ∷ xs) h = there (in-right xs h)
+
+  round-has : (d b m : ℕ) → b < m → In (turn b (C .number d) (lentFor d b)) (roundAll d m)
+  round-has d b zero h = absurd (omega arith)
+  round-has d b (suc m) h =
+      up-to b m h (λ i. In (turn i (C .number d) (lentFor d i)) (roundAll d (suc m))) (in-right (roundAll d m) here)
+      (λ h′. in-left _ (round-has d b m h′))
+
+  has-to : (d b e : ℕ) → b < n → d < e → In (turn b (C .number d) (lentFor d b)) (robin e)
+  has-to d b zero lb h = absurd (omega arith)
+  has-to d b (suc e) lb h =
+      up-to d e h (λ i. In (turn b (C .number i) (lentFor i b)) (robin (suc e))) (in-right (robin e) (round-has e b n lb))
+      (λ h′. in-left _ (has-to d b e lb h′))
+
+  pub robin-has : (b d : ℕ) → b < S .n → d < S .course .steps
+      → In (turn b (S .course .number d) (lentFor d b)) (robin (S .course .steps))
+  robin-has b d lb ld = has-to d b (C .steps) lb ld

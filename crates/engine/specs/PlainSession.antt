@@ -60,6 +60,29 @@ module _ (T : Table) (n l : ℕ) {Args : Type 0} (O : Opening Args) (Agree : ℕ
     Given = Given;
   }
 
+  -- its premises can be met: inputs for every box, and r Blocks and a permutation that have no reason: lends b j, with the call of box b
+  -- that makes the messages of round j
+  pub record Supply : Type 0 where
+    pub args : ℕ → Args
+    pub lends : ℕ → ℕ → Loan
+    pub given : (b : ℕ) → b < n → Given b (args b)
+    pub valid : (b j : ℕ) → b < n → T .send j .lent n l (lends b j) ≡ 0
+    pub agree : (b j : ℕ) → b < n → Agree j (lends b j)
+
+  pub castOf : Supply → Cast sceneOf
+  unfolding lentOf
+  castOf I = record {
+    args = I .args;
+    lends = λ b k. I .lends b (nextOf T (eqb n 2) k);
+    given = I .given;
+    valid = λ b d lb h. I .valid b (nextOf T (eqb n 2) (numberOf T (eqb n 2) d)) lb;
+    agree = λ b d lb h. I .agree b (nextOf T (eqb n 2) (numberOf T (eqb n 2) d)) lb;
+  }
+
+  pub cast-lends : (I : Supply) (b k : ℕ) → castOf I .lends b k ≡ I .lends b (nextOf T (eqb n 2) k)
+  unfolding castOf
+  cast-lends I b k = refl
+
 -- ---- what is left to show for it
 module _ (T : Table) (U : Script) (n l : ℕ) {Args : Type 0} (O : Opening Args) (Agree : ℕ → Loan → Type 0) (Given : ℕ → Args → Type 0)
     (W : Lawful T n l) where
@@ -109,19 +132,3 @@ module _ (T : Table) (U : Script) (n l : ℕ) {Args : Type 0} (O : Opening Args)
         let r = every-result scene dutyOf cs fair b x e done in
         let h : dutyOf .Holds 0 G = subst (λ k. dutyOf .Holds k G) (number-end T n l W) (r .2) in
         (r .0, r .1 ∙ h b (r .0))
-
-    -- the premises can be met: inputs for every box, and r Blocks and a permutation that have no reason
-    pub record Supply : Type 0 where
-      pub args : ℕ → Args
-      pub given : (b : ℕ) → b < n → Given b (args b)
-      pub valid : (j : ℕ) → T .send j .lent n l (U .loan j) ≡ 0
-      pub agree : (j : ℕ) → Agree j (U .loan j)
-
-    pub castOf : Supply → Cast scene dutyOf
-    unfolding lentOf loansOf
-    castOf I = record {
-      args = I .args;
-      given = I .given;
-      valid = λ d h. I .valid (nextOf T (eqb n 2) (numberOf T (eqb n 2) d));
-      agree = λ d h. I .agree (nextOf T (eqb n 2) (numberOf T (eqb n 2) d));
-    }

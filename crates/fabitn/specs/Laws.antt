@@ -1,170 +1,162 @@
--- What is lent suffices for the sums, the sums are those that crate rbits makes, and their words read back as Blocks.
+-- What crate rsums asks is given, and its sums, as they are kept and sent, are those of the definitions.
 use mathlib.Core.Path.{_≡_, refl, sym, ap, ap₂, _∙_}
 use mathlib.Core.Logic.{_≢_}
-use mathlib.Core.Bool.{Bool, true, false}
-use mathlib.Core.List.{List, [], _∷_, _++_}
-use Prim.Native.Nat.{ℕ, zero, suc, _+_, _*_, _<_, _≤_}
-use native.Mathlib.Nat.{zero-mul, suc-mul, add-zero}
+use mathlib.Core.Bool.{Bool, true, false, _||_}
+use mathlib.Core.List.{List}
+use Prim.Native.Nat.{ℕ, _+_, _-_, _*_, _/_, _%_, _<_, _≤_}
 use native.Mathlib.Omega.{arith}
-use lib.ListN.{length, getD, replicate, replicate-append-replicate}
+use lib.ListN.{length, getD, replicate}
+use lib.Dec.{ltb}
+use borrow.Author.Tests.{ltb-true, ltb-false, lt-ltb, le-ltb, eqb-true, ne-eqb}
 use Rattle.lists.specs.Pick.{pick}
 use Rattle.lists.specs.Over.{tab, cat, getD-tab, length-cat}
-use Rattle.lists.specs.Rows.{chunk, chunk-cat, getD-chunk, cat-ext}
-use Rattle.algebra.specs.Group.{sel, odd, num, odd-num}
-use Rattle.algebra.specs.Sum.{neq, neq-true}
+use Rattle.lists.specs.Rows.{cat-ext}
+use Rattle.algebra.specs.Group.{odd, num, odd-num}
 use Rattle.block.specs.declared.Block.{Block}
-use Rattle.block.specs.Block.{le8, bytesOf, zeroOf}
-use Rattle.block.specs.Group.{blocks}
+use Rattle.block.specs.Block.{bytesOf}
 use Rattle.block.specs.Trip.{length-bytesOf}
-use Rattle.share.specs.Layout.{key-behind, entry-within}
 use Rattle.share.specs.Record.{recordLen, macOff, keyOff, bitAt, macAt, keyAt}
 use Rattle.encode.specs.Encode.{encode, bitBlock}
-use Rattle.encode.specs.Coded.{encode-ext, length-encode, length-bitBlock}
+use Rattle.encode.specs.Coded.{encode-ext}
 use Rattle.plan.specs.Plan.{bitsCount, rBlocks, rLen}
-use Rattle.rbits.specs.Chosen.{blockSum, bitSum, wordsOf, pairAt, Lent}
+use Rattle.plan.specs.PlanLaws.{r-blocks-most}
+use Rattle.rbits.specs.Chosen.{blockSum, bitSum, wordsOf, pairAt}
+use Rattle.rbits.specs.WordLaws.{words-at}
+use Rattle.draw.specs.Strings.{strings, seed?}
+use Rattle.rsums.specs.Sums.{Given, partySums}
 use Rattle.engine.specs.declared.Frame.{Frame}
-use Rattle.rounds.specs.Area.{BITS, sizes, sizeOf, at}
+use Rattle.engine.specs.StepLaws.{other-cases}
+use Rattle.engine.specs.Area.{nth, toOthers}
+use Rattle.rounds.specs.Area.{BITS, sizes, sizeOf, at, rows}
 use Rattle.rounds.specs.Fabitn as Fabitn
-use Rattle.rounds.specs.Fabitn.{STRINGS, ITEM, MSG, ROW}
-use Rattle.rounds.specs.Loops.{rowOf}
-use Rattle.area.specs.Given.{Work}
+use Rattle.rounds.specs.Fabitn.{STRINGS, ROW, rFits}
+use Rattle.area.specs.Given.{Ranged, Work}
 use Rattle.area.specs.GivenLaws.{length-at}
-use Rattle.fabitn.specs.Given.{Given, offOf, sumOf}
+use Rattle.fabitn.specs.Rows.{placeOf, heldRow}
 
--- ---- words of Blocks
-pub words-pair : (n : ℕ) (g : ℕ → Block) (j : ℕ) → j < n → pairAt (wordsOf n g) j ≡ g j
-unfolding wordsOf
-words-pair n g j h =
-    let two : ℕ → List ℕ = λ t. g t .0 ∷ g t .1 ∷ [] in
-    let e : chunk 2 j (cat n two) ≡ two j = chunk-cat 2 n two (λ t l. refl) j h in
-    let at : (k : ℕ) → k < 2 → getD (cat n two) (j * 2 + k) 0 ≡ getD (two j) k 0 =
-    λ k l. sym (getD-chunk 2 j (cat n two) k 0 l) ∙ ap (λ (x : List ℕ). getD x k 0) e in
-    let low : getD (cat n two) (j * 2) 0 ≡ g j .0 = ap (λ k. getD (cat n two) k 0) (sym (add-zero (j * 2))) ∙ at 0 (omega arith) in
-    let high : getD (cat n two) (j * 2 + 1) 0 ≡ g j .1 = at 1 (omega arith) in
-    λ i. record { 0 = low i; 1 = high i }
+-- ---- which of the others a party is
+pub place-low : (i k : ℕ) → k < i → k ≡ placeOf i k
+unfolding placeOf
+place-low i k h = rw (lt-ltb k i h) refl
 
-pub words-nil : replicate 240 0 ≡ wordsOf STRINGS (λ j. blocks .nil)
-unfolding wordsOf cat blocks zeroOf
-words-nil = refl
+pub place-high : (i k : ℕ) → i ≤ k → k - 1 ≡ placeOf i k
+unfolding placeOf
+place-high i k h = rw (le-ltb k i h) refl
+
+place-by : {C : Type 0} (i k : ℕ) → i ≢ k → (k < i → placeOf i k ≡ k → C) → (i < k → placeOf i k ≡ k - 1 → C) → C
+place-by {C} i k ne low high = go (ltb k i) refl
+  where
+    go : (b : Bool) → ltb k i ≡ b → C
+    go true e = low (ltb-true k i e) (sym (place-low i k (ltb-true k i e)))
+    go false e = high (omega (arith, ltb-false k i e, ne)) (sym (place-high i k (ltb-false k i e)))
+
+pub place-below : (n i k : ℕ) → i ≢ k → i < n → k < n → placeOf i k < n - 1
+place-below n i k ne hi hk = place-by i k ne (λ h e. omega arith) (λ h e. omega arith)
+
+nth-place : (i k : ℕ) → i ≢ k → nth i (placeOf i k) ≡ k
+unfolding nth
+nth-place i k ne =
+    place-by i k ne (λ h e. rw (e, lt-ltb k i h) refl) (λ h e. rw (e, le-ltb (k - 1) i (omega arith)) (omega arith))
+
+-- the row that is kept for a party is as long as it should be
+pub length-held : (i : ℕ) (words : List ℕ) (k : ℕ) → length (heldRow i words k) ≡ ROW
+unfolding heldRow
+length-held i words k = length-cat STRINGS 16 _ (λ j h. length-bytesOf _)
 
 -- ---- what is lent
--- the records of a work area
-pub given : {f : Frame} {w : List ℕ} → Work f w → (recs r : List ℕ) → recs ≡ at f BITS w → length r ≡ rLen (f .l) → Given f recs r
-unfolding sizeOf sizes
-given h recs r e er = record { range = h .ranges .range; records = ap length e ∙ length-at h BITS (omega arith); strings = er }
+-- all strings, or a seed
+strings-fit : (l len : ℕ) → rFits l len ≡ true → len ≢ 16 → len ≡ rLen l
+unfolding rFits seed?
+strings-fit l len h ne = eqb-true len (rLen l) (first _ _ h (ne-eqb len 16 ne))
+  where
+    first : (a b : Bool) → (a || b) ≡ true → b ≡ false → a ≡ true
+    first true b e f = refl
+    first false b e f = sym f ∙ e
 
--- the numbers as the code has them
-module _ {f : Frame} {recs r : List ℕ} (g : Given f recs r) (stride count b : ℕ)
-    (es : stride ≡ recordLen (f .n)) (ec : count ≡ bitsCount (f .l)) (eb : b ≡ rBlocks (f .l)) where
-  pub lent : Lent recs stride count r (16 * b)
-  unfolding rLen rBlocks
-  lent = record {
-    records = rw (es, ec) (omega (arith, g .records));
-    strings = omega (arith, g .strings);
-    enough = omega arith;
-    words = omega arith;
-  }
-
-  -- the sums by the definitions' numbers
-  pub sums-are : (at at′ : ℕ) → at ≡ at′
-      → blockSum recs stride at r (16 * b) count ≡ blockSum recs (recordLen (f .n)) at′ r (16 * rBlocks (f .l)) (bitsCount (f .l))
-  sums-are at at′ ea i = blockSum recs (es i) (ea i) r (16 * eb i) (ec i)
-
-  pub bits-are : tab STRINGS (λ j. num (bitSum recs stride r (16 * b) count j))
-      ≡ tab STRINGS (λ j. num (bitSum recs (recordLen (f .n)) r (16 * rBlocks (f .l)) (bitsCount (f .l)) j))
-  bits-are i = tab STRINGS (λ j. num (bitSum recs (es i) r (16 * eb i) (ec i) j))
+-- the records of a work area, and the numbers as the code has them
+pub given : {f : Frame} {w : List ℕ} → Work f w → (recs r : List ℕ) (count b : ℕ) → recs ≡ at f BITS w → rFits (f .l) (length r) ≡ true
+    → count ≡ bitsCount (f .l) → b ≡ rBlocks (f .l) → Given (f .n) (f .i) count b recs r
+unfolding sizeOf sizes rLen rBlocks
+given {f} h recs r count b e fits ec eb =
+    let long : length recs ≡ bitsCount (f .l) * recordLen (f .n) = ap length e ∙ length-at h BITS (omega arith) in
+    record {
+      two = h .ranges .range .two;
+      eight = h .ranges .range .eight;
+      own = h .ranges .own;
+      records = rw (ec) (omega (arith, long));
+      whole = record { lent = λ ne. omega (arith, strings-fit (f .l) (length r) fits ne) };
+      enough = omega arith;
+      most = omega (arith, r-blocks-most (f .l) (h .ranges .range .most));
+    }
 
 -- ---- the sums are those of the definitions
+-- `count` records are summed, and a string has b Blocks
+module _ (f : Frame) (r recs : List ℕ) (count b : ℕ) where
+  abbrev bits : ℕ → Bool
+  bits = bitSum recs (recordLen (f .n)) (strings (STRINGS * b) r) (16 * b) count
+
+  abbrev entries : ℕ → ℕ → Block
+  entries off = blockSum recs (recordLen (f .n)) off (strings (STRINGS * b) r) (16 * b) count
+
+  abbrev parties : (ℕ → ℕ) → ℕ → Block
+  parties off = partySums off (f .n) (f .i) recs (strings (STRINGS * b) r) (16 * b) count
+
 module _ (f : Frame) (r recs : List ℕ) where
-  abbrev stride : ℕ
-  stride = recordLen (f .n)
-
-  abbrev row : ℕ
-  row = 16 * rBlocks (f .l)
-
-  abbrev count : ℕ
-  count = bitsCount (f .l)
-
-  bit-sum : (j : ℕ) → bitSum recs stride r row count j ≡ Fabitn.bitSum f r recs j
-  unfolding bitSum Fabitn.bitSum Fabitn.picks bitAt
+  bit-sum : (j : ℕ) → bits f r recs (bitsCount (f .l)) (rBlocks (f .l)) j ≡ Fabitn.bitSum f r recs j
+  unfolding bitSum Fabitn.bitSum Fabitn.picks Fabitn.strings bitAt
   bit-sum j = refl
 
-  mac-sum : (k j : ℕ) → blockSum recs stride (macOff k) r row count j ≡ Fabitn.macSum f r recs k j
-  unfolding blockSum Fabitn.macSum Fabitn.picks macAt
+  mac-sum : (k j : ℕ) → entries f r recs (bitsCount (f .l)) (rBlocks (f .l)) (macOff k) j ≡ Fabitn.macSum f r recs k j
+  unfolding blockSum Fabitn.macSum Fabitn.picks Fabitn.strings macAt
   mac-sum k j = refl
 
-  key-sum : (k j : ℕ) → blockSum recs stride (keyOff k) r row count j ≡ Fabitn.keySum f r recs k j
-  unfolding blockSum Fabitn.keySum Fabitn.picks keyAt
+  key-sum : (k j : ℕ) → entries f r recs (bitsCount (f .l)) (rBlocks (f .l)) (keyOff k) j ≡ Fabitn.keySum f r recs k j
+  unfolding blockSum Fabitn.keySum Fabitn.picks Fabitn.strings keyAt
   key-sum k j = refl
 
-  sum-of : (keys : Bool) (k j : ℕ) → blockSum recs stride (offOf keys k) r row count j ≡ sumOf f keys r recs k j
-  sum-of true k j = key-sum k j
-  sum-of false k j = mac-sum k j
+-- sum j of the q-th of the others
+sum-at : (off : ℕ → ℕ) (n i : ℕ) (s r : List ℕ) (row count q j : ℕ) → q < n - 1 → j < STRINGS
+    → partySums off n i s r row count (q * STRINGS + j) ≡ blockSum s (recordLen n) (off (nth i q)) r row count j
+unfolding partySums
+sum-at off n i s r row count q j hq hj =
+    let whole : (q * 120 + j) / 120 ≡ q = omega arith in
+    let rest : (q * 120 + j) % 120 ≡ j = omega arith in
+    rw (lt-ltb (q * 120 + j) ((n - 1) * 120) (omega arith), whole, rest) refl
 
-  -- for a party but the own
-  pub due-is : (keys : Bool) (k : ℕ) (x : List ℕ) → f .i ≢ k → x ≡ wordsOf STRINGS (sumOf f keys r recs k)
-      → x ≡ wordsOf STRINGS (λ j. sel blocks (neq (f .i) k) (sumOf f keys r recs k j))
-  due-is keys k x h e =
-      e ∙ ap (wordsOf STRINGS) (λ i j. sel blocks (sym (neq-true (f .i) k h) i) (sumOf f keys r recs k j))
+module _ {f : Frame} (ranged : Ranged f) (r recs : List ℕ) (count b : ℕ) (ec : count ≡ bitsCount (f .l)) (eb : b ≡ rBlocks (f .l)) where
+  -- the same, read from the words of all
+  pair-at : (off : ℕ → ℕ) (words : List ℕ) → words ≡ wordsOf 840 (parties f r recs count b off) → (q j : ℕ) → q < f .n - 1 → j < STRINGS
+      → pairAt words (q * STRINGS + j) ≡ entries f r recs (bitsCount (f .l)) (rBlocks (f .l)) (off (nth (f .i) q)) j
+  pair-at off words e q j hq hj =
+      ap (λ (x : List ℕ). pairAt x (q * STRINGS + j)) e
+      ∙ words-at 840 (parties f r recs count b off) (q * STRINGS + j) (omega (arith, ranged .range .eight))
+      ∙ sum-at off (f .n) (f .i) recs (strings (STRINGS * b) r) (16 * b) count q j hq hj
+      ∙ (λ t. entries f r recs (ec t) (eb t) (off (nth (f .i) q)) j)
 
-  -- the message, where the sums are at hand
-  pub abit-msg : (bits macs : List ℕ) (k : ℕ) → f .i ≢ k → bits ≡ tab STRINGS (λ j. num (bitSum recs stride r row count j))
-      → macs ≡ wordsOf STRINGS (λ j. sel blocks (neq (f .i) k) (Fabitn.macSum f r recs k j))
-      → encode STRINGS (λ j. bitBlock (odd (getD bits j 0)) (pairAt macs j)) ≡ Fabitn.abitMsg f r recs k
-  unfolding Fabitn.abitMsg
-  abit-msg bits macs k n e em =
-      encode-ext STRINGS _ _ (λ j h. ap₂ bitBlock
-      (ap (λ (s : List ℕ). odd (getD s j 0)) e ∙ ap odd (getD-tab STRINGS j _ 0 h) ∙ odd-num (bitSum recs stride r row count j) ∙ bit-sum j)
-      (ap (λ (x : List ℕ). pairAt x j) em ∙ words-pair STRINGS _ j h
-      ∙ ap (λ b. sel blocks b (Fabitn.macSum f r recs k j)) (neq-true (f .i) k n)))
+  -- the messages
+  pub sums-sent : (xs macs : List ℕ) → xs ≡ tab STRINGS (λ j. num (bits f r recs count b j))
+      → macs ≡ wordsOf 840 (parties f r recs count b macOff)
+      → cat (f .n - 1) (λ q. encode STRINGS (λ j. bitBlock (odd (getD xs j 0)) (pairAt macs (q * STRINGS + j))))
+      ≡ toOthers (f .n) (f .i) (Fabitn.abitMsg f r recs)
+  unfolding toOthers Fabitn.abitMsg
+  sums-sent xs macs e em =
+      let bit : (j : ℕ) → j < STRINGS → odd (getD xs j 0) ≡ Fabitn.bitSum f r recs j =
+      λ j h. ap (λ (s : List ℕ). odd (getD s j 0)) e ∙ ap odd (getD-tab STRINGS j (λ j. num (bits f r recs count b j)) 0 h)
+      ∙ odd-num (bits f r recs count b j) ∙ (λ t. bits f r recs (ec t) (eb t) j) ∙ bit-sum f r recs j in
+      cat-ext (f .n - 1) _ _ (λ q hq. encode-ext STRINGS _ _ (λ j h.
+      ap₂ bitBlock (bit j h) (pair-at macOff macs em q j hq h ∙ mac-sum f r recs (nth (f .i) q) j)))
 
-  pub length-abit : (k : ℕ) → length (Fabitn.abitMsg f r recs k) ≡ MSG
-  unfolding Fabitn.abitMsg
-  length-abit k = length-encode ITEM STRINGS _ (λ t h. length-bitBlock _ _)
-
-  -- the key sums of party k, as bytes
-  abbrev pub keyRow : ℕ → List ℕ
-  keyRow k = cat STRINGS (λ j. bytesOf (Fabitn.keySum f r recs k j))
-
-  pub length-keyRow : (k : ℕ) → length (keyRow k) ≡ ROW
-  length-keyRow k = length-cat STRINGS 16 _ (λ j h. length-bytesOf _)
-
--- both Blocks lie within a record
-pub off-in : (keys : Bool) (n k : ℕ) → k < n → offOf keys k + 16 ≤ recordLen n
-off-in true n k h = omega (arith, key-behind k, entry-within n k h)
-off-in false n k h = omega (arith, entry-within n k h)
-
--- the sums as the code has them
-pub party-are : {f : Frame} {recs r : List ℕ} → Given f recs r → (stride count b : ℕ) → stride ≡ recordLen (f .n) → count ≡ bitsCount (f .l)
-    → b ≡ rBlocks (f .l) → (keys : Bool) (k at : ℕ) (x : List ℕ) → at ≡ offOf keys k
-    → x ≡ wordsOf STRINGS (blockSum recs stride at r (16 * b) count) → x ≡ wordsOf STRINGS (sumOf f keys r recs k)
-party-are {f} {recs} {r} g stride count b es ec eb keys k at x ea ex =
-    ex ∙ ap (wordsOf STRINGS) (sums-are g stride count b es ec eb at (offOf keys k) ea)
-    ∙ ap (wordsOf STRINGS) (λ i j. sum-of f r recs keys k j i)
-
--- ---- rows of Blocks
-cat-zeros : (n m a : ℕ) → cat n (λ j. replicate m a) ≡ replicate (n * m) a
-unfolding cat
-cat-zeros zero m a = ap (λ k. replicate k a) (sym (zero-mul m))
-cat-zeros (suc n) m a =
-    ap (λ (x : List ℕ). x ++ replicate m a) (cat-zeros n m a) ∙ replicate-append-replicate (n * m) m a
-    ∙ ap (λ k. replicate k a) (sym (suc-mul n m))
-
--- Blocks that are zero where b is false
-row-sel : (n : ℕ) (b : Bool) (g : ℕ → Block)
-    → cat n (λ j. bytesOf (sel blocks b (g j))) ≡ pick b (cat n (λ j. bytesOf (g j))) (replicate (n * 16) 0)
-unfolding bytesOf le8 blocks zeroOf
-row-sel n true g = refl
-row-sel n false g = cat-zeros n 16 0
-
--- row k: what `write_blocks` makes of the key sums of party k
-pub row-kept : (f : Frame) (k : ℕ) (r recs sums x : List ℕ)
-    → sums ≡ wordsOf STRINGS (λ j. sel blocks (neq (f .i) k) (Fabitn.keySum f r recs k j))
-    → x ≡ cat STRINGS (λ j. bytesOf (pairAt sums j)) → x ≡ rowOf (f .i) ROW (keyRow f r recs) k
-unfolding rowOf
-row-kept f k r recs sums x es ex =
-    let g : ℕ → Block = λ j. Fabitn.keySum f r recs k j in
-    ex
-    ∙ cat-ext STRINGS _ _
-    (λ j v. ap bytesOf (ap (λ (w : List ℕ). pairAt w j) es ∙ words-pair STRINGS (λ j. sel blocks (neq (f .i) k) (g j)) j v))
-    ∙ row-sel STRINGS (neq (f .i) k) g
+  -- the rows
+  pub sums-kept : (keys : List ℕ) → keys ≡ wordsOf 840 (parties f r recs count b keyOff)
+      → rows f ROW (heldRow (f .i) keys) ≡ Fabitn.keySums f r recs
+  unfolding rows heldRow Fabitn.keySums
+  sums-kept keys e =
+      let row : (k : ℕ) → k < f .n → f .i ≢ k → cat STRINGS (λ j. bytesOf (pairAt keys (placeOf (f .i) k * STRINGS + j)))
+      ≡ cat STRINGS (λ j. bytesOf (Fabitn.keySum f r recs k j)) =
+      λ k h ne. cat-ext STRINGS _ _ (λ j hj. ap bytesOf
+      (pair-at keyOff keys e (placeOf (f .i) k) j (place-below (f .n) (f .i) k ne (ranged .own) h) hj
+      ∙ key-sum f r recs (nth (f .i) (placeOf (f .i) k)) j
+      ∙ ap (λ x. Fabitn.keySum f r recs x j) (nth-place (f .i) k ne))) in
+      cat-ext (f .n) _ _ (λ k h. other-cases f k
+      (λ p. pick p (cat STRINGS (λ j. bytesOf (pairAt keys (placeOf (f .i) k * STRINGS + j)))) (replicate ROW 0)
+      ≡ pick p (cat STRINGS (λ j. bytesOf (Fabitn.keySum f r recs k j))) (replicate ROW 0)) (row k) refl)

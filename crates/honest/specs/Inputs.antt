@@ -22,7 +22,8 @@ use Rattle.engine.specs.declared.Frame.{Frame}
 use Rattle.engine.specs.Step.{frame}
 use Rattle.rounds.specs.Opening.{Args}
 
--- What demand 3 speaks of: n boxes with one l, box b opened with `inputs b`, all lent these r strings and this permutation
+-- What demand 3 speaks of: n boxes with one l, box b opened with `inputs b`, all lent this permutation and the same r strings. `strings` is
+-- what they hold as r in either form, all strings or a seed: a box may be lent the one or the other (Opening.antt, Agree).
 pub record Run : Type 0 where
   pub n : ℕ
   pub l : ℕ

@@ -9,24 +9,27 @@ use native.Mathlib.Omega.{arith}
 use lib.ListN.{length, getD}
 use lib.Dec.{leb, eqb}
 use borrow.Author.Tests.{lt-ltb, le-leb, eq-eqb, ne-eqb, eqb-true}
-use Rattle.lists.specs.Pick.{pick}
+use Rattle.lists.specs.Pick.{pick, by-eq}
 use Rattle.lists.specs.All.{allOf, all-of}
 use Rattle.lists.specs.Over.{tab, length-tab, getD-tab}
 use Rattle.algebra.specs.Sum.{neq, Same, apart, apart?}
 use Rattle.share.specs.RecordLaws.{valid-faults}
 use Rattle.permutation.specs.Permutation.{isPerm}
 use Rattle.permutation.specs.PermutationLaws.{perm-of}
-use Rattle.plan.specs.Plan.{InRange, leaky, bitsCount, rLen, msgLen}
+use Rattle.plan.specs.Plan.{InRange, leaky, bitsCount, msgLen}
 use Rattle.engine.specs.declared.Frame.{Frame}
-use Rattle.engine.specs.Step.{Loan, Accepted, Refused, outcome}
+use Rattle.engine.specs.Step.{frame, Loan, Accepted, Refused, outcome}
 use Rattle.engine.specs.World.{sessionOf}
 use Rattle.engine.specs.Area.{toOthers}
 use Rattle.engine.specs.Sheet.{Known}
 use Rattle.engine.specs.Honest.{Lawful, due}
-use Rattle.engine.specs.PlainSession.{alike-same, HonestOpening}
-use Rattle.rounds.specs.Area.{workLen}
+use Rattle.engine.specs.PlainSession.{AlikeSend, alike-same, HonestOpening}
+use Rattle.rounds.specs.Area.{BITS, KEY-SUMS, workLen, at, keep}
 use Rattle.rounds.specs.Opening.{Args, listsDue, buffersDue, masksFault, orFault, bytesFault, lengthsFault, reason, section, area, spec}
-use Rattle.rounds.specs.Table.{noLoan, lent}
+use Rattle.rounds.specs.Table.{noLoan, lent, held, written}
+use Rattle.rounds.specs.Fabitn.{rFits}
+use Rattle.rounds.specs.Fabitn as Fabitn
+use Rattle.rounds.specs.FabitnLaws.{abit-alike, sums-alike}
 use Rattle.rounds.specs.Toss as Toss
 use Rattle.alone.specs.Opening.{Lens, first-seven, spec-takes}
 use Rattle.alone.specs.Opening as A
@@ -138,9 +141,10 @@ module _ (R : Run) where
     pub work-len : length (a .work) ≡ workLen (box R b)
     pub out-len : length (a .out) ≡ (n - 1) * msgLen n l 1
 
-  -- "its r Blocks and permutation, where due, equal the other boxes'": they are due with the calls that write rounds 6 and 21
+  -- "its r Blocks and permutation, where due, equal the other boxes'": they are due with the calls that write rounds 6 and 21. "Demand 3's
+  -- equal r strings are the Blocks lent or drawn, whichever form each box got." (02, order 4)
   pub record Agree (j : ℕ) (q : Loan) : Type 0 where
-    pub r-is : j ≡ 6 → q .r ≡ strings
+    pub r-is : j ≡ 6 → Fabitn.strings l (q .r) ≡ Fabitn.strings l strings
     pub perm-is : j ≡ 21 → q .perm ≡ permutation
 
 -- Where the list that all boxes are lent is no permutation, none accepts it (18): the script then runs with some other one.
@@ -180,7 +184,7 @@ inputs-for R X = record {
   order-perm = order-for (R .l) (R .permutation) .1;
 }
 
--- ---- the loans: what passes 17 and 18 and agrees is what the script lends
+-- ---- the loans: what passes 17 and 18 and agrees is what the script lends; of r, the strings are
 empty : (x : List ℕ) → eqb (length x) 0 ≡ true → x ≡ []
 empty [] h = refl
 empty (a ∷ x) h = absurd (let e : suc (length x) ≡ 0 = eqb-true _ _ h in omega arith)
@@ -201,14 +205,15 @@ none-lent q h = go (eqb (length (q .r)) 0) refl (eqb (length (q .perm)) 0) refl 
 module _ (R : Run) (q : Loan) where
   open Run R using (l, strings, permutation)
 
-  -- the r Blocks
-  agrees-r : _≡_ {A = ℕ} (pick (eqb (length (q .r)) (rLen l) && eqb (length (q .perm)) 0) 0 17) 0 → q .r ≡ strings → q ≡ loan strings []
-  agrees-r h e = go (eqb (length (q .r)) (rLen l)) (eqb (length (q .perm)) 0) refl h
-    where
-      go : (a b : Bool) → eqb (length (q .perm)) 0 ≡ b → _≡_ {A = ℕ} (pick (a && b) 0 17) 0 → q ≡ loan strings []
-      go true true eb h = ap₂ loan e (empty (q .perm) eb)
-      go true false eb h = absurd (omega arith)
-      go false b eb h = absurd (omega arith)
+  -- the r Blocks, lent or drawn
+  agrees-r : (n : ℕ) (perm : List ℕ) → Fabitn.strings l (q .r) ≡ Fabitn.strings l strings
+      → AlikeSend (subject .send 6) n l q (loan strings perm)
+  unfolding held written
+  agrees-r n perm e = record {
+    keep = λ i w.
+        ap (λ (x : List ℕ). keep (frame n l i) KEY-SUMS x w) (sums-alike (frame n l i) (q .r) strings (at (frame n l i) BITS w) e);
+    write = λ i r w. abit-alike (frame n l i) (q .r) strings (at (frame n l i) BITS w) e r;
+  }
 
   -- the permutation
   agrees-perm : _≡_ {A = ℕ} (pick (eqb (length (q .r)) 0 && eqb (length (q .perm)) (leaky l)) (pick (isPerm (q .perm)) 0 18) 17) 0
@@ -227,19 +232,27 @@ module _ (R : Run) (q : Loan) where
       go true ea false eb c ec h = absurd (omega arith)
       go false ea b eb c ec h = absurd (omega arith)
 
-  pub agrees : (n j : ℕ) → lent j n l q ≡ 0 → Agree R j q
-      → q ≡ loan (pick (eqb j 6) strings []) (pick (eqb j 21) (orderFor l permutation) [])
+  -- what the script lends
+  abbrev lends : ℕ → Loan
+  lends j = loan (pick (eqb j 6) strings []) (pick (eqb j 21) (orderFor l permutation) [])
+
+  -- where no r is due
+  agrees-rest : (n j : ℕ) → j ≢ 6 → lent j n l q ≡ 0 → (j ≡ 21 → q .perm ≡ permutation) → q ≡ lends j
   unfolding lent
-  agrees n j h g = go (eqb j 6) refl (eqb j 21) refl h
+  agrees-rest n j ne h g = go (eqb j 6) refl (eqb j 21) refl h
     where
       go : (a : Bool) → eqb j 6 ≡ a → (b : Bool) → eqb j 21 ≡ b
-          → pick a (pick (eqb (length (q .r)) (rLen l) && eqb (length (q .perm)) 0) 0 17)
+          → pick a (pick (rFits l (length (q .r)) && eqb (length (q .perm)) 0) 0 17)
           (pick b (pick (eqb (length (q .r)) 0 && eqb (length (q .perm)) (leaky l)) (pick (isPerm (q .perm)) 0 18) 17) (noLoan q)) ≡ 0
           → q ≡ loan (pick a strings []) (pick b (orderFor l permutation) [])
-      go true ea true eb h = absurd (omega (arith, eqb-true j 6 ea, eqb-true j 21 eb))
-      go true ea false eb h = agrees-r h (g .r-is (eqb-true j 6 ea))
-      go false ea true eb h = agrees-perm h (g .perm-is (eqb-true j 21 eb))
+      go true ea b eb h = absurd (ne (eqb-true j 6 ea))
+      go false ea true eb h = agrees-perm h (g (eqb-true j 21 eb))
       go false ea false eb h = none-lent q h
+
+  pub agrees : (n j : ℕ) → lent j n l q ≡ 0 → Agree R j q → AlikeSend (subject .send j) n l q (lends j)
+  agrees n j h g =
+      by-eq _ j 6 (λ e. subst (λ j. AlikeSend (subject .send j) n l q (lends j)) (sym e) (agrees-r n _ (g .r-is e)))
+      (λ ne. alike-same (subject .send j) n l q (lends j) (agrees-rest n j ne h (g .perm-is)))
 
 -- ---- what opening owes
 spec-refuses : (a : Args) → reason a ≢ 0
@@ -282,5 +295,5 @@ module _ (R : Run) (X : Boxes R) where
     takes = takes-given;
     keeps = known-opened (played R) (inputs-for R X .boxes);
     writes = λ j lj. refl;
-    agrees = λ j q h g. alike-same (subject .send j) n l q _ (agrees R q n j h g);
+    agrees = λ j q h g. agrees R q n j h g;
   }

@@ -2,6 +2,7 @@
 use mathlib.Core.Path.{_≡_, refl, sym, ap, _∙_, subst}
 use mathlib.Core.Bool.{Bool, true, _&&_}
 use mathlib.Core.Logic.{_≢_}
+use mathlib.Core.List.{List}
 use Prim.Native.Nat.{ℕ, suc, _+_, _-_, _*_, _<_, _≤_}
 use native.Mathlib.Omega.{arith}
 use lib.ListN.{length, getD, length-replicate}
@@ -170,18 +171,18 @@ module _ (R : Run) (P : Premises R) where
         out-len = bs .out ∙ ap (λ (f : Frame). (f .n - 1) * msgLen (f .n) (f .l) 1) (P .party b lb);
       }
 
--- ---- for every n and l there are inputs that meet them: all-zero ones
-pub zero-premises : (n l : ℕ) → InRange n l → Premises (zeroRun n l)
-zero-premises n l r =
-    let X = zero-boxes n l r in
+-- ---- for every n, l and r there are inputs that meet them: all-zero ones
+pub zero-premises : (n l : ℕ) → InRange n l → (r : List ℕ) → Premises (zeroRun n l r)
+zero-premises n l range r =
+    let X = zero-boxes n l range r in
     record {
-      two = r .two;
-      eight = r .eight;
-      one = r .one;
-      most = r .most;
+      two = range .two;
+      eight = range .eight;
+      one = range .one;
+      most = range .most;
       party = λ b lb. refl;
       fine = λ b lb.
-          honest-opening (zeroRun n l) X (lawful n l r) .takes b (zeroInputs n l b) lb
+          honest-opening (zeroRun n l r) X (lawful n l range) .takes b (zeroInputs n l b) lb
           (record { inputs-are = refl; work-len = length-replicate {A = ℕ} _ 0; out-len = length-replicate {A = ℕ} _ 0 }) .0;
       bytes = λ b lb. record {
         delta = X .own b lb .delta-bytes;

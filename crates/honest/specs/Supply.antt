@@ -1,8 +1,9 @@
--- The premises of demand 3 can be met: all-zero inputs keep them, and with strings and a permutation of due length no call has a reason.
+-- The premises of demand 3 can be met: all-zero inputs keep them, and with strings, lent or as a seed, and a permutation of due length no
+-- call has a reason.
 use mathlib.Core.Path.{_≡_, refl, sym}
 use mathlib.Core.Bool.{Bool, true, false, _&&_}
 use mathlib.Core.List.{List, []}
-use Prim.Native.Nat.{ℕ, zero, suc, _+_, _-_, _*_}
+use Prim.Native.Nat.{ℕ, zero, suc, _+_, _-_, _*_, _<_}
 use native.Mathlib.Omega.{arith}
 use lib.ListN.{length, getD, replicate, length-replicate}
 use lib.Dec.{eqb}
@@ -20,15 +21,17 @@ use Rattle.share.specs.Parties.{sharedAt}
 use Rattle.permutation.specs.Permutation.{isPerm}
 use Rattle.plan.specs.Plan.{InRange, leaky, bitsCount, rLen, msgLen}
 use Rattle.engine.specs.Step.{frame, Loan}
-use Rattle.engine.specs.Honest.{Lawful, Honest}
+use Rattle.engine.specs.Honest.{Lawful}
 use Rattle.engine.specs.PlainSession.{Supply}
 use Rattle.rounds.specs.Area.{workLen}
 use Rattle.rounds.specs.Opening.{Args}
 use Rattle.rounds.specs.Table.{noLoan, lent}
+use Rattle.rounds.specs.Fabitn.{rFits}
+use Rattle.rounds.specs.Fabitn as Fabitn
+use Rattle.rounds.specs.FabitnLaws.{strings-all, seed-long, fits-all, fits-seed}
 use Rattle.honest.specs.Subject.{opener, subject}
-use Rattle.honest.specs.Script as S
 use Rattle.honest.specs.Inputs.{Run, box, Boxes}
-use Rattle.honest.specs.Opening.{lend, Given, Agree, orderFor, played, honest-opening}
+use Rattle.honest.specs.Opening.{lend, Given, Agree, orderFor}
 
 -- ---- all-zero inputs
 abbrev zeros : ℕ → List ℕ
@@ -48,9 +51,9 @@ zeroInputs n l b = record {
   out = zeros ((n - 1) * msgLen n l 1);
 }
 
--- with r strings and a permutation of due length
-abbrev pub zeroRun : ℕ → ℕ → Run
-zeroRun n l = record { n = n; l = l; inputs = zeroInputs n l; strings = zeros (rLen l); permutation = orderFor l [] }
+-- with any r and a permutation of due length
+abbrev pub zeroRun : ℕ → ℕ → List ℕ → Run
+zeroRun n l r = record { n = n; l = l; inputs = zeroInputs n l; strings = r; permutation = orderFor l [] }
 
 zero-at : (c k : ℕ) → getD (zeros c) k 0 ≡ 0
 zero-at zero k = refl
@@ -69,9 +72,9 @@ zero-good : (n : ℕ) (δ : ℕ → Block) (c at : ℕ) → Good blocks n δ (sh
 unfolding sharedAt bitAt macAt keyAt odd
 zero-good n δ c at i j li lj ne = simp (zero-at, zero-block) (sym (blocks .unit (blocks .nil)))
 
-pub zero-boxes : (n l : ℕ) → InRange n l → Boxes (zeroRun n l)
-zero-boxes n l r = record {
-  range = r;
+pub zero-boxes : (n l : ℕ) → InRange n l → (r : List ℕ) → Boxes (zeroRun n l r)
+zero-boxes n l range r = record {
+  range = range;
   own = λ b lb. record {
     party = refl;
     delta-len = length-replicate {A = ℕ} 16 0;
@@ -96,33 +99,60 @@ zero-boxes n l r = record {
 }
 
 -- ---- lent buffers, strings and a permutation
-module _ (R : Run) (X : Boxes R) (hs : length (R .strings) ≡ rLen (R .l)) (ho : length (R .permutation) ≡ leaky (R .l))
+-- box b is lent `forms b` as r: each as long as it should, and all of them the run's strings
+pub record Forms (R : Run) (forms : ℕ → List ℕ) : Type 0 where
+  pub fits : (b : ℕ) → b < R .n → rFits (R .l) (length (forms b)) ≡ true
+  pub same : (b : ℕ) → b < R .n → Fabitn.strings (R .l) (forms b) ≡ Fabitn.strings (R .l) (R .strings)
+
+module _ (R : Run) (forms : ℕ → List ℕ) (F : Forms R forms) (ho : length (R .permutation) ≡ leaky (R .l))
     (perm : isPerm (R .permutation) ≡ true) where
-  open Run R using (n, l, inputs, strings, permutation)
+  open Run R using (n, l, inputs, permutation)
 
-  order-is : orderFor l permutation ≡ permutation
-  unfolding orderFor
-  order-is = rw (eq-eqb (length permutation) (leaky l) ho, perm) refl
+  -- what box b is lent for round j
+  abbrev lends : ℕ → ℕ → Loan
+  lends b j = record { r = pick (eqb j 6) (forms b) []; perm = pick (eqb j 21) permutation [] }
 
-  -- what the script lends passes 17 and 18
-  lent-none : (j : ℕ) → lent j n l (record { r = pick (eqb j 6) strings []; perm = pick (eqb j 21) (orderFor l permutation) [] }) ≡ 0
+  -- it passes 17 and 18
+  lent-none : (b j : ℕ) → b < n → lent j n l (lends b j) ≡ 0
   unfolding lent noLoan
-  lent-none j = go (eqb j 6) refl (eqb j 21) refl
+  lent-none b j lb = go (eqb j 6) refl (eqb j 21) refl
     where
-      go : (a : Bool) → eqb j 6 ≡ a → (b : Bool) → eqb j 21 ≡ b
-          → (let q : Loan = record { r = pick a strings []; perm = pick b (orderFor l permutation) [] } in
-          pick a (pick (eqb (length (q .r)) (rLen l) && eqb (length (q .perm)) 0) 0 17)
-          (pick b (pick (eqb (length (q .r)) 0 && eqb (length (q .perm)) (leaky l)) (pick (isPerm (q .perm)) 0 18) 17) (noLoan q)) ≡ 0)
-      go true ea true eb = absurd (omega (arith, eqb-true j 6 ea, eqb-true j 21 eb))
-      go true ea false eb = rw (eq-eqb (length strings) (rLen l) hs) refl
-      go false ea true eb = rw (order-is, eq-eqb (length permutation) (leaky l) ho, perm) refl
-      go false ea false eb = refl
+      go : (x : Bool) → eqb j 6 ≡ x → (y : Bool) → eqb j 21 ≡ y
+          → (let q : Loan = record { r = pick x (forms b) []; perm = pick y permutation [] } in
+          pick x (pick (rFits l (length (q .r)) && eqb (length (q .perm)) 0) 0 17)
+          (pick y (pick (eqb (length (q .r)) 0 && eqb (length (q .perm)) (leaky l)) (pick (isPerm (q .perm)) 0 18) 17) (noLoan q)) ≡ 0)
+      go true ex true ey = absurd (omega (arith, eqb-true j 6 ex, eqb-true j 21 ey))
+      go true ex false ey = rw (F .fits b lb) refl
+      go false ex true ey = rw (eq-eqb (length permutation) (leaky l) ho, perm) refl
+      go false ex false ey = refl
 
-  pub supply : (W : Lawful subject n l) (H : Honest subject (S.script (played R)) n l)
-      → Supply subject (S.script (played R)) n l opener (Agree R) (Given R) W H (honest-opening R X W)
-  supply W H = record {
+  pub supply : (W : Lawful subject n l) → Supply subject n l opener (Agree R) (Given R) W
+  supply W = record {
     args = λ b. lend (inputs b) (zeros (workLen (box R b))) (zeros ((n - 1) * msgLen n l 1));
+    lends = lends;
     given = λ b lb. record { inputs-are = refl; work-len = length-replicate {A = ℕ} _ 0; out-len = length-replicate {A = ℕ} _ 0 };
     valid = lent-none;
-    agree = λ j. record { r-is = λ e. rw e refl; perm-is = λ e. rw e order-is };
+    agree = λ b j lb. record { r-is = λ e. rw e (F .same b lb); perm-is = λ e. rw e refl };
   }
+
+  pub supply-r : (W : Lawful subject n l) (b : ℕ) → supply W .lends b 6 .r ≡ forms b
+  unfolding supply
+  supply-r W b = refl
+
+-- ---- one box is lent a seed, the others all strings
+abbrev pub oneSeed : ℕ → List ℕ → ℕ → List ℕ
+oneSeed l seed b = pick (eqb b 0) seed (Fabitn.strings l seed)
+
+pub one-seed : (n l : ℕ) (seed : List ℕ) → length seed ≡ 16 → Forms (zeroRun n l seed) (oneSeed l seed)
+one-seed n l seed h = record { fits = λ b lb. long (eqb b 0); same = λ b lb. alike (eqb b 0) }
+  where
+    all-long : length (Fabitn.strings l seed) ≡ rLen l
+    all-long = seed-long l seed h
+
+    long : (b : Bool) → rFits l (length (pick b seed (Fabitn.strings l seed))) ≡ true
+    long true = fits-seed l seed h
+    long false = fits-all l (Fabitn.strings l seed) all-long
+
+    alike : (b : Bool) → Fabitn.strings l (pick b seed (Fabitn.strings l seed)) ≡ Fabitn.strings l seed
+    alike true = refl
+    alike false = strings-all l (Fabitn.strings l seed) all-long

@@ -1,13 +1,16 @@
 -- DEMAND 3. The premises on the inputs are in Premises.antt, the lists of calls in engine/World.antt; the claim stands here. It is proved
--- of every list; and there are lists that meet its premises and end with all boxes done.
-use mathlib.Core.Path.{_≡_, refl, sym, ap, _∙_}
+-- of every list; and there are lists that meet its premises and end with all boxes done, also where one box is lent a seed and the others
+-- all strings.
+use mathlib.Core.Path.{_≡_, refl, sym, ap, _∙_, subst}
 use mathlib.Core.Bool.{Bool, true, false, _&&_}
 use mathlib.Core.Logic.{_≢_, _↔_}
 use mathlib.Core.List.{List, [], _∷_}
 use mathlib.Core.Option.{some}
 use Prim.Native.Nat.{ℕ, _*_, _<_}
-use lib.ListN.{length, length-replicate}
+use native.Mathlib.Omega.{arith}
+use lib.ListN.{length}
 use lib.Dec.{eqb}
+use borrow.Author.Tests.{ne-eqb}
 use Rattle.lists.specs.Pick.{pick}
 use Rattle.lists.specs.All.{allOf}
 use Rattle.algebra.specs.Group.{bits, sel}
@@ -18,23 +21,25 @@ use Rattle.share.specs.Record.{recordLen, bitAt, macAt, keyAt}
 use Rattle.share.specs.Parties.{sharedAt}
 use Rattle.permutation.specs.Permutation.{isPerm}
 use Rattle.plan.specs.Plan.{InRange, leaky, rLen}
-use Rattle.engine.specs.Step.{Protocol}
-use Rattle.engine.specs.World.{Box, Call, Scene, start, runs, FairList, AllRight, Done}
+use Rattle.engine.specs.Step.{Loan, Lent, Protocol}
+use Rattle.engine.specs.World.{In, All, Box, Call, opening, turn, Scene, start, runs, FairList, AllRight, Done}
 use Rattle.engine.specs.Engine.{Duty, every-call, every-done, every-long}
-use Rattle.engine.specs.Live.{Cast, robin, fair-robin, robin-done}
+use Rattle.engine.specs.Live.{Cast, AsCast, lentFor, robin, fair-robin, robin-done, robin-lends, robin-has}
 use Rattle.engine.specs.Area.{mem, also}
-use Rattle.engine.specs.Order.{echoIn}
-use Rattle.engine.specs.Plain.{stepsOf, protocolOf}
+use Rattle.engine.specs.Order.{echoIn, nextIn}
+use Rattle.engine.specs.Plain.{nextOf, numberOf, stepsOf, protocolOf}
 use Rattle.engine.specs.Honest.{Lawful, plainAfter, Honest}
-use Rattle.engine.specs.PlainSession.{HonestOpening, sceneOf, dutyOf, every-written, castOf}
+use Rattle.engine.specs.PlainSession.{HonestOpening, sceneOf, Supply, castOf, cast-lends, dutyOf, every-written}
 use Rattle.rounds.specs.Area.{workLen}
 use Rattle.rounds.specs.Opening.{Args}
+use Rattle.rounds.specs.Fabitn as Fabitn
+use Rattle.rounds.specs.FabitnLaws.{seed-long}
 use Rattle.honest.specs.Subject.{opener, subject}
 use Rattle.honest.specs.Script as S
 use Rattle.honest.specs.Inputs.{Run, box, Boxes, Inputs, deltas, alphasOf, betasOf}
 use Rattle.honest.specs.Course.{lawful}
 use Rattle.honest.specs.Opening.{Given, Agree, played, order-for, inputs-for, honest-opening}
-use Rattle.honest.specs.Supply.{zeroRun, supply}
+use Rattle.honest.specs.Supply.{zeroRun, Forms, supply, supply-r, oneSeed, one-seed}
 use Rattle.honest.specs.Premises.{Premises, boxes-of, zero-premises}
 use Rattle.honest.specs.Values.{LeakyTriples}
 use Rattle.honest.specs.Toss.{recv-1, list-1, send-3, recv-3, send-4, recv-4, send-5, recv-5}
@@ -51,6 +56,7 @@ abbrev pub session : Protocol
 session = protocolOf subject
 
 -- ---- WHAT IS CLAIMED, of a run: n boxes with one l, box b opened with `inputs b`, all lent the same r strings and the same permutation.
+-- "Demand 3's equal r strings are the Blocks lent or drawn, whichever form each box got." (02, order 4)
 -- Of these two nothing is asked: a list that is no permutation is refused by every box, with 18.
 module _ (R : Run) (P : Premises R) where
   open Run R using (n, l, inputs)
@@ -90,6 +96,16 @@ module _ (R : Run) (P : Premises R) where
     pub ands : (x : ℕ → Box) → ((b : ℕ) → b < n → Stands cs b (x b) × Done session (x b .session)) → (t : ℕ) → t < l
         → sum bits n (λ b. bitAt (x b .wrote) (t * recordLen n))
         ≡ (sum bits n (λ b. bitAt (inputs b .alpha) (t * recordLen n)) && sum bits n (λ b. bitAt (inputs b .beta) (t * recordLen n)))
+
+-- a call of box b for round 5, which writes `fabitn`, is lent x as r
+abbrev pub LentR : ℕ → List ℕ → Call Args → Type 0
+LentR b x (opening c a) = Unit {0}
+LentR b x (turn c k q) = c ≡ b → k ≡ 5 → q .loan .r ≡ x
+
+-- box b takes that round in the list, and whenever it does it is lent x as r, all strings or a seed
+pub record LentAs (b : ℕ) (x : List ℕ) (cs : List (Call Args)) : Type 0 where
+  pub one : (q : Lent) × In (turn b 5 q) cs
+  pub each : All (LentR b x) cs
 
 -- ---- all rounds are honest
 module _ (R : Run) (I : Inputs R) where
@@ -151,12 +167,28 @@ unfolding stepsOf
 steps-are true = refl
 steps-are false = refl
 
+-- r is due with the call for round 5, which writes `fabitn`: it is the fourth of two boxes, and else the fifth
+fabitn-next : (two : Bool) → nextOf subject two 5 ≡ 6
+unfolding nextIn echoIn mem
+fabitn-next true = refl
+fabitn-next false = refl
+
+fabitn-fifth : (two : Bool) → numberOf subject two (pick two 3 4) ≡ 5
+unfolding numberOf nextIn echoIn mem
+fabitn-fifth true = refl
+fabitn-fifth false = refl
+
+fifth-in : (two : Bool) → pick two 3 4 < stepsOf subject two
+unfolding stepsOf
+fifth-in true = omega arith
+fifth-in false = omega arith
+
 and-is : (a b : Bool) → sel bits a b ≡ (a && b)
 and-is true b = refl
 and-is false b = refl
 
 module _ (R : Run) (P : Premises R) where
-  open Run R using (n, l, inputs, strings, permutation)
+  open Run R using (n, l, inputs, permutation)
 
   -- with some other permutation, where that is none
   abbrev R′ : Run
@@ -222,22 +254,66 @@ module _ (R : Run) (P : Premises R) where
         ∙ and-rule t lt;
   }
 
-  -- ---- its premises can be met, and all boxes come to be done, where r strings and permutation are of due length and the permutation is
-  -- one
-  module _ (hs : length strings ≡ rLen l) (ho : length permutation ≡ leaky l) (hp : isPerm permutation ≡ true) where
-    abbrev cast : Cast (scene R P) duty
-    cast = castOf subject (S.script R′) n l opener (Agree R) (Given R) W H opens (supply R (boxes-of R P) hs ho hp W H)
+  -- ---- its premises can be met, and all boxes come to be done, whichever form of the strings each box is lent, where the permutation is
+  -- one of due length
+  module _ (forms : ℕ → List ℕ) (F : Forms R forms) (ho : length permutation ≡ leaky l) (hp : isPerm permutation ≡ true) where
+    abbrev supplied : Supply subject n l opener (Agree R) (Given R) W
+    supplied = supply R forms F ho hp W
 
-    pub some-list : (cs : List (Call Args)) × Fine R P cs × ((b : ℕ) → b < n → (x : Box) × Stands R P cs b x × Done session (x .session))
-    some-list = (
-      robin (scene R P) duty cast (stepsOf subject (eqb n 2)),
-      fair-robin (scene R P) duty cast,
-      robin-done (scene R P) duty cast,
+    abbrev cast : Cast (scene R P)
+    cast = castOf subject n l opener (Agree R) (Given R) W supplied
+
+    r-lent : (b : ℕ) (q : Loan) → q ≡ cast .lends b 5 → q .r ≡ forms b
+    r-lent b q e =
+        ap (λ (q : Loan). q .r) (e ∙ cast-lends subject n l opener (Agree R) (Given R) W supplied b 5)
+        ∙ ap (λ j. supplied .lends b j .r) (fabitn-next (eqb n 2)) ∙ supply-r R forms F ho hp W b
+
+    as-lent : (b : ℕ) (cs : List (Call Args)) → All (AsCast (scene R P) duty cast) cs → All (LentR b (forms b)) cs
+    as-lent b [] h = tt
+    as-lent b (opening c a ∷ cs) h = (tt, as-lent b cs (h .1))
+    as-lent b (turn c k q ∷ cs) h = (
+      λ ec ek. r-lent b (q .loan) (h .0 ∙ ap (λ c. cast .lends c k) ec ∙ ap (cast .lends b) ek),
+      as-lent b cs (h .1),
     )
 
--- for every n and l there are inputs as demand 3 has them, and a list after which all boxes are done
-module _ (n l : ℕ) (r : InRange n l) where
-  pub some-run : (cs : List (Call Args)) × Fine (zeroRun n l) (zero-premises n l r) cs
-      × ((b : ℕ) → b < n → (x : Box) × Stands (zeroRun n l) (zero-premises n l r) cs b x × Done session (x .session))
+    abbrev calls : List (Call Args)
+    calls = robin (scene R P) duty cast (stepsOf subject (eqb n 2))
+
+    lent-as : (b : ℕ) → b < n → LentAs b (forms b) calls
+    lent-as b lb =
+        let d : ℕ = pick (eqb n 2) 3 4 in
+        let q : Lent = lentFor (scene R P) duty cast d b in
+        record {
+          one = (
+            q,
+            subst (λ k. In {A = Call Args} (turn b k q) calls) (fabitn-fifth (eqb n 2))
+                (robin-has (scene R P) duty cast b d lb (fifth-in (eqb n 2))),
+          );
+          each = as-lent b calls (robin-lends (scene R P) duty cast);
+        }
+
+    pub some-list : (cs : List (Call Args)) × Fine R P cs × ((b : ℕ) → b < n → (x : Box) × Stands R P cs b x × Done session (x .session))
+        × ((b : ℕ) → b < n → LentAs b (forms b) cs)
+    some-list = (
+      calls,
+      fair-robin (scene R P) duty cast,
+      robin-done (scene R P) duty cast,
+      lent-as,
+    )
+
+-- for every n, l and seed there are inputs as demand 3 has them, and a list after which all boxes are done, in which box 0 is lent the seed
+-- and every other box all strings: those that are drawn from it
+module _ (n l : ℕ) (r : InRange n l) (seed : List ℕ) (h : length seed ≡ 16) where
+  pub some-run : (cs : List (Call Args)) × Fine (zeroRun n l seed) (zero-premises n l r seed) cs
+      × ((b : ℕ) → b < n → (x : Box) × Stands (zeroRun n l seed) (zero-premises n l r seed) cs b x × Done session (x .session))
+      × LentAs 0 seed cs × ((b : ℕ) → 0 < b → b < n → LentAs b (Fabitn.strings l seed) cs) × (length (Fabitn.strings l seed) ≡ rLen l)
   some-run =
-      some-list (zeroRun n l) (zero-premises n l r) (length-replicate {A = ℕ} (rLen l) 0) (order-for l [] .0) (order-for l [] .1)
+      let s = some-list (zeroRun n l seed) (zero-premises n l r seed) (oneSeed l seed) (one-seed n l seed h) (order-for l [] .0)
+      (order-for l [] .1) in (
+        s .0,
+        s .1,
+        s .2,
+        s .3 0 (omega (arith, r .two)),
+        λ b pos lb. subst (λ (x : List ℕ). LentAs b x (s .0)) (rw (ne-eqb b 0 (λ e. omega arith)) refl) (s .3 b lb),
+        seed-long l seed h,
+      )

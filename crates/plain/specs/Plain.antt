@@ -1,4 +1,4 @@
--- The rounds whose messages `write` makes: all but the echoes.
+-- The rounds whose messages `make` makes: all but the echoes.
 use mathlib.Core.Bool.{Bool, _||_}
 use Prim.Native.Nat.{ℕ}
 use lib.Dec.{eqb}

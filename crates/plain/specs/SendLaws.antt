@@ -14,16 +14,20 @@ use Rattle.lists.specs.Over.{length-cat}
 use Rattle.lists.specs.All.{allOf, true-false, of-all}
 use Rattle.block.specs.declared.Block.{Block}
 use Rattle.block.specs.Block.{blockAt}
+use Rattle.block.specs.Trip.{length-bytesOf}
 use Rattle.permutation.specs.Permutation.{isPerm}
-use Rattle.plan.specs.Plan.{echo?, leaky, rLen, msgLen}
+use Rattle.plan.specs.Plan.{echo?, leaky, msgLen}
 use Rattle.plan.specs.PlanLaws.{Rest}
 use Rattle.engine.specs.declared.Frame.{Frame}
 use Rattle.engine.specs.Step.{Loan}
 use Rattle.engine.specs.Order.{echoIn}
 use Rattle.engine.specs.Area.{toOthers, mem}
-use Rattle.rounds.specs.Area.{DELTA, BITS, LEAKY, HS, H-COMMS, leakyLen, sizeOf, at}
+use Rattle.rounds.specs.Area.{DELTA, BITS, KEY-SUMS, LEAKY, HS, H-COMMS, leakyLen, sizes, sizeOf, at}
 use Rattle.rounds.specs.HaandLaws.{length-leakyRow}
 use Rattle.rounds.specs.FlaandLaws.{length-ownComms, own-row}
+use Rattle.rounds.specs.Loops.{length-rows}
+use Rattle.rounds.specs.Fabitn as Fabitn
+use Rattle.rounds.specs.Fabitn.{rFits}
 use Rattle.rounds.specs.Haand as Haand
 use Rattle.rounds.specs.Flaand as Flaand
 use Rattle.rounds.specs.Table.{delta, lent, held, written}
@@ -46,9 +50,9 @@ taken-next true false c h = absurd (omega (arith, h))
 taken-next false b c h = absurd (omega (arith, h))
 
 module _ (f : Frame) (q : Loan) (k : ℕ) (h : lent k (f .n) (f .l) q ≡ 0) where
-  pub strings-lent : k ≡ 6 → length (q .r) ≡ rLen (f .l)
+  pub strings-lent : k ≡ 6 → rFits (f .l) (length (q .r)) ≡ true
   unfolding lent
-  strings-lent e = eqb-true _ _ (taken _ _ (sym (ap (λ j. lent j (f .n) (f .l) q) e) ∙ h))
+  strings-lent e = taken _ _ (sym (ap (λ j. lent j (f .n) (f .l) q) e) ∙ h)
 
   pub perm-lent : k ≡ 21 → length (q .perm) ≡ leaky (f .l)
   unfolding lent
@@ -102,6 +106,22 @@ module _ {f : Frame} {w : List ℕ} (h : Work f w) where
       ap (chunk (leaky (f .l) * 32) (f .i)) (at-same h H-COMMS x (omega arith) length-own)
       ∙ own-row f (at f HS w) (at f H-COMMS w) (h .ranges .own) comms-long
       ∙ ap (Flaand.comms f) (sym (at-other h H-COMMS x (omega arith) length-own HS (λ e. omega (arith, e))))
+
+  -- the sums of `fabitn` are of the bits as they were
+  length-sums : (r recs : List ℕ) → length (Fabitn.keySums f r recs) ≡ sizeOf f KEY-SUMS
+  unfolding Fabitn.keySums sizeOf sizes
+  length-sums r recs = length-rows f Fabitn.ROW _ (λ k b. length-cat Fabitn.STRINGS 16 _ (λ j l. length-bytesOf _))
+
+  bits-held : (q : Loan) → at f BITS (held 6 f q w) ≡ at f BITS w
+  unfolding held
+  bits-held q = at-other h KEY-SUMS _ (omega arith) (length-sums (q .r) (at f BITS w)) BITS (λ e. omega (arith, e))
+
+  pub sums-made : (q : Loan) (k : ℕ) (x : List ℕ) → k ≡ 6 → x ≡ toOthers (f .n) (f .i) (Fabitn.abitMsg f (q .r) (at f BITS w))
+      → x ≡ toOthers (f .n) (f .i) (written k f q (held k f q w))
+  unfolding written
+  sums-made q k x e hx =
+      hx ∙ ap (λ (y : List ℕ). toOthers (f .n) (f .i) (Fabitn.abitMsg f (q .r) y)) (sym (bits-held q))
+      ∙ sym (ap (λ j. toOthers (f .n) (f .i) (written j f q (held j f q w))) e)
 
   pub held-for : (k : ℕ) (q : Loan) → Held k f (held k f q w)
   held-for k q = record {

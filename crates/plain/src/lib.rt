@@ -1,12 +1,14 @@
 // The plain rounds, all but the echoes (crates/rounds, Table): `judge` is the content check of the messages received and `keep` what stays
-// of them; `hold` is what is kept when messages are made, and `write` makes them. The round's number is public and chooses; the rounds' own
-// crates do the work. Own messages are never read.
+// of them; `make` keeps what the next messages need and writes them. The round's number is public and chooses; the rounds' own crates do
+// the work. Own messages are never read.
 ghost use mathlib.Core.Path.{_≡_};
 ghost use mathlib.Core.Bool.{true};
-ghost use Prim.Native.Nat.{_-_, _*_, _≤_};
+ghost use mathlib.Core.Logic.{_≢_};
+ghost use mathlib.Core.List.{List};
+ghost use Prim.Native.Nat.{ℕ, _-_, _*_, _≤_};
 ghost use lib.ListN.{length};
-ghost use Rattle.plan.specs.Plan.{kindOf, countDue, msgLen};
-ghost use Rattle.engine.specs.Step.{mask};
+ghost use Rattle.plan.specs.Plan.{FABITN, DVALUE, kindOf, countDue, msgLen, leaky};
+ghost use Rattle.engine.specs.Step.{Loan, mask};
 ghost use Rattle.engine.specs.Area.{toOthers};
 ghost use Rattle.rounds.specs.Mail.{letter};
 ghost use Rattle.rounds.specs.FaultLaws.{Finds};
@@ -60,14 +62,13 @@ pub fn keep(work: &mut [u8], incoming: &[u8], mail: Mail, f: Frame, k: usize)
     }
 }
 
-// What is kept when the messages of round k are made.
-pub fn hold(work: &mut [u8], r: &[u8], perm: &[u32], f: Frame, k: usize)
+// What is kept when the messages of round k are made, of all rounds but `fabitn`.
+fn hold(work: &mut [u8], perm: &[u32], f: Frame, k: usize)
     requires { ⌜ Work f (now work) ⌝ }
-    requires { ⌜ Table.lent k (f .n) (f .l) (record { r = now r; perm = now perm }) ≡ 0 ⌝ }
-    ensures { λ _. ⌜ now (work .exit) ≡ Table.held k f (record { r = now (r .entry); perm = now (perm .entry) }) (now (work .entry)) ⌝ }
+    requires { ⌜ (k ≢ FABITN) × (k ≡ DVALUE → length (now perm) ≡ leaky (f .l)) ⌝ }
+    ensures { λ _. ⌜ ((r : List ℕ) → now (work .exit) ≡ Table.held k f (record { r = r; perm = now (perm .entry) }) (now (work .entry))) ⌝ }
 {
     match k {
-        plan::FABITN => fabitn::hold(work, r, f),
         plan::HAAND => haand_rows::hold(work, f),
         plan::FLAAND_COMM => flaand_comm::hold(work, f),
         plan::DVALUE => buckets::hold(work, perm, f),
@@ -76,21 +77,18 @@ pub fn hold(work: &mut [u8], r: &[u8], perm: &[u32], f: Frame, k: usize)
     }
 }
 
-// The messages of round k. Rounds 14 and 17 are made from what `hold` kept.
-pub fn write(out: &mut [u8], work: &[u8], r: &[u8], perm: &[u32], f: Frame, k: usize)
+// The messages of round k, of all rounds but `fabitn`. Those of rounds 14 and 17 are made from what `hold` kept.
+fn write(out: &mut [u8], work: &[u8], f: Frame, k: usize)
     requires { ⌜ Work f (now work) ⌝ }
     requires { ⌜ (plain k ≡ true) × (length (now out) ≡ (f .n - 1) * msgLen (f .n) (f .l) k) ⌝ }
-    requires { ⌜ Table.lent k (f .n) (f .l) (record { r = now r; perm = now perm }) ≡ 0 ⌝ }
-    requires { ⌜ Held k f (now work) ⌝ }
-    ensures { λ _. ⌜ now (out .exit) ≡ toOthers (f .n) (f .i)
-        (Table.written k f (record { r = now (r .entry); perm = now (perm .entry) }) (now (work .entry))) ⌝ }
+    requires { ⌜ (k ≢ FABITN) × Held k f (now work) ⌝ }
+    ensures { λ _. ⌜ ((q : Loan) → now (out .exit) ≡ toOthers (f .n) (f .i) (Table.written k f q (now (work .entry)))) ⌝ }
 {
     match k {
         plan::RNG_COMM => toss::write_commitments(out, work, f),
         plan::RNG_VER => toss::write_seed(out, work, f),
         plan::PAIR_COMM => toss::write_pair_commitments(out, work, f),
         plan::PAIR_VER => toss::write_pair_seeds(out, work, f),
-        plan::FABITN => fabitn::write(out, work, r, f),
         plan::FASHARE_COMM => fashare_comm::write(out, work, f),
         plan::FASHARE_VER => fashare_ver::write(out, work, f),
         plan::FASHARE_DIBI => fashare_dibi::write(out, work, f),
@@ -101,5 +99,22 @@ pub fn write(out: &mut [u8], work: &[u8], r: &[u8], perm: &[u32], f: Frame, k: u
         plan::DVALUE => dvalue::write(out, work, f),
         plan::FAAND => faand::write(out, work, f),
         _ => {}
+    }
+}
+
+// The messages of round k are made: what they need is kept, then they are written. In `fabitn` both are made of the same strings.
+pub fn make(work: &mut [u8], out: &mut [u8], r: &[u8], perm: &[u32], f: Frame, k: usize)
+    requires { ⌜ Work f (now work) ⌝ }
+    requires { ⌜ (plain k ≡ true) × (length (now out) ≡ (f .n - 1) * msgLen (f .n) (f .l) k) ⌝ }
+    requires { ⌜ Table.lent k (f .n) (f .l) (record { r = now r; perm = now perm }) ≡ 0 ⌝ }
+    ensures { λ _. ⌜ (now (work .exit) ≡ Table.held k f (record { r = now (r .entry); perm = now (perm .entry) }) (now (work .entry)))
+        × (now (out .exit) ≡ toOthers (f .n) (f .i) (Table.written k f (record { r = now (r .entry); perm = now (perm .entry) })
+        (Table.held k f (record { r = now (r .entry); perm = now (perm .entry) }) (now (work .entry))))) ⌝ }
+{
+    if k == plan::FABITN {
+        fabitn::make(work, out, r, f);
+    } else {
+        hold(work, perm, f, k);
+        write(out, work, f, k);
     }
 }

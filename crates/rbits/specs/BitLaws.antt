@@ -19,10 +19,10 @@ use Rattle.lists.specs.Bytes.{Bytes}
 use Rattle.algebra.specs.Group.{numbers, bits, sel, odd, num, odd-num, sel-nil}
 use Rattle.algebra.specs.Sum.{sum, sum-ext, sum-turn, sum-swap, sum-lt}
 use Rattle.rbits.specs.Chosen.{chosen, bitSum}
-use Rattle.rbits.specs.Tables.{rWord, recordBit, packed, maskedAt}
+use Rattle.rbits.specs.Tables.{rWord, windowOf, halfAt, recordBit, packed, maskedAt}
 use Rattle.rbits.specs.SumLaws.{sum-groups, sum-past}
 use Rattle.rbits.specs.DigitLaws.{mod-digit, and-digit, sum-digit, parity}
-use Rattle.rbits.specs.ChosenLaws.{chosen-digit}
+use Rattle.rbits.specs.ChosenLaws.{half-group, chosen-digit}
 
 -- ---- packed bits
 pub packed-lt : (n : ℕ) (f : ℕ → Bool) → packed n f < 2 ^ n
@@ -116,12 +116,13 @@ module _ (s : List ℕ) (stride : ℕ) (r : List ℕ) (row count : ℕ) where
       F e k = odd (bitAnd (rWord r row k j) (packedAt k) / 2 ^ e)
 
   -- a turn of the loop over the groups
-  pub masked-turn : (g b : ℕ) (acc acc′ : List ℕ) → acc ≡ tab 120 (masked g) → b ≡ packedAt g → acc′ ≡ tab 120 (maskedAt acc r row g b)
-      → acc′ ≡ tab 120 (masked (g + 1))
+  pub masked-turn : (g b : ℕ) (acc win acc′ : List ℕ) → acc ≡ tab 120 (masked g) → win ≡ windowOf r row (g / 2) → b ≡ packedAt g
+      → acc′ ≡ tab 120 (maskedAt acc win (g % 2) b) → acc′ ≡ tab 120 (masked (g + 1))
   unfolding masked
-  masked-turn g b acc acc′ ha hb e =
-      e ∙ tab-ext 120 (maskedAt acc r row g b) (masked (g + 1))
-      (λ j l. ap₂ (λ x y. bitXor x (bitAnd (rWord r row g j) y)) (ap (λ (x : List ℕ). getD x j 0) ha ∙ getD-tab 120 j (masked g) 0 l) hb
+  masked-turn g b acc win acc′ ha hw hb e =
+      e ∙ tab-ext 120 (maskedAt acc win (g % 2) b) (masked (g + 1))
+      (λ j l. ap₂ bitXor (ap (λ (x : List ℕ). getD x j 0) ha ∙ getD-tab 120 j (masked g) 0 l)
+      (ap₂ bitAnd (ap (λ (x : List ℕ). halfAt x (g % 2) j) hw ∙ half-group r row g j l) hb)
       ∙ sym (sum-turn numbers g (λ h. bitAnd (rWord r row h j) (packedAt h))))
 
   pub masked-none : replicate 120 0 ≡ tab 120 (masked 0)

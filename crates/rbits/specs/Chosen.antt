@@ -1,10 +1,9 @@
 -- The sums of `fabitn` (document 01, "What each round means"): the r strings choose records, and bits or Blocks of the chosen records are
 -- added.
-use Prim.Native.Nat.{ℕ, _+_, _*_, _/_, _%_, _^_, _≤_}
-use mathlib.Core.Path.{_≡_}
+use Prim.Native.Nat.{ℕ, _+_, _*_, _/_, _%_, _^_}
 use mathlib.Core.Bool.{Bool}
 use mathlib.Core.List.{List, [], _∷_}
-use lib.ListN.{length, getD}
+use lib.ListN.{getD}
 use Rattle.lists.specs.Over.{cat}
 use Rattle.algebra.specs.Group.{bits, sel, odd}
 use Rattle.algebra.specs.Sum.{sum}
@@ -31,11 +30,3 @@ wordsOf n f = cat n (λ j. f j .0 ∷ f j .1 ∷ [])
 -- Block j of such words
 abbrev pub pairAt : List ℕ → ℕ → Block
 pairAt a j = record { 0 = getD a (j * 2) 0; 1 = getD a (j * 2 + 1) 0 }
-
--- what the code asks of its arguments: whole records and 120 whole strings are lent, each of whole words and long enough for `count`
--- elements
-pub record Lent (s : List ℕ) (stride count : ℕ) (r : List ℕ) (row : ℕ) : Type 0 where
-  pub records : count * stride ≤ length s
-  pub strings : 120 * row ≤ length r
-  pub enough : count ≤ 8 * row
-  pub words : row % 8 ≡ 0

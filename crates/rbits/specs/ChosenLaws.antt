@@ -1,23 +1,42 @@
 -- 64 records at a time: what a word of a string chooses of them, and all groups together.
-use mathlib.Core.Path.{_≡_, sym, ap, ap₂, _∙_}
+use mathlib.Core.Path.{_≡_, refl, sym, ap, ap₂, _∙_}
 use mathlib.Core.List.{List}
-use Prim.Native.Nat.{ℕ, _+_, _*_, _/_, _%_, _^_, _<_, _≤_}
+use Prim.Native.Nat.{ℕ, zero, suc, _+_, _*_, _/_, _%_, _^_, _<_, _≤_}
+use native.Mathlib.Nat.{add-zero}
 use native.Mathlib.Omega.{arith}
-use lib.ListN.{length, getD, replicate}
+use lib.ListN.{length, getD}
 use borrow.Author.Tests.{lt-ltb, le-ltb}
-use Rattle.lists.specs.Over.{getD-tab, in-record}
+use Rattle.lists.specs.Over.{in-record}
 use Rattle.lists.specs.Bytes.{Bytes}
 use Rattle.algebra.specs.Group.{sel, odd, sel-nil}
 use Rattle.algebra.specs.Sum.{sum, sum-ext, sum-turn}
 use Rattle.block.specs.declared.Block.{Block}
-use Rattle.block.specs.Block.{blockAt}
+use Rattle.block.specs.Block.{wordAt, blockAt}
 use Rattle.block.specs.Group.{blocks}
-use Rattle.rbits.specs.Chosen.{chosen, blockSum, wordsOf, pairAt}
-use Rattle.rbits.specs.Tables.{recordBlock, tables, lookup, rWord, rWords, addedAt}
-use Rattle.rbits.specs.WordLaws.{words-ext, words-at, words-zero}
+use Rattle.rbits.specs.Chosen.{chosen, blockSum}
+use Rattle.rbits.specs.Tables.{recordBlock, tables, lookup, rWord, windowOf, halfAt}
+use Rattle.rbits.specs.WordLaws.{words-at}
 use Rattle.rbits.specs.SumLaws.{sum-groups, sum-past}
 use Rattle.rbits.specs.DigitLaws.{word-digit}
 use Rattle.rbits.specs.TableLaws.{lookup-tables}
+
+-- ---- a half of a window has a word of each string
+pub half-window : (r : List ℕ) (row q h j : ℕ) → h < 2 → j < 120 → halfAt (windowOf r row q) h j ≡ rWord r row (q * 2 + h) j
+unfolding windowOf blockAt
+half-window r row q zero j u l =
+    ap (λ n. getD (windowOf r row q) n 0) (add-zero (j * 2))
+    ∙ ap (λ (b : Block). b .0) (words-at 120 (λ j. blockAt r (j * row + q * 16)) j l)
+    ∙ ap (wordAt r) (let e : j * row + q * 16 ≡ j * row + (q * 2 + 0) * 8 = omega arith in e)
+half-window r row q (suc zero) j u l =
+    ap (λ (b : Block). b .1) (words-at 120 (λ j. blockAt r (j * row + q * 16)) j l)
+    ∙ ap (wordAt r) (let e : j * row + q * 16 + 8 ≡ j * row + (q * 2 + 1) * 8 = omega arith in e)
+half-window r row q (suc (suc h)) j u l = absurd (omega arith)
+
+-- group g of 64 records has a half of window g div 2
+pub half-group : (r : List ℕ) (row g j : ℕ) → j < 120 → halfAt (windowOf r row (g / 2)) (g % 2) j ≡ rWord r row g j
+half-group r row g j l =
+    half-window r row (g / 2) (g % 2) j (omega arith) l
+    ∙ ap (λ n. rWord r row n j) (let e : g / 2 * 2 + g % 2 ≡ g = omega arith in e)
 
 -- ---- digit e of word g of string j says whether it chooses element 64g + e
 pub chosen-digit : (r : List ℕ) (row j g e : ℕ) → Bytes r → j * row + g * 8 + 8 ≤ length r → e < 64
@@ -65,18 +84,14 @@ module _ (s : List ℕ) (stride at : ℕ) (r : List ℕ) (row count : ℕ) where
       ∙ sum-ext blocks 64 _ (λ e. term j (g * 64 + e))
       (λ e l. ap (λ b. sel blocks b (recordBlock s stride at count (g * 64 + e))) (chosen-digit r row j g e hr h l))
 
-  -- a turn of the loop over the groups
-  pub groups-turn : (g : ℕ) (acc t ws acc′ : List ℕ) → Bytes r → 120 * row ≤ length r → g * 8 + 8 ≤ row → acc ≡ wordsOf 120 (groups g)
-      → ws ≡ rWords r row g → t ≡ groupTables g → acc′ ≡ wordsOf 120 (addedAt acc t ws) → acc′ ≡ wordsOf 120 (groups (g + 1))
-  unfolding groups rWords
-  groups-turn g acc t ws acc′ hr hl hg ha hw ht e =
-      e ∙ words-ext 120 (addedAt acc t ws) (groups (g + 1))
-      (λ j l. ap₂ (blocks .op)
-      (ap (λ (x : List ℕ). pairAt x j) ha ∙ words-at 120 (groups g) j l)
-      (ap₂ lookup ht (ap (λ (x : List ℕ). getD x j 0) hw ∙ getD-tab 120 j (rWord r row g) 0 l)
-      ∙ chosen-group g j hr (in-record j 120 row (g * 8) 8 (length r) l hg hl))
-      ∙ sym (sum-turn blocks g (λ h. sum blocks 64 (λ e. term j (h * 64 + e)))))
+  -- one group more
+  pub groups-more : (g j : ℕ) → Bytes r → 120 * row ≤ length r → g * 8 + 8 ≤ row → j < 120
+      → blocks .op (groups g j) (lookup (groupTables g) (rWord r row g j)) ≡ groups (g + 1) j
+  unfolding groups
+  groups-more g j hr hl hg l =
+      ap (blocks .op (groups g j)) (chosen-group g j hr (in-record j 120 row (g * 8) 8 (length r) l hg hl))
+      ∙ sym (sum-turn blocks g (λ h. sum blocks 64 (λ e. term j (h * 64 + e))))
 
-  pub groups-none : replicate 240 0 ≡ wordsOf 120 (groups 0)
+  pub groups-zero : (j : ℕ) → groups 0 j ≡ blocks .nil
   unfolding groups sum
-  groups-none = words-zero 120
+  groups-zero j = refl

@@ -2,17 +2,11 @@
 use mathlib.Core.Path.{_≡_, refl, sym, ap, ap₂, _∙_}
 use mathlib.Core.List.{List, [], _∷_, _++_, append-assoc}
 use Prim.Native.Nat.{ℕ, _+_, _*_, _<_, _≤_}
-use native.Mathlib.Nat.{add-zero}
 use native.Mathlib.Numerals.{add-one}
 use native.Mathlib.Omega.{arith}
 use lib.ListN.{length, getD, set, drop, length-append, length-set}
-use lib.Bits.{bitXor}
-use lib.Seq.{getD-append-add, getD-drop}
 use Rattle.lists.specs.Over.{tab, cat, tab-zero, tab-step, tab-end, over-set, over-get, length-tab, Written}
 use Rattle.block.specs.declared.Block.{Block}
-use Rattle.block.specs.Block.{xorOf}
-use Rattle.block.specs.Group.{blocks}
-use Rattle.rbits.specs.Tables.{lookup, addedAt}
 
 -- d is l with f 0 .. f (j - 1) in its front
 pub record Filled (f : ℕ → ℕ) (j : ℕ) (l d : List ℕ) : Type 0 where
@@ -62,22 +56,3 @@ pair-turn f j l d x y w ex ey h = record {
 
     end : length (cat (j + 1) (pairOf f)) ≡ (j + 1) * 2
     end = rw (add-one j, cat, length-append) (omega (arith, w .at))
-
--- what is not written yet is the old one
-pub written-get : (g : ℕ → List ℕ) (j a e : ℕ) (l d : List ℕ) → Written g j a l d → getD d (a + e) 0 ≡ getD l (a + e) 0
-written-get g j a e l d w =
-    ap (λ (x : List ℕ). getD x (a + e) 0) (w .here) ∙ ap (λ n. getD (cat j g ++ drop a l) (n + e) 0) (sym (w .at))
-    ∙ getD-append-add (cat j g) (drop a l) e 0
-    ∙ getD-drop a l e 0
-
--- a turn of `add_chosen`: b is what string j's word chooses
-pub added-turn : (acc t ws d : List ℕ) (j : ℕ) (b : Block) → Written (pairOf (addedAt acc t ws)) j (j * 2) acc d
-    → b ≡ lookup t (getD ws j 0) → j * 2 + 2 ≤ length acc
-    → Written (pairOf (addedAt acc t ws)) (j + 1) ((j + 1) * 2) acc
-    (set (set d (j * 2) (bitXor (getD d (j * 2) 0) (b .0))) (j * 2 + 1) (bitXor (getD d (j * 2 + 1) 0) (b .1)))
-unfolding blocks xorOf
-added-turn acc t ws d j b w e h =
-    let old : (k : ℕ) → getD d (j * 2 + k) 0 ≡ getD acc (j * 2 + k) 0 = λ k. written-get _ j (j * 2) k acc d w in
-    pair-turn (addedAt acc t ws) j acc d _ _ w
-    (ap₂ bitXor (rw add-zero at (old 0)) (ap (λ (x : Block). x .0) e))
-    (ap₂ bitXor (old 1) (ap (λ (x : Block). x .1) e)) h

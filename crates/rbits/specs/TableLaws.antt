@@ -133,7 +133,7 @@ lookup-tables f w = sum-ext blocks 16 (entry (tables f) w) (λ k. sum blocks 4 (
         ∙ sum-at 4 (λ e. f (k * 4 + e)) c l
         ∙ sum-ext blocks 4 _ (λ e. F (k * 4 + e)) (λ e v. ap (λ b. sel blocks b (f (k * 4 + e))) (part-digit w (k * 4) 4 e v))
 
--- a turn of `choose`
+-- a turn of the loop over the digits, four at a time
 pub lookup-turn : (t : List ℕ) (w k a b : ℕ) → record { 0 = a; 1 = b } ≡ sum blocks k (entry t w)
     → record {
       0 = bitXor a (getD t ((k * 16 + bitAnd (w / 2 ^ (k * 4)) 15) * 2) 0);

@@ -5,7 +5,7 @@ use mathlib.Core.List.{List, [], _∷_, _++_, map}
 use lib.ListN.{getD}
 use lib.Bits.{bitXor, bitAnd}
 use lib.Dec.{ltb}
-use Rattle.lists.specs.Over.{tab, cat}
+use Rattle.lists.specs.Over.{cat}
 use Rattle.lists.specs.Pick.{pick}
 use Rattle.algebra.specs.Group.{odd, num}
 use Rattle.algebra.specs.Sum.{sum}
@@ -55,16 +55,17 @@ entry t w k = pairAt t (k * 16 + w / 2 ^ (k * 4) % 16)
 unfoldable pub lookup : List ℕ → ℕ → Block
 lookup t w = sum blocks 16 (entry t w)
 
--- word g of string j, and of all
+-- word g of string j
 abbrev pub rWord : List ℕ → ℕ → ℕ → ℕ → ℕ
 rWord r row g j = wordAt r (j * row + g * 8)
 
-unfoldable pub rWords : List ℕ → ℕ → ℕ → List ℕ
-rWords r row g = tab 120 (rWord r row g)
+-- a window: Block q of each string, for the 128 records from 128q on
+unfoldable pub windowOf : List ℕ → ℕ → ℕ → List ℕ
+windowOf r row q = wordsOf 120 (λ j. blockAt r (j * row + q * 16))
 
--- Block j, with what string j's word chooses added
-abbrev pub addedAt : List ℕ → List ℕ → List ℕ → ℕ → Block
-addedAt acc t ws j = blocks .op (pairAt acc j) (lookup t (getD ws j 0))
+-- the word of string j in half h of a window, for 64 records
+abbrev pub halfAt : List ℕ → ℕ → ℕ → ℕ
+halfAt win h j = getD win (j * 2 + h) 0
 
 -- ---- bits
 
@@ -77,6 +78,6 @@ unfoldable pub packed : ℕ → (ℕ → Bool) → ℕ
 packed zero f = 0
 packed (suc n) f = num (f n) * 2 ^ n + packed n f
 
--- string j's word, with the digits of b that its word g chooses added
-abbrev pub maskedAt : List ℕ → List ℕ → ℕ → ℕ → ℕ → ℕ → ℕ
-maskedAt acc r row g b j = bitXor (getD acc j 0) (bitAnd (rWord r row g j) b)
+-- string j's word, with the digits of b that its word in half h of a window chooses added
+abbrev pub maskedAt : List ℕ → List ℕ → ℕ → ℕ → ℕ → ℕ
+maskedAt acc win h b j = bitXor (getD acc j 0) (bitAnd (halfAt win h j) b)

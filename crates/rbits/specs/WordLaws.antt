@@ -1,19 +1,22 @@
 -- Blocks as two words each: sums word by word, and arrays of words.
-use mathlib.Core.Path.{_≡_, refl, sym, ap, _∙_}
+use mathlib.Core.Path.{_≡_, refl, sym, ap, ap₂, _∙_}
+use mathlib.Core.Logic.{_≢_}
 use mathlib.Core.Bool.{Bool, true, false}
 use mathlib.Core.List.{List, [], _∷_, _++_}
-use Prim.Native.Nat.{ℕ, zero, suc, _+_, _*_, _<_}
+use Prim.Native.Nat.{ℕ, zero, suc, _+_, _*_, _<_, _≤_}
 use native.Mathlib.Nat.{add-zero, suc-mul}
 use native.Mathlib.Omega.{arith}
-use lib.ListN.{getD, replicate, replicate-append-replicate}
+use lib.ListN.{length, getD, set, replicate, length-set, replicate-append-replicate}
+use lib.Seq.{take-all, getD-set-same, getD-set-other}
 use Rattle.lists.specs.Over.{cat}
-use Rattle.lists.specs.Rows.{chunk, cat-ext, chunk-cat, getD-chunk}
+use Rattle.lists.specs.Rows.{chunk, cat-ext, chunk-cat, cat-chunk, length-chunk, getD-chunk}
 use Rattle.algebra.specs.Group.{numbers, sel}
 use Rattle.algebra.specs.Sum.{sum}
 use Rattle.block.specs.declared.Block.{Block}
 use Rattle.block.specs.Block.{xorOf, zeroOf}
 use Rattle.block.specs.Group.{blocks}
 use Rattle.rbits.specs.Chosen.{wordsOf, pairAt}
+use Rattle.rbits.specs.Tables.{pair}
 
 -- ---- Blocks, word by word
 pub sel-words : (b : Bool) (x y : ℕ) → sel blocks b (record { 0 = x; 1 = y }) ≡ record { 0 = sel numbers b x; 1 = sel numbers b y }
@@ -41,6 +44,40 @@ words-at n f j h =
     λ e l. sym (getD-chunk 2 j (cat n w) e 0 l) ∙ ap (λ (x : List ℕ). getD x e 0) (chunk-cat 2 n w (λ k v. refl) j h) in
     let a : getD (cat n w) (j * 2) 0 ≡ f j .0 = rw add-zero at (at 0 (omega arith)) in
     let b : getD (cat n w) (j * 2 + 1) 0 ≡ f j .1 = at 1 (omega arith) in
+    λ i. record { 0 = a i; 1 = b i }
+
+-- such an array has the Blocks that are read from it
+pub words-self : (n : ℕ) (l : List ℕ) → length l ≡ n * 2 → l ≡ wordsOf n (pairAt l)
+unfolding wordsOf
+words-self n l h =
+    sym (take-all (n * 2) l (omega arith)) ∙ sym (cat-chunk 2 n l)
+    ∙ cat-ext n (λ j. chunk 2 j l) _
+    (λ j v. two (chunk 2 j l) (length-chunk 2 n j l v (omega arith))
+    ∙ ap₂ (λ x y. x ∷ y ∷ []) (rw (getD-chunk 2 j l 0 0 (omega arith), add-zero (j * 2)) refl) (getD-chunk 2 j l 1 0 (omega arith)))
+  where
+    two : (x : List ℕ) → length x ≡ 2 → x ≡ getD x 0 0 ∷ getD x 1 0 ∷ []
+    two [] e = absurd (omega (arith, e))
+    two (a ∷ []) e = absurd (omega (arith, e))
+    two (a ∷ b ∷ []) e = refl
+    two (a ∷ b ∷ c ∷ x) e = absurd (omega (arith, e))
+
+-- both words of Block p are written
+pub pair-set : (l : List ℕ) (p x y : ℕ) → p * 2 + 2 ≤ length l → pairAt (set (set l (p * 2) x) (p * 2 + 1) y) p ≡ pair x y
+pair-set l p x y h =
+    let a : getD (set (set l (p * 2) x) (p * 2 + 1) y) (p * 2) 0 ≡ x =
+    getD-set-other (set l (p * 2) x) (p * 2 + 1) (p * 2) y 0 (λ e. omega arith) ∙ getD-set-same l (p * 2) x 0 (omega arith) in
+    let b : getD (set (set l (p * 2) x) (p * 2 + 1) y) (p * 2 + 1) 0 ≡ y =
+    getD-set-same (set l (p * 2) x) (p * 2 + 1) y 0 (rw (length-set l (p * 2) x) (omega arith)) in
+    λ i. record { 0 = a i; 1 = b i }
+
+pub pair-other : (l : List ℕ) (p q x y : ℕ) → q ≢ p → pairAt (set (set l (p * 2) x) (p * 2 + 1) y) q ≡ pairAt l q
+pair-other l p q x y h =
+    let a : getD (set (set l (p * 2) x) (p * 2 + 1) y) (q * 2) 0 ≡ getD l (q * 2) 0 =
+    getD-set-other (set l (p * 2) x) (p * 2 + 1) (q * 2) y 0 (λ e. omega arith)
+    ∙ getD-set-other l (p * 2) (q * 2) x 0 (λ e. h (omega arith)) in
+    let b : getD (set (set l (p * 2) x) (p * 2 + 1) y) (q * 2 + 1) 0 ≡ getD l (q * 2 + 1) 0 =
+    getD-set-other (set l (p * 2) x) (p * 2 + 1) (q * 2 + 1) y 0 (λ e. h (omega arith))
+    ∙ getD-set-other l (p * 2) (q * 2 + 1) x 0 (λ e. omega arith) in
     λ i. record { 0 = a i; 1 = b i }
 
 pub words-zero : (n : ℕ) → replicate (n * 2) 0 ≡ wordsOf n (λ j. blocks .nil)

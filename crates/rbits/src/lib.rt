@@ -1,15 +1,14 @@
-// The random sums of `fabitn`, from `chunked_update_with_rbits` of src/mpc/faand.rs: for each of 120 strings r the XOR of the chosen bits,
-// and of the chosen MACs or keys. All strings are done in one pass over the records, 64 records at a time: one word of each string. Four
-// records have 16 sums, kept in a table, low and high word side by side; four digits of a string's word, by shift and mask, say which of
-// the 16 it takes. r is public, so it may be an index. Bits, MACs and keys are secret, and decide no branch and no index.
+// For the random sums of `fabitn`, from `chunked_update_with_rbits` of src/mpc/faand.rs: for each of 120 strings r the XOR of the chosen
+// bits, and of the chosen MACs and keys. Records are taken 64 at a time: one word of each string. Here are the tables: four records have 16
+// sums, low and high word side by side, and four digits of a string's word say which of the 16 it takes (crate rpairs); and the bits, as
+// the digits of a word. r is public, so it may be an index. Bits, MACs and keys are secret, and decide no branch and no index.
 ghost use mathlib.Core.Path.{_≡_};
 ghost use Prim.Native.Nat.{_+_, _*_, _^_, _≤_, _<_};
 ghost use lib.ListN.{length, getD};
 ghost use Rattle.lists.specs.Over.{tab};
 ghost use lib.Count.{ones};
 ghost use Rattle.algebra.specs.Group.{odd, num};
-ghost use Rattle.rbits.specs.Chosen.{blockSum, bitSum, wordsOf, Lent};
-ghost use Rattle.rbits.specs.Tables.{recordBlock, pair, sums8, four, table4, tables, lookup, addedAt, rWords};
+ghost use Rattle.rbits.specs.Tables.{recordBlock, pair, sums8, four, table4, tables};
 ghost use Rattle.rbits.specs.Tables.{recordBit, packed, maskedAt};
 use block::Block;
 
@@ -88,58 +87,10 @@ pub fn fill(out: &mut [u64], s: &[u8], stride: usize, at: usize, count: usize, f
     }
 }
 
-// Word g of each string.
-pub fn r_words(out: &mut [u64], r: &[u8], row: usize, g: usize)
-    requires { ⌜ length (now out) ≡ 120 ⌝ }
-    requires { ⌜ (120 * row ≤ length (now r)) × (g * 8 + 8 ≤ row) ⌝ }
-    ensures { λ _. ⌜ now (out .exit) ≡ rWords (now (r .entry)) row g ⌝ }
-{
-    let mut j = 0;
-    while j < 120 {
-        out[j] = block::load64(r, j * row + g * 8);
-        j += 1;
-    }
-}
-
-// The sum of the 64 records that w chooses: four digits of w at a time, by shift and mask.
-fn choose(tab: &[u64; 512], w: u64) -> Block
-    ensures { λ r. ⌜ r ≡ lookup (now (tab .entry)) w ⌝ }
-{
-    let mut a = 0;
-    let mut b = 0;
-    let mut k = 0;
-    while k < 16 {
-        let low = (k * 16 + (w >> (k * 4) & 15) as usize) * 2;
-        let high = low + 1;
-        a = a ^ tab[low];
-        b = b ^ tab[high];
-        k += 1;
-    }
-    Block(a, b)
-}
-
-// Adds to each string's sum what its word chooses.
-fn add_chosen(acc: &mut [u64], tab: &[u64; 512], ws: &[u64; 120])
-    requires { ⌜ length (now acc) ≡ 240 ⌝ }
-    ensures { λ _. ⌜ now (acc .exit) ≡ wordsOf 120 (addedAt (now (acc .entry)) (now (tab .entry)) (now (ws .entry))) ⌝ }
-{
-    let mut j = 0;
-    while j < 120 {
-        let b = choose(tab, ws[j]);
-        let i = j * 2;
-        let k = i + 1;
-        let x = acc[i] ^ b.0;
-        let y = acc[k] ^ b.1;
-        acc[i] = x;
-        acc[k] = y;
-        j += 1;
-    }
-}
-
 // Adds the first entry, which is the sum of nothing. For LLVM alone: two words at the start of both arrays are one of 16 bytes, so that it
-// lays them on a multiple of 16, and `choose` takes each entry by one instruction.
+// lays them on a multiple of 16, and crate rpairs takes each entry by one instruction.
 pub fn add_nothing(acc: &mut [u64], tab: &[u64; 512])
-    requires { ⌜ length (now acc) ≡ 240 ⌝ }
+    requires { ⌜ 2 ≤ length (now acc) ⌝ }
     requires { ⌜ (getD (now tab) 0 0 ≡ 0) × (getD (now tab) 1 0 ≡ 0) ⌝ }
     ensures { λ _. ⌜ now (acc .exit) ≡ now (acc .entry) ⌝ }
 {
@@ -147,33 +98,6 @@ pub fn add_nothing(acc: &mut [u64], tab: &[u64; 512])
     let y = acc[1] ^ tab[1];
     acc[0] = x;
     acc[1] = y;
-}
-
-// For each string the sum of the Blocks at offset `at` of the records that it chooses: of string j the words 2j and 2j + 1.
-pub fn block_sums(
-    s: &[u8],
-    stride: usize,
-    at: usize,
-    count: usize,
-    r: &[u8],
-    row: usize,
-) -> [u64; 240]
-    requires { ⌜ at + 16 ≤ stride ⌝ }
-    requires { ⌜ Lent (now s) stride count (now r) row ⌝ }
-    ensures { λ o. ⌜ o ≡ wordsOf 120 (blockSum (now (s .entry)) stride at (now (r .entry)) row count) ⌝ }
-{
-    let mut acc = [0u64; 240];
-    let mut tab = [0u64; 512];
-    let mut ws = [0u64; 120];
-    let mut g = 0;
-    while g * 64 < count {
-        r_words(&mut ws, r, row, g);
-        fill(&mut tab, s, stride, at, count, g * 64);
-        add_chosen(&mut acc, &tab, &ws);
-        g += 1;
-    }
-    add_nothing(&mut acc, &tab);
-    acc
 }
 
 // The bit of record i as 0 or 1, and 0 past the last record.
@@ -189,7 +113,7 @@ fn digit(s: &[u8], stride: usize, count: usize, i: usize) -> u64
 }
 
 // The bits of the 64 records from `first` on, as the digits of a word.
-fn pack(s: &[u8], stride: usize, count: usize, first: usize) -> u64
+pub fn pack(s: &[u8], stride: usize, count: usize, first: usize) -> u64
     requires { ⌜ (1 ≤ stride) × (count * stride ≤ length (now s)) ⌝ }
     requires { ⌜ first + 64 < 2 ^ 64 ⌝ }
     ensures { λ r. ⌜ r ≡ packed 64 (λ e. recordBit (now (s .entry)) stride count (first + e)) ⌝ }
@@ -203,21 +127,20 @@ fn pack(s: &[u8], stride: usize, count: usize, first: usize) -> u64
     w
 }
 
-// Adds to each string's word the bits of b that its word g chooses, by mask: each digit is summed by itself.
-fn add_bits(acc: &mut [u64], r: &[u8], row: usize, g: usize, b: u64)
-    requires { ⌜ length (now acc) ≡ 120 ⌝ }
-    requires { ⌜ (120 * row ≤ length (now r)) × (g * 8 + 8 ≤ row) ⌝ }
-    ensures { λ _. ⌜ now (acc .exit) ≡ tab 120 (maskedAt (now (acc .entry)) (now (r .entry)) row g b) ⌝ }
+// Adds to each string's word the bits of b that its word in half h of the window chooses, by mask: each digit is summed by itself.
+pub fn add_bits(acc: &mut [u64], win: &[u64; 240], h: usize, b: u64)
+    requires { ⌜ (length (now acc) ≡ 120) × (h < 2) ⌝ }
+    ensures { λ _. ⌜ now (acc .exit) ≡ tab 120 (maskedAt (now (acc .entry)) (now (win .entry)) h b) ⌝ }
 {
     let mut j = 0;
     while j < 120 {
-        acc[j] = acc[j] ^ (block::load64(r, j * row + g * 8) & b);
+        acc[j] = acc[j] ^ (win[j * 2 + h] & b);
         j += 1;
     }
 }
 
 // The sum of each word's digits.
-fn parities(acc: &[u64; 120]) -> [u8; 120]
+pub fn parities(acc: &[u64; 120]) -> [u8; 120]
     ensures { λ o. ⌜ o ≡ tab 120 (λ j. num (odd (ones (getD (now (acc .entry)) j 0)))) ⌝ }
 {
     let mut out = [0u8; 120];
@@ -227,20 +150,4 @@ fn parities(acc: &[u64; 120]) -> [u8; 120]
         j += 1;
     }
     out
-}
-
-// For each string the sum of the bits of the records that it chooses, as 0 or 1.
-pub fn bit_sums(s: &[u8], stride: usize, count: usize, r: &[u8], row: usize) -> [u8; 120]
-    requires { ⌜ 1 ≤ stride ⌝ }
-    requires { ⌜ Lent (now s) stride count (now r) row ⌝ }
-    ensures { λ o. ⌜ o ≡ tab 120 (λ j. num (bitSum (now (s .entry)) stride (now (r .entry)) row count j)) ⌝ }
-{
-    let mut acc = [0u64; 120];
-    let mut g = 0;
-    while g * 64 < count {
-        let b = pack(s, stride, count, g * 64);
-        add_bits(&mut acc, r, row, g, b);
-        g += 1;
-    }
-    parities(&acc)
 }

@@ -1,9 +1,10 @@
 -- `fabitn` (document 01, "What each round means"; WRK17b, Pi_aBit): 120 random strings check the MACs of all bits. Round 6.
--- `recs` is the list of records, r the strings, `m k` the message of party k.
-use mathlib.Core.Bool.{Bool}
+-- `recs` is the list of records, r the strings, lent or as a seed, `m k` the message of party k.
+use mathlib.Core.Bool.{Bool, _||_}
 use mathlib.Core.List.{List}
 use Prim.Native.Nat.{ℕ, _+_, _*_}
 use lib.ListN.{getD}
+use lib.Dec.{eqb}
 use Rattle.lists.specs.Pick.{pick}
 use Rattle.lists.specs.Over.{cat}
 use Rattle.algebra.specs.Group.{bits, sel, odd}
@@ -13,8 +14,10 @@ use Rattle.block.specs.Block.{blockAt, bytesOf, eqBlock}
 use Rattle.block.specs.Group.{blocks}
 use Rattle.share.specs.Record.{recordLen, bitAt, macAt, keyAt}
 use Rattle.encode.specs.Encode.{encode, bitBlock}
-use Rattle.plan.specs.Plan.{bitsCount, rBlocks}
+use Rattle.plan.specs.Plan.{bitsCount, rBlocks, rLen}
 use Rattle.rbits.specs.Chosen.{chosen}
+use Rattle.draw.specs.Strings as Strings
+use Rattle.draw.specs.Strings.{seed?}
 use Rattle.engine.specs.declared.Frame.{Frame}
 use Rattle.engine.specs.Step.{Fault, byParty}
 use Rattle.rounds.specs.Area.{rows, firstOf}
@@ -32,9 +35,17 @@ MSG = 8 + STRINGS * ITEM
 abbrev pub ROW : ℕ
 ROW = STRINGS * 16
 
+-- r is all strings, or a seed (02, order 4): its length
+unfoldable pub rFits : ℕ → ℕ → Bool
+rFits l len = eqb len (rLen l) || seed? len
+
+-- the strings themselves, "the Blocks lent or drawn"
+unfoldable pub strings : ℕ → List ℕ → List ℕ
+strings l r = Strings.strings (STRINGS * rBlocks l) r
+
 -- string j chooses record t
 unfoldable pub picks : Frame → List ℕ → ℕ → ℕ → Bool
-picks f r j t = chosen r (16 * rBlocks (f .l)) j t
+picks f r j t = chosen (strings (f .l) r) (16 * rBlocks (f .l)) j t
 
 -- the XORs of the bits, of the MACs for k and of the keys of k that string j chooses
 unfoldable pub bitSum : Frame → List ℕ → List ℕ → ℕ → Bool

@@ -1,6 +1,7 @@
 pub mod Area
 pub mod Toss
 pub mod Fabitn
+pub mod FabitnLaws
 pub mod Fashare
 pub mod Haand
 pub mod Flaand

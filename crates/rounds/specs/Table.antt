@@ -12,7 +12,7 @@ use Rattle.share.specs.Record.{recordLen}
 use Rattle.permutation.specs.Permutation.{isPerm}
 use Rattle.message.specs.Format.{formOf}
 use Rattle.plan.specs.Plan.{RNG-COMM, RNG-VER, PAIR-COMM, PAIR-VER, FABITN, FASHARE-COMM, FASHARE-VER, FASHARE-DIBI, HAAND, FLAAND}
-use Rattle.plan.specs.Plan.{FLAAND-COMM, FLAAND-HASH, DVALUE, FAAND, theRounds, kindOf, countDue, msgLen, leaky, rLen}
+use Rattle.plan.specs.Plan.{FLAAND-COMM, FLAAND-HASH, DVALUE, FAAND, theRounds, kindOf, countDue, msgLen, leaky}
 use Rattle.engine.specs.declared.Frame.{Frame}
 use Rattle.engine.specs.Step.{Fault, none?, Loan}
 use Rattle.engine.specs.Plain.{Recv, Send, Table}
@@ -94,11 +94,11 @@ recv k = record {
 unfoldable pub noLoan : Loan → ℕ
 noLoan q = pick (eqb (length (q .r)) 0 && eqb (length (q .perm)) 0) 0 17
 
--- 17 or 18 of the r Blocks and the permutation: r is due with the call that writes `fabitn`, the permutation with the one that writes
--- `dvalue`. k is what the call writes: a round, an echo too, or 0 for the results
+-- 17 or 18 of the r Blocks and the permutation: r, all strings or a seed, is due with the call that writes `fabitn`, the permutation with
+-- the one that writes `dvalue`. k is what the call writes: a round, an echo too, or 0 for the results
 unfoldable pub lent : ℕ → ℕ → ℕ → Loan → ℕ
 lent k n l q =
-    pick (eqb k FABITN) (pick (eqb (length (q .r)) (rLen l) && eqb (length (q .perm)) 0) 0 17)
+    pick (eqb k FABITN) (pick (Fabitn.rFits l (length (q .r)) && eqb (length (q .perm)) 0) 0 17)
     (pick (eqb k DVALUE) (pick (eqb (length (q .r)) 0 && eqb (length (q .perm)) (leaky l)) (pick (isPerm (q .perm)) 0 18) 17)
     (noLoan q))
 

@@ -2,24 +2,21 @@
 // was (20, 19, 17, 18), then the form of each message (14, 13, 21, 6), then the content; an accepted call keeps what it received and writes the
 // messages of the next round, or the results. The definition is `roundSpec` of crate engine at the table of crate rounds.
 ghost use mathlib.Core.Path.{_≡_};
-ghost use mathlib.Core.Bool.{true, false};
+ghost use mathlib.Core.Bool.{false};
 ghost use mathlib.Core.List.{[]};
-ghost use Prim.Native.Nat.{ℕ, _-_, _*_, _≤_};
+ghost use Prim.Native.Nat.{ℕ, _*_, _≤_};
 ghost use lib.ListN.{length, replicate};
 ghost use lib.Dec.{eqb};
 ghost use Rattle.lists.specs.Pick.{pick};
 ghost use Rattle.share.specs.Record.{recordLen};
-ghost use Rattle.plan.specs.Plan.{echo?, msgLen};
+ghost use Rattle.plan.specs.Plan.{echo?};
 ghost use Rattle.engine.specs.Step.{mask, replyOf, outcome, faultOf, roundSpec};
 ghost use Rattle.engine.specs.Plain.{protocolOf, ruleOf, toEcho, outLenOf, lentOf, digests, hashes, checkOf, forEcho, keepOf, writeOf};
-ghost use Rattle.engine.specs.Area.{toOthers};
 ghost use Rattle.rounds.specs.Mail.{letter};
 ghost use Rattle.rounds.specs.FaultLaws.{Finds};
 ghost use Rattle.rounds.specs.Table as Table;
 ghost use Rattle.rounds.specs.Table.{table};
-ghost use Rattle.area.specs.Given.{Work};
 ghost use Rattle.admit.specs.Admit.{loan, given, posted};
-ghost use Rattle.plain.specs.Plain.{plain};
 ghost use Rattle.session.specs.Given.{Let, Admitted};
 use engine::Answer;
 use engine::Frame;
@@ -90,19 +87,6 @@ fn keep_received(work: &mut [u8], incoming: &[u8], mail: Mail, f: Frame, k: usiz
     plain::keep(work, incoming, mail, f, k);
 }
 
-// The messages of round `next` are made: what they need is kept, then they are written.
-fn make(work: &mut [u8], out: &mut [u8], r: &[u8], perm: &[u32], f: Frame, next: usize)
-    requires { ⌜ Work f (now work) ⌝ }
-    requires { ⌜ (plain next ≡ true) × (length (now out) ≡ (f .n - 1) * msgLen (f .n) (f .l) next) ⌝ }
-    requires { ⌜ Table.lent next (f .n) (f .l) (loan (now r) (now perm)) ≡ 0 ⌝ }
-    ensures { λ _. ⌜ (now (work .exit) ≡ Table.held next f (loan (now (r .entry)) (now (perm .entry))) (now (work .entry)))
-        × (now (out .exit) ≡ toOthers (f .n) (f .i) (Table.written next f (loan (now (r .entry)) (now (perm .entry)))
-        (Table.held next f (loan (now (r .entry)) (now (perm .entry))) (now (work .entry))))) ⌝ }
-{
-    plain::hold(work, r, perm, f, next);
-    plain::write(out, work, r, perm, f, next);
-}
-
 // The last call: the results are written, and the work area is zeroed.
 fn finish(w: &mut [u8], out: &mut [u8], incoming: &[u8], mail: Mail, f: Frame)
     requires { ⌜ Let f 22 (now w) (now incoming) mail ⌝ }
@@ -141,7 +125,7 @@ fn step(
         broadcast::write(out, work, f);
     } else {
         keep_received(work, incoming, mail, f, k);
-        make(work, out, r, perm, f, plan::next_round(n, k));
+        plain::make(work, out, r, perm, f, plan::next_round(n, k));
     }
 }
 

@@ -14,19 +14,21 @@ use nuzsdike_host::{
     files::{self, Common, Header},
     round_name, sys,
     transport::{Cause, LineError, Lines, Notice, Place, Who},
-    Call, Inputs, Lent, Mail, Refusal, Session, Step,
+    Call, Form, Inputs, Lent, Mail, Refusal, Session, Step,
 };
 
 const USAGE: &str = "\
-usage: nuzsdike-box --inputs FILE --common FILE --results FILE --listen ADDRESS --peers LIST [--timeout SECONDS]
+usage: nuzsdike-box --inputs FILE --common FILE --results FILE --listen ADDRESS --peers LIST [--r FORM] [--timeout SECONDS]
 
 Runs one box of a session. Exit status: 0 done, 1 refused or a line failed, 2 bad words.
 
   --inputs FILE      own inputs, as the dealer writes them; they tell n, l and the own number
-  --common FILE      r and the permutation, the same for all boxes
+  --common FILE      the permutation, the same for all boxes
   --results FILE     takes the result records once all boxes are done
   --listen ADDRESS   own address, as 127.0.0.1:7000; port 0 takes a free one and prints it
   --peers LIST       every box's address by number, with commas, the own one too; - reads the list from standard input
+  --r FORM           how r is lent: seed, 16 bytes of the joint toss from which the library draws (default),
+                     or strings, which the box draws from that seed itself; the others' choice is theirs
   --timeout SECONDS  the longest wait for the others, in each round (default 30)
 ";
 
@@ -60,6 +62,7 @@ struct Options {
     results: PathBuf,
     listen: String,
     peers: String,
+    form: Form,
     timeout: Duration,
 }
 
@@ -70,12 +73,13 @@ fn options(args: &Args) -> Result<Options, String> {
         results: args.need("results")?.into(),
         listen: args.need("listen")?.into(),
         peers: args.need("peers")?.into(),
+        form: if args.choice("r", &["seed", "strings"])? == "seed" { Form::Seed } else { Form::Strings },
         timeout: Duration::from_secs(args.number("timeout", 1, 86_400)?.unwrap_or(30)),
     })
 }
 
 fn main() -> ExitCode {
-    let names = ["inputs", "common", "results", "listen", "peers", "timeout"];
+    let names = ["inputs", "common", "results", "listen", "peers", "r", "timeout"];
     let options = match Args::parse(env::args().skip(1), &names) {
         Ok(None) => {
             print!("{USAGE}");
@@ -124,7 +128,7 @@ fn run(options: &Options, number: &mut Option<usize>) -> Result<(), Failure> {
 
     let mut lines = Lines::connect(Who { n, i, l, id }, &listener, &peers, options.timeout).map_err(Failure::Line)?;
     drop(listener);
-    match session(header, inputs, &common, &mut lines) {
+    match session(header, inputs, &common, options.form, &mut lines) {
         Ok((results, totals)) => {
             lines.close().map_err(Failure::Line)?;
             files::write_results(&options.results, header, &results)?;
@@ -183,7 +187,7 @@ struct Totals {
 }
 
 /// The session itself: opening, and then one exchange and one call for each round.
-fn session(header: Header, inputs: Inputs, common: &Common, lines: &mut Lines) -> Result<(Vec<u8>, Totals), Failure> {
+fn session(header: Header, inputs: Inputs, common: &Common, form: Form, lines: &mut Lines) -> Result<(Vec<u8>, Totals), Failure> {
     let (i, plan) = (header.i, header.plan());
     let (begin, cpu) = (Instant::now(), sys::cpu_time());
     let (mut session, mut outgoing) = Session::open(plan, i, &inputs).map_err(Failure::Refused)?;
@@ -209,11 +213,9 @@ fn session(header: Header, inputs: Inputs, common: &Common, lines: &mut Lines) -
         let (sent, received) = (outgoing.messages().iter().map(|m| m.len()).sum::<usize>(), lens.iter().sum::<usize>());
         drop(outgoing);
 
+        let r = if plan.r_len(round) != 0 { session.r(form) } else { vec![] };
+        let lent = Lent { r: &r, perm: if plan.perm_len(round) != 0 { &common.perm } else { &[] } };
         let (begin, cpu) = (Instant::now(), sys::cpu_time());
-        let lent = Lent {
-            r: if plan.r_len(round) != 0 { &common.r } else { &[] },
-            perm: if plan.perm_len(round) != 0 { &common.perm } else { &[] },
-        };
         let step = session.round(&mail, lent).map_err(Failure::Refused)?;
         let (call, cpu) = (begin.elapsed(), sys::cpu_time() - cpu);
         println!(

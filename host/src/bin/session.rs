@@ -24,6 +24,7 @@ const USAGE: &str = include_str!("../../usage.txt");
 struct Options {
     plan: Plan,
     seed: u64,
+    r: &'static str,
     timeout: u64,
     keep: Option<PathBuf>,
 }
@@ -35,9 +36,10 @@ fn options(args: &Args) -> Result<Options, String> {
         Some(seed) => seed,
         None => random().map_err(|error| format!("no random seed: {error}"))?,
     };
+    let r = args.choice("r", &["seed", "strings", "mixed"])?;
     // A box waits while slower ones compute, and all of them may share two cores.
     let timeout = args.number("timeout", 1, 86_400)?.unwrap_or(30 + (l * n * n / 4000) as u64);
-    Ok(Options { plan: Plan::new(n, l), seed, timeout, keep: args.get("keep").map(PathBuf::from) })
+    Ok(Options { plan: Plan::new(n, l), seed, r, timeout, keep: args.get("keep").map(PathBuf::from) })
 }
 
 fn random() -> io::Result<u64> {
@@ -47,7 +49,7 @@ fn random() -> io::Result<u64> {
 }
 
 fn main() -> ExitCode {
-    let options = match Args::parse(env::args().skip(1), &["n", "l", "seed", "timeout", "keep"]) {
+    let options = match Args::parse(env::args().skip(1), &["n", "l", "seed", "r", "timeout", "keep"]) {
         Ok(None) => {
             print!("{USAGE}");
             return ExitCode::SUCCESS;
@@ -124,6 +126,14 @@ fn run(options: &Options) -> Result<(), String> {
     let Plan { n, l } = options.plan;
     let folder = Folder::new(&options.keep)?;
     println!("{n} boxes, {} ANDs, seed {}", grouped(l), options.seed);
+    println!(
+        "r        {}",
+        match options.r {
+            "seed" => "drawn by the library, from 16 bytes of the joint toss",
+            "strings" => "drawn by the boxes, from 16 bytes of the joint toss",
+            _ => "from 16 bytes of the joint toss, drawn by the library in boxes of even number, by the others themselves",
+        }
+    );
     let begin = Instant::now();
     deal(options, &folder).map_err(|error| format!("dealing: {error}"))?;
     let dealt = begin.elapsed();
@@ -197,13 +207,21 @@ enum Event {
     End,
 }
 
+/// How box i lends r: in a mixed session those of odd number draw the strings themselves.
+fn form(r: &'static str, i: usize) -> &'static str {
+    match r {
+        "mixed" => ["seed", "strings"][i % 2],
+        all => all,
+    }
+}
+
 fn start(options: &Options, folder: &Folder, sender: Sender<(usize, Event)>) -> Result<Boxes, String> {
     let program = env::current_exe().map_err(|error| error.to_string())?.with_file_name("nuzsdike-box");
     let mut boxes = Boxes(vec![]);
     for i in 0..options.plan.n {
         let _ = fs::remove_file(folder.results(i)); // of an earlier run
         let mut child = Command::new(&program)
-            .args(["--listen", "127.0.0.1:0", "--peers", "-", "--timeout", &options.timeout.to_string()])
+            .args(["--listen", "127.0.0.1:0", "--peers", "-", "--r", form(options.r, i), "--timeout", &options.timeout.to_string()])
             .arg("--inputs")
             .arg(folder.inputs(i))
             .arg("--common")

@@ -98,10 +98,16 @@ impl Ended {
 impl Process {
     /// Starts a box with these inputs; it waits for the list of addresses.
     pub fn start(deal: &Deal, i: usize) -> Self {
+        Self::start_with(deal, i, &[])
+    }
+
+    /// The same with more words.
+    pub fn start_with(deal: &Deal, i: usize, words: &[&str]) -> Self {
         static COUNT: AtomicUsize = AtomicUsize::new(0);
         let results = deal.folder.join(format!("{}.results", COUNT.fetch_add(1, Ordering::Relaxed)));
         let mut child = Command::new(env!("CARGO_BIN_EXE_nuzsdike-box"))
             .args(["--listen", "127.0.0.1:0", "--peers", "-", "--timeout", &TIMEOUT.to_string()])
+            .args(words)
             .arg("--inputs")
             .arg(deal.inputs(i))
             .arg("--common")

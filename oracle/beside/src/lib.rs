@@ -31,6 +31,8 @@ pub struct Ran {
     pub broken: Vec<String>,
     /// Calls that were refused for the host's own faults.
     pub probes: usize,
+    /// Bit i: party i was lent r's seed, and not the strings.
+    pub seeded: u8,
     /// CPU time of each party, its calls alone.
     pub nanoseconds: Vec<u64>,
     /// CPU time of each round call, by round and party.
@@ -55,6 +57,9 @@ impl Care {
         matches!(self, Care::Time | Care::TimeFresh)
     }
 }
+
+/// The round whose call is lent r.
+const R_DUE: u8 = 5;
 
 /// A number of the answer, and the party above it.
 fn answer(a: u64) -> (u8, usize) {
@@ -82,7 +87,7 @@ pub fn lengths(s: &Session) -> Vec<String> {
         section(s, 10).start,
     );
     let all: Vec<u8> = rounds(n).collect();
-    let (r_due, perm_due) = (5, if n == 2 { 19 } else { 20 });
+    let perm_due = if n == 2 { 19 } else { 20 };
     let mut before = 0;
     for round in &all {
         let len = message_len(*round, n, l, s.b());
@@ -90,7 +95,7 @@ pub fn lengths(s: &Session) -> Vec<String> {
         is("out", ffi::out_len(n, l, before), (n - 1) * len);
         is("next", ffi::next_round(n, before), (*round).into());
         before = (*round).into();
-        let r = if *round == r_due { s.r.len() } else { 0 };
+        let r = if *round == R_DUE { s.r.len() } else { 0 };
         is("r", ffi::r_len(n, l, before), r);
         let perm = if *round == perm_due { l * s.b() } else { 0 };
         is("permutation", ffi::perm_len(n, l, before), perm);
@@ -172,6 +177,25 @@ fn section(s: &Session, number: usize) -> std::ops::Range<usize> {
     start..start + lens[number]
 }
 
+/// Who is lent r's seed, where it has one: all, or any.
+fn seeded(g: &mut SplitMix, s: &Session, care: Care) -> u8 {
+    let all = u8::MAX >> (8 - s.n);
+    match s.r_seed {
+        None => 0,
+        Some(_) if care.times() || g.below(2) == 0 => all,
+        Some(_) => 1 + g.below(all.into()) as u8,
+    }
+}
+
+/// A length that r must not have in a call that is due so many bytes of it.
+fn bad_r_len(g: &mut SplitMix, due: usize) -> usize {
+    let lens = match due {
+        0 => [1, 15, 16, 16, 16, 17, 32, 3840],
+        _ => [0, 1, 15, 17, 32, due - 16, due - 1, due + 1],
+    };
+    lens[g.below(lens.len())]
+}
+
 /// A call for round k with something wrong that ends no session: its number.
 fn spoil(g: &mut SplitMix, s: &Session, i: usize, round: u8, t: &mut Lent) -> (usize, u8) {
     let n = s.n;
@@ -196,7 +220,8 @@ fn spoil(g: &mut SplitMix, s: &Session, i: usize, round: u8, t: &mut Lent) -> (u
             (due, 17)
         }
         4 => {
-            t.r.push(0);
+            let len = bad_r_len(g, if round == R_DUE { s.r_len() } else { 0 });
+            t.r = g.bytes(len);
             (due, 17)
         }
         5 => {
@@ -320,7 +345,8 @@ fn spoil_opening(g: &mut SplitMix, s: &Session, i: usize) -> Wrong {
 }
 
 /// Runs our n boxes on the inputs of a session, in lockstep as `oracle::run` has it; `tamper` is as
-/// there. `seeds` are the tossed seeds of the Rust, where they are to be compared.
+/// there. Where r has a seed, all boxes or some are lent that. `seeds` are the tossed seeds of the Rust,
+/// where they are to be compared.
 pub fn run(
     s: &Session,
     tamper: &mut dyn FnMut(u8, usize, usize, Vec<u8>) -> Option<Vec<u8>>,
@@ -337,6 +363,7 @@ pub fn run(
     let mut sent: BTreeMap<(u8, usize), Vec<u8>> = BTreeMap::new();
     let mut ends: Vec<Option<End>> = vec![None; n];
     let all: Vec<u8> = rounds(n).collect();
+    let seeded = seeded(g, s, care);
 
     // What lies in lent memory before a call is of no account.
     let dirt = |g: &mut SplitMix, len: usize| match care {
@@ -475,8 +502,11 @@ pub fn run(
                 (t.starts[i], t.lens[i]) = (g.word() as usize, g.word() as usize);
                 t.missing[i] = g.below(256) as u8;
             }
-            if round == 5 {
-                t.r = s.r.clone();
+            if round == R_DUE {
+                t.r = match s.r_seed {
+                    Some(seed) if seeded >> i & 1 == 1 => seed.to_vec(),
+                    _ => s.r.clone(),
+                };
             }
             if round == if n == 2 { 19 } else { 20 } {
                 t.perm = s.permutation.clone();
@@ -553,6 +583,7 @@ pub fn run(
         ends: ends.into_iter().map(Option::unwrap).collect(),
         broken,
         probes,
+        seeded,
         nanoseconds,
         calls,
     }

@@ -10,10 +10,10 @@ use Rattle.fabitn.proofs.write_blocks.Statement.{statement}
 use Rattle.fabitn.proofs.write_blocks.Tie as tie
 
 abbrev Inv-loop : tie.InvT-loop
-Inv-loop out₀ words j₀ out j = (j ≤ STRINGS) × Written (λ j. bytesOf (pairAt words j)) j (j * 16) out₀ out
+Inv-loop out₀ words base j₀ out j = (j ≤ STRINGS) × Written (λ j. bytesOf (pairAt words (base + j))) j (j * 16) out₀ out
 
 abbrev μ-loop : tie.MeasureT-loop
-μ-loop out₀ words j₀ out j = STRINGS - j
+μ-loop out₀ words base j₀ out j = STRINGS - j
 
 loop-holds : tie.Need-loop-holds Inv-loop μ-loop
 loop-holds c = (search needs, written-zero _ _)
@@ -25,8 +25,8 @@ loop-again c =
     let s = l .before .before in
     let j = l .loop .j in (
       omega arith,
-      even-put (λ j. bytesOf (pairAt (now (s .args .words)) j)) STRINGS 16 (now (s .args .out)) (s .pre) j (j * 16 + 16) (l .loop .out)
-          (p .store .last .0)
+      even-put (λ j. bytesOf (pairAt (now (s .args .words)) (s .args .base + j))) STRINGS 16 (now (s .args .out)) (s .pre .0) j
+          (j * 16 + 16) (l .loop .out) (p .store .last .0)
           (omega arith) (l .loop .inv .1) (length-bytesOf _) (p .store .ensures) refl,
     )
 
@@ -34,10 +34,10 @@ same-length : tie.Need-same-length Inv-loop μ-loop
 same-length c = c .before .loop .inv .1 .same
 
 returns : tie.Need-returns Inv-loop μ-loop
-returns c = let l = c .before in even-end _ STRINGS 16 _ (l .before .before .pre) (l .loop .j) _ (l .loop .inv .1) (omega arith)
+returns c = let l = c .before in even-end _ STRINGS 16 _ (l .before .before .pre .0) (l .loop .j) _ (l .loop .inv .1) (omega arith)
 
 pub write-blocks-spec : {M : Type 1} → statement M
 write-blocks-spec =
     tie.close (tie.spec Inv-loop μ-loop loop-holds (λ c. search needs) (λ c. search needs) (λ c. search needs) (λ c. search needs)
     (λ c. search needs) (λ c. search needs) (λ c. search needs) (λ c. search needs) (λ c. search needs) (λ c. search needs)
-    (λ c. search needs) (λ c κs. search needs) (λ c. search needs) (λ c. search needs) loop-again same-length returns)
+    (λ c. search needs) (λ c. search needs) (λ c κs. search needs) (λ c. search needs) (λ c. search needs) loop-again same-length returns)

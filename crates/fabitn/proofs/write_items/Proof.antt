@@ -9,23 +9,24 @@ use Rattle.rounds.specs.Fabitn.{STRINGS, ITEM, MSG}
 use Rattle.fabitn.proofs.write_items.Statement.{statement}
 use Rattle.fabitn.proofs.write_items.Tie as tie
 
-abbrev item : List ℕ → List ℕ → ℕ → List ℕ
-item bits macs j = bitBlock (odd (getD bits j 0)) (pairAt macs j)
+abbrev item : List ℕ → List ℕ → ℕ → ℕ → List ℕ
+item bits macs base j = bitBlock (odd (getD bits j 0)) (pairAt macs (base + j))
 
 abbrev Inv-loop : tie.InvT-loop
-Inv-loop out₀ bits macs j₀ out j = (j ≤ STRINGS) × (length out₀ ≡ MSG) × Stretch STRINGS (item bits macs) j (8 + j * ITEM) out₀ out
+Inv-loop out₀ bits macs base j₀ out j =
+    (j ≤ STRINGS) × (length out₀ ≡ MSG) × Stretch STRINGS (item bits macs base) j (8 + j * ITEM) out₀ out
 
 abbrev μ-loop : tie.MeasureT-loop
-μ-loop out₀ bits macs j₀ out j = STRINGS - j
+μ-loop out₀ bits macs base j₀ out j = STRINGS - j
 
 loop-holds : tie.Need-loop-holds Inv-loop μ-loop
 loop-holds c =
     let p = c .before .before in
     let a = p .before .before .before .before in
     let w =
-    stretch-count STRINGS (item (now (a .args .bits)) (now (a .args .macs))) (now (a .args .out)) (p .put-count .last .0) (omega arith)
-    (p .put-count .ensures) in
-    (search needs, w .same ∙ a .pre .0, stretch-self STRINGS _ 0 8 _ _ w)
+    stretch-count STRINGS (item (now (a .args .bits)) (now (a .args .macs)) (a .args .base)) (now (a .args .out)) (p .put-count .last .0)
+    (omega arith) (p .put-count .ensures) in
+    (search needs, w .same ∙ a .pre .0 .0, stretch-self STRINGS _ 0 8 _ _ w)
 
 loop-again : tie.Need-loop-again Inv-loop μ-loop
 loop-again c =
@@ -36,15 +37,16 @@ loop-again c =
     let j = l .loop .j in (
       omega arith,
       l .loop .inv .1,
-      even-turn STRINGS (item (now (a .bits)) (now (a .macs))) ITEM (λ t h. length-bitBlock _ _) j (8 + j * ITEM + ITEM) _ (l .loop .out)
-          (p .put-bit-block .last .0)
+      even-turn STRINGS (item (now (a .bits)) (now (a .macs)) (a .base)) ITEM (λ t h. length-bitBlock _ _) j (8 + j * ITEM + ITEM) _
+          (l .loop .out) (p .put-bit-block .last .0)
           (l .loop .inv .1) (b .before .before .loop-test .taken) (l .loop .inv .2)
-          (p .put-bit-block .ensures ∙ ap (λ x. bitBlock x (pairAt (now (a .macs)) j)) (b .bit .ensures)) refl,
+          (p .put-bit-block .ensures ∙ ap (λ x. bitBlock x (pairAt (now (a .macs)) (a .base + j))) (b .bit .ensures)) refl,
     )
 
 same-length : tie.Need-same-length Inv-loop μ-loop
 same-length c =
-    let l = c .before in l .loop .inv .2 .same ∙ l .loop .inv .1 ∙ sym (l .before .before .before .before .before .before .before .pre .0)
+    let l = c .before in
+    l .loop .inv .2 .same ∙ l .loop .inv .1 ∙ sym (l .before .before .before .before .before .before .before .pre .0 .0)
 
 returns : tie.Need-returns Inv-loop μ-loop
 returns c =
@@ -55,5 +57,5 @@ pub write-items-spec : {M : Type 1} → statement M
 write-items-spec =
     tie.close (tie.spec Inv-loop μ-loop (λ c. search needs) (λ c. search needs) (λ c. search needs) (λ c κs. search needs) loop-holds
     (λ c. search needs) (λ c. search needs) (λ c. search needs) (λ c. search needs) (λ c. search needs) (λ c. search needs)
-    (λ c. search needs) (λ c. search needs) (λ c κs. search needs) (λ c. search needs) (λ c. search needs) (λ c. search needs)
-    (λ c. search needs) (λ c κs. search needs) (λ c. search needs) (λ c. search needs) loop-again same-length returns)
+    (λ c. search needs) (λ c. search needs) (λ c. search needs) (λ c κs. search needs) (λ c. search needs) (λ c. search needs)
+    (λ c. search needs) (λ c. search needs) (λ c κs. search needs) (λ c. search needs) (λ c. search needs) loop-again same-length returns)

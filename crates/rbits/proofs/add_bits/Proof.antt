@@ -1,39 +1,28 @@
 -- The loop's invariant: the words of the first j strings have the chosen digits added.
-use Rattle.lists.specs.Kit.{ap₂, _+_, _-_, _*_, _≤_, arith, length, now, needs}
+use Rattle.lists.specs.Kit.{ap, _-_, _≤_, arith, now, needs}
 use lib.Bits.{bitXor, bitAnd}
-use Rattle.lists.specs.Over.{in-record}
-use Rattle.rbits.specs.Tables.{maskedAt}
+use Rattle.rbits.specs.Tables.{halfAt, maskedAt}
 use Rattle.rbits.specs.LoopLaws.{Filled, filled-zero, filled-turn, filled-get, filled-end}
 use Rattle.rbits.proofs.add_bits.Statement.{statement}
 use Rattle.rbits.proofs.add_bits.Tie as tie
 
 abbrev Inv-loop : tie.InvT-loop
-Inv-loop acc₀ r row g b j₀ acc j = (j ≤ 120) × Filled (maskedAt acc₀ r row g b) j acc₀ acc
+Inv-loop acc₀ win h b j₀ acc j = (j ≤ 120) × Filled (maskedAt acc₀ win h b) j acc₀ acc
 
 abbrev μ-loop : tie.MeasureT-loop
-μ-loop acc₀ r row g b j₀ acc j = 120 - j
+μ-loop acc₀ win h b j₀ acc j = 120 - j
 
 loop-holds : tie.Need-loop-holds Inv-loop μ-loop
 loop-holds c = (omega arith, filled-zero _ _)
 
--- the word lies within string j
-within : (c : tie.After-slice-known2 Inv-loop μ-loop) → let l = c .before .before in
-    let a = l .before .before .before .args in
-    l .loop .j * a .row + a .g * 8 + 8 ≤ length (now (a .r))
-within c =
-    let l = c .before .before in
-    let s = l .before .before .before in
-    in-record (l .loop .j) 120 (s .args .row) (s .args .g * 8) 8 (length (now (s .args .r))) (c .before .loop-test .taken) (s .pre .1 .1)
-    (s .pre .1 .0)
-
 loop-again : tie.Need-loop-again Inv-loop μ-loop
 loop-again c =
     let l = c .before .before .before in
-    let a = l .before .before .before .args in (
+    let a = l .before .args in (
       omega arith,
-      filled-turn (maskedAt (now (a .acc)) (now (a .r)) (a .row) (a .g) (a .b)) (l .loop .j) (now (a .acc)) (l .loop .acc) _
-          (l .loop .inv .1)
-          (ap₂ (λ x y. bitXor x (bitAnd y (a .b))) (filled-get _ (l .loop .j) (now (a .acc)) (l .loop .acc) (l .loop .inv .1) (omega arith)) (c .load64 .ensures)) (omega arith),
+      filled-turn (maskedAt (now (a .acc)) (now (a .win)) (a .h) (a .b)) (l .loop .j) (now (a .acc)) (l .loop .acc) _ (l .loop .inv .1)
+          (ap (λ x. bitXor x (bitAnd (halfAt (now (a .win)) (a .h) (l .loop .j)) (a .b)))
+          (filled-get _ (l .loop .j) (now (a .acc)) (l .loop .acc) (l .loop .inv .1) (omega arith))) (omega arith),
     )
 
 same-length : tie.Need-same-length Inv-loop μ-loop
@@ -42,12 +31,12 @@ same-length c = c .before .loop .inv .1 .same
 returns : tie.Need-returns Inv-loop μ-loop
 returns c =
     let l = c .before in
-    let a = l .before .before .before .args in
-    filled-end (maskedAt (now (a .acc)) (now (a .r)) (a .row) (a .g) (a .b)) (l .loop .j) 120 (now (a .acc)) (l .loop .acc)
+    let a = l .before .args in
+    filled-end (maskedAt (now (a .acc)) (now (a .win)) (a .h) (a .b)) (l .loop .j) 120 (now (a .acc)) (l .loop .acc)
     (l .loop .inv .1) (omega arith) (omega arith)
 
 pub add-bits-spec : {M : Type 1} → statement M
 add-bits-spec =
-    tie.close (tie.spec Inv-loop μ-loop loop-holds (λ c. search needs) (λ c. search needs) (λ c. omega (arith, within c))
-    (λ c. omega (arith, within c)) (λ c. omega (arith, within c)) (λ c κs. within c) (λ c. search needs) (λ c. search needs)
-    (λ c. search needs) (λ c. search needs) loop-again same-length returns)
+    tie.close (tie.spec Inv-loop μ-loop loop-holds (λ c. search needs) (λ c. search needs) (λ c. search needs) (λ c. search needs)
+    (λ c. search needs) (λ c. search needs) (λ c. search needs) (λ c. search needs) (λ c. search needs) (λ c. search needs) loop-again
+    same-length returns)

@@ -8,8 +8,8 @@ pub struct Values {
     /// Bytes for `rand::random`, in the order of the draws.
     pub draws: Vec<u8>,
     pub drawn: usize,
-    /// The Blocks for `AesRng`, the same for every party.
-    pub r: Arc<Vec<u8>>,
+    /// The Blocks for `AesRng`, the same for every party; `None` where it is to draw them by AES.
+    pub r: Option<Arc<Vec<u8>>>,
     pub r_used: usize,
     pub permutation: Arc<Vec<u32>>,
     pub shuffled: bool,
@@ -18,7 +18,8 @@ pub struct Values {
 impl Values {
     /// Whether every value was taken: it shows that the draws came in the expected order.
     pub fn used_up(&self) -> bool {
-        self.drawn == self.draws.len() && self.r_used == self.r.len() && self.shuffled
+        let r_len = self.r.as_ref().map_or(0, |r| r.len());
+        self.drawn == self.draws.len() && self.r_used == r_len && self.shuffled
     }
 }
 
@@ -48,9 +49,10 @@ pub fn r_block() -> Option<[u8; 16]> {
     VALUES.with(|v| {
         let mut v = v.borrow_mut();
         let v = v.as_mut()?;
+        let r = v.r.as_ref()?;
         let end = v.r_used + 16;
-        assert!(end <= v.r.len(), "oracle: recorded r Blocks are used up");
-        let block = v.r[v.r_used..end].try_into().unwrap();
+        assert!(end <= r.len(), "oracle: recorded r Blocks are used up");
+        let block = r[v.r_used..end].try_into().unwrap();
         v.r_used = end;
         Some(block)
     })

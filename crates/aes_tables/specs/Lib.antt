@@ -1,0 +1,5 @@
+pub mod Word
+pub mod Tables
+pub mod WordLaws
+pub mod TableLaws
+pub mod ReadLaws
