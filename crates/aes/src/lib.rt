@@ -8,6 +8,8 @@ ghost use Rattle.fips197.specs.Cipher as C;
 ghost use Rattle.aes_tables.specs.Tables as T;
 ghost use Rattle.aes_key.specs.Words.{wordsBytes};
 ghost use Rattle.aes.specs.Columns.{blockOf, columnsOf, columnOf, lastOf, stateOf};
+use aes_key::WORDS;
+use aes_tables::ENTRIES;
 use block::Block;
 
 // The State: four columns, the first byte of each lowest.
@@ -37,7 +39,7 @@ pub fn block(s: Columns) -> Block
 
 // A column after SubBytes, ShiftRows, MixColumns and AddRoundKey: its bytes come from the columns a, b, c and d, one of each, and k is
 // the key's word.
-pub fn column(t: &[u32; 1280], a: u32, b: u32, c: u32, d: u32, k: u32) -> u32
+pub fn column(t: &[u32; ENTRIES], a: u32, b: u32, c: u32, d: u32, k: u32) -> u32
     ensures { λ r. ⌜ r ≡ columnOf (now (t .entry)) a b c d k ⌝ }
 {
     t[(a % 256) as usize]
@@ -48,7 +50,7 @@ pub fn column(t: &[u32; 1280], a: u32, b: u32, c: u32, d: u32, k: u32) -> u32
 }
 
 // A column of the last round, which has no MixColumns.
-fn last_column(t: &[u32; 1280], a: u32, b: u32, c: u32, d: u32, k: u32) -> u32
+fn last_column(t: &[u32; ENTRIES], a: u32, b: u32, c: u32, d: u32, k: u32) -> u32
     requires { ⌜ now t ≡ T.tables ⌝ }
     ensures { λ r. ⌜ r ≡ lastOf a b c d k ⌝ }
 {
@@ -62,7 +64,7 @@ fn last_column(t: &[u32; 1280], a: u32, b: u32, c: u32, d: u32, k: u32) -> u32
 }
 
 // Round k of those that are alike.
-pub fn round(t: &[u32; 1280], w: &[u32; 44], k: usize, s: Columns) -> Columns
+pub fn round(t: &[u32; ENTRIES], w: &[u32; WORDS], k: usize, s: Columns) -> Columns
     requires { ⌜ (now t ≡ T.tables) × (k ≤ 10) ⌝ }
     ensures { λ r. ⌜ stateOf r ≡ C.addRoundKey (wordsBytes 44 (now (w .entry))) k (C.mixColumns (C.shiftRows (C.subBytes (stateOf s)))) ⌝ }
 {
@@ -76,7 +78,7 @@ pub fn round(t: &[u32; 1280], w: &[u32; 44], k: usize, s: Columns) -> Columns
 }
 
 // The last round.
-pub fn last_round(t: &[u32; 1280], w: &[u32; 44], s: Columns) -> Columns
+pub fn last_round(t: &[u32; ENTRIES], w: &[u32; WORDS], s: Columns) -> Columns
     requires { ⌜ now t ≡ T.tables ⌝ }
     ensures { λ r. ⌜ stateOf r ≡ C.addRoundKey (wordsBytes 44 (now (w .entry))) 10 (C.shiftRows (C.subBytes (stateOf s))) ⌝ }
 {
@@ -89,7 +91,7 @@ pub fn last_round(t: &[u32; 1280], w: &[u32; 44], s: Columns) -> Columns
 }
 
 // The first AddRoundKey, and the nine rounds that are alike.
-fn rounds(t: &[u32; 1280], w: &[u32; 44], x: Block) -> Columns
+fn rounds(t: &[u32; ENTRIES], w: &[u32; WORDS], x: Block) -> Columns
     requires { ⌜ now t ≡ T.tables ⌝ }
     ensures { λ r. ⌜ stateOf r ≡ C.rounds (wordsBytes 44 (now (w .entry))) 9 (bytesOf x) ⌝ }
 {
@@ -104,7 +106,7 @@ fn rounds(t: &[u32; 1280], w: &[u32; 44], x: Block) -> Columns
 }
 
 // The Block x under a key whose words are w.
-pub fn encrypt(t: &[u32; 1280], w: &[u32; 44], x: Block) -> Block
+pub fn encrypt(t: &[u32; ENTRIES], w: &[u32; WORDS], x: Block) -> Block
     requires { ⌜ now t ≡ T.tables ⌝ }
     ensures { λ r. ⌜ bytesOf r ≡ C.cipher (wordsBytes 44 (now (w .entry))) (bytesOf x) ⌝ }
 {

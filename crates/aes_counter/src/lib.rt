@@ -12,13 +12,18 @@ ghost use Rattle.aes_key.specs.Words.{wordsBytes};
 ghost use Rattle.aes.specs.Columns.{stateOf};
 ghost use Rattle.aes_counter.specs.Starts.{piecesOf, restOf, partOf, startsOf, begun};
 use aes::Columns;
+use aes_key::WORDS;
+use aes_tables::ENTRIES;
 use block::Block;
+
+// The words of the parts: two for each value of three bytes.
+pub const PARTS: usize = 1536;
 
 // Two Blocks.
 pub struct Two(pub Block, pub Block);
 
 // What the bytes of the column e add to columns of the next round.
-fn pieces(t: &[u32; 1280], e: u32) -> Columns
+fn pieces(t: &[u32; ENTRIES], e: u32) -> Columns
     ensures { λ r. ⌜ r ≡ piecesOf (now (t .entry)) e ⌝ }
 {
     Columns(
@@ -30,7 +35,7 @@ fn pieces(t: &[u32; 1280], e: u32) -> Columns
 }
 
 // What is the same for all counters: what column 1 adds, and the second round's key.
-fn rest(t: &[u32; 1280], w: &[u32; 44]) -> Columns
+fn rest(t: &[u32; ENTRIES], w: &[u32; WORDS]) -> Columns
     ensures { λ r. ⌜ r ≡ restOf (now (t .entry)) (now (w .entry)) ⌝ }
 {
     let q = pieces(t, aes::column(t, w[1], w[2], w[3], w[0], w[5]));
@@ -38,7 +43,7 @@ fn rest(t: &[u32; 1280], w: &[u32; 44]) -> Columns
 }
 
 // The part of byte p, where it is x.
-fn part(t: &[u32; 1280], w: &[u32; 44], z: Columns, p: usize, x: u32) -> Columns
+fn part(t: &[u32; ENTRIES], w: &[u32; WORDS], z: Columns, p: usize, x: u32) -> Columns
     requires { ⌜ (z ≡ restOf (now t) (now w)) × (x < 256) ⌝ }
     ensures { λ r. ⌜ r ≡ partOf (now (t .entry)) (now (w .entry)) p x ⌝ }
 {
@@ -65,12 +70,12 @@ fn part(t: &[u32; 1280], w: &[u32; 44], z: Columns, p: usize, x: u32) -> Columns
 }
 
 // The parts, two words each: 256 for the lowest byte, then for the next, then for the third.
-pub fn starts(t: &[u32; 1280], w: &[u32; 44]) -> [u64; 1536]
+pub fn starts(t: &[u32; ENTRIES], w: &[u32; WORDS]) -> [u64; PARTS]
     requires { ⌜ now t ≡ T.tables ⌝ }
     ensures { λ r. ⌜ r ≡ startsOf (now (w .entry)) ⌝ }
 {
     let z = rest(t, w);
-    let mut out = [0u64; 1536];
+    let mut out = [0u64; PARTS];
     let mut i = 0;
     while i < 768 {
         let b = aes::block(part(t, w, z, i / 256, (i % 256) as u32));
@@ -82,7 +87,7 @@ pub fn starts(t: &[u32; 1280], w: &[u32; 44]) -> [u64; 1536]
 }
 
 // The State of c after two rounds.
-fn start(parts: &[u64; 1536], c: u64) -> Columns
+fn start(parts: &[u64; PARTS], c: u64) -> Columns
     requires { ⌜ c < 2 ^ 24 ⌝ }
     ensures { λ r. ⌜ ((w : List ℕ) → now (parts .entry) ≡ startsOf w → stateOf r ≡ begun w c) ⌝ }
 {
@@ -97,7 +102,13 @@ fn start(parts: &[u64; 1536], c: u64) -> Columns
 
 // AES-128 of c and of d, a round of one and a round of the other in turn: each waits for its tables while the other goes on. The rounds are
 // written out: in a loop they are slower.
-pub fn encrypt_two(t: &[u32; 1280], w: &[u32; 44], parts: &[u64; 1536], c: u64, d: u64) -> Two
+pub fn encrypt_two(
+    t: &[u32; ENTRIES],
+    w: &[u32; WORDS],
+    parts: &[u64; PARTS],
+    c: u64,
+    d: u64,
+) -> Two
     requires { ⌜ (now t ≡ T.tables) × (now parts ≡ startsOf (now w)) × (c < 2 ^ 24) × (d < 2 ^ 24) ⌝ }
     ensures { λ r. ⌜ bytesOf (r .0) ≡ C.cipher (wordsBytes 44 (now (w .entry))) (bytesOf (record { 0 = c; 1 = 0 })) ⌝ }
     ensures { λ r. ⌜ bytesOf (r .1) ≡ C.cipher (wordsBytes 44 (now (w .entry))) (bytesOf (record { 0 = d; 1 = 0 })) ⌝ }

@@ -6,6 +6,10 @@ ghost use lib.ListN.{length};
 ghost use Rattle.fips197.specs.Key.{power, keyExpansion};
 ghost use Rattle.aes_tables.specs.Tables as T;
 ghost use Rattle.aes_key.specs.Words.{wordsBytes, subRotOf, nextOf, wordAt};
+use aes_tables::ENTRIES;
+
+// The words of an expanded key.
+pub const WORDS: usize = 44;
 
 // The round constants' first bytes: x^0 to x^9.
 const RCON: [u32; 10] = [1, 2, 4, 8, 16, 32, 64, 128, 0x1b, 0x36];
@@ -19,7 +23,7 @@ fn round_constant(j: usize) -> u32
 }
 
 // SubWord(RotWord(w)).
-fn sub_rot(t: &[u32; 1280], w: u32) -> u32
+fn sub_rot(t: &[u32; ENTRIES], w: u32) -> u32
     requires { ⌜ now t ≡ T.tables ⌝ }
     ensures { λ r. ⌜ r ≡ subRotOf w ⌝ }
 {
@@ -32,7 +36,7 @@ fn sub_rot(t: &[u32; 1280], w: u32) -> u32
 }
 
 // w[i], of those before it.
-fn next_word(t: &[u32; 1280], w: &[u32; 44], i: usize) -> u32
+fn next_word(t: &[u32; ENTRIES], w: &[u32; WORDS], i: usize) -> u32
     requires { ⌜ (now t ≡ T.tables) × (4 ≤ i) × (i < 44) ⌝ }
     ensures { λ r. ⌜ r ≡ nextOf (now (w .entry)) i ⌝ }
 {
@@ -58,17 +62,17 @@ fn load(s: &[u8], at: usize) -> u32
 }
 
 // The words of a key: its own four, and 40 more.
-pub fn expand(t: &[u32; 1280], key: &[u8]) -> [u32; 44]
+pub fn expand(t: &[u32; ENTRIES], key: &[u8]) -> [u32; WORDS]
     requires { ⌜ (now t ≡ T.tables) × (length (now key) ≡ 16) ⌝ }
     ensures { λ r. ⌜ wordsBytes 44 r ≡ keyExpansion (now (key .entry)) ⌝ }
 {
-    let mut w = [0u32; 44];
+    let mut w = [0u32; WORDS];
     let mut i = 0;
     while i < 4 {
         w[i] = load(key, i * 4);
         i += 1;
     }
-    while i < 44 {
+    while i < WORDS {
         w[i] = next_word(t, &w, i);
         i += 1;
     }

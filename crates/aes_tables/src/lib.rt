@@ -8,6 +8,9 @@ ghost use Rattle.fips197.specs.Sbox as S;
 ghost use Rattle.aes_tables.specs.Word.{column4};
 ghost use Rattle.aes_tables.specs.Tables as T;
 
+// The words of the tables: 256 for each of four places, and the S-box.
+pub const ENTRIES: usize = 1280;
+
 // SBOX (FIPS 197, Figure 7).
 const SBOX: [u8; 256] = [
     0x63,
@@ -308,13 +311,13 @@ fn entry(q: usize, s: u32) -> u32
 }
 
 // All of them: 256 for each place, then the S-box.
-pub fn tables() -> [u32; 1280]
+pub fn tables() -> [u32; ENTRIES]
     ensures { λ r. ⌜ r ≡ T.tables ⌝ }
 {
     let s = sbox();
-    let mut out = [0u32; 1280];
+    let mut out = [0u32; ENTRIES];
     let mut i = 0;
-    while i < 1280 {
+    while i < ENTRIES {
         out[i] = entry(i / 256, s[i % 256] as u32);
         i += 1;
     }

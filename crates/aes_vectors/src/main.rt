@@ -7,6 +7,8 @@ ghost use Prim.Native.Nat.{_^_, _<_};
 ghost use lib.ListN.{length};
 ghost use Rattle.aes_tables.specs.Tables as T;
 ghost use Rattle.window.specs.Ready.{Ready};
+use aes_key::WORDS;
+use aes_tables::ENTRIES;
 use block::Block;
 use libc::STDOUT_FILENO;
 use window::Cipher;
@@ -107,7 +109,7 @@ fn show_words(key: &[u8; 16]) {
     let t = aes_tables::tables();
     let w = aes_key::expand(&t, &key[..]);
     let mut i = 0;
-    while i < 44 {
+    while i < WORDS {
         let b = [
             (w[i] % 256) as u8,
             (w[i] / 0x100 % 256) as u8,
@@ -173,7 +175,7 @@ fn put_two(out: &mut [u8], i: usize, seed: &[u8], with: Cipher, c: usize, d: usi
 }
 
 // Puts Block c of a seed by the cipher itself, as Block i.
-fn put_one(out: &mut [u8], i: usize, t: &[u32; 1280], w: &[u32; 44], c: u64)
+fn put_one(out: &mut [u8], i: usize, t: &[u32; ENTRIES], w: &[u32; WORDS], c: u64)
     requires { ⌜ (length (now out) ≡ 176) × (i < 11) × (now t ≡ T.tables) ⌝ }
 {
     put(out, i, aes::encrypt(t, w, Block(c, 0)));

@@ -22,12 +22,10 @@ ghost use Rattle.area.specs.Given.{Work};
 ghost use Rattle.fabitn.specs.Rows.{placeOf, heldRow};
 use block::Block;
 use engine::Frame;
+use rsums::WORDS;
 
 // The strings, each of which chooses some of the bits.
 pub const STRINGS: usize = 120;
-
-// The words of a Block for each string and each of seven other parties.
-const WORDS: usize = 7 * 2 * STRINGS;
 
 // An item of a message: a bit and a Block.
 pub const ITEM: usize = 17;

@@ -12,6 +12,9 @@ ghost use Rattle.rbits.specs.Tables.{recordBlock, pair, sums8, four, tab
 ghost use Rattle.rbits.specs.Tables.{recordBit, packed, maskedAt};
 use block::Block;
 
+// The words of a window: a Block of each of 120 strings.
+pub const WINDOW: usize = 240;
+
 // The Block at `at` of record t, and zero past the last record: so the last group has 64 records too.
 fn record_block(s: &[u8], stride: usize, at: usize, count: usize, t: usize) -> Block
     requires { ⌜ (at + 16 ≤ stride) × (count * stride ≤ length (now s)) ⌝ }
@@ -128,7 +131,7 @@ pub fn pack(s: &[u8], stride: usize, count: usize, first: usize) -> u64
 }
 
 // Adds to each string's word the bits of b that its word in half h of the window chooses, by mask: each digit is summed by itself.
-pub fn add_bits(acc: &mut [u64], win: &[u64; 240], h: usize, b: u64)
+pub fn add_bits(acc: &mut [u64], win: &[u64; WINDOW], h: usize, b: u64)
     requires { ⌜ (length (now acc) ≡ 120) × (h < 2) ⌝ }
     ensures { λ _. ⌜ now (acc .exit) ≡ tab 120 (maskedAt (now (acc .entry)) (now (win .entry)) h b) ⌝ }
 {

@@ -8,6 +8,7 @@ ghost use Rattle.rbits.specs.Chosen.{wordsOf};
 ghost use Rattle.rbits.specs.Tables.{recordBlock, tables, lookup};
 ghost use Rattle.rpairs.specs.Added.{addedFrom};
 use block::Block;
+use rbits::WINDOW;
 
 // What w chooses in the tables of two Blocks a record.
 struct Chosen(Block, Block);
@@ -40,7 +41,7 @@ fn add_two(
     base: usize,
     t: &[u64; 512],
     u: &[u64; 512],
-    win: &[u64; 240],
+    win: &[u64; WINDOW],
     h: usize,
 )
     requires { ⌜ (length (now x) ≡ 1680) × (length (now y) ≡ 1680) ⌝ }
@@ -78,7 +79,7 @@ pub fn add_pair(
     also: usize,
     count: usize,
     first: usize,
-    win: &[u64; 240],
+    win: &[u64; WINDOW],
     h: usize,
 )
     requires { ⌜ (length (now x) ≡ 1680) × (length (now y) ≡ 1680) ⌝ }

@@ -26,12 +26,12 @@ grown off n i s count first win h acc done p =
     (lookup (tables (λ e. recordBlock s (recordLen n) (off (nth i (p / 120))) count (first + e))) (halfAt win h (p % 120))))
     (pairAt acc p)
 
--- what the code asks: opening's numbers, whole records, and strings long enough for them, or a seed
-pub record Given (n i count strings : ℕ) (s r : List ℕ) : Type 0 where
+-- what the code asks: opening's numbers, whole records, and strings, of `each` Blocks, long enough for them, or a seed
+pub record Given (n i count each : ℕ) (s r : List ℕ) : Type 0 where
   pub two : 2 ≤ n
   pub eight : n ≤ 8
   pub own : i < n
   pub records : count * recordLen n ≤ length s
-  pub whole : Whole (120 * strings) r
-  pub enough : count ≤ 128 * strings
-  pub most : strings ≤ 40000
+  pub whole : Whole (120 * each) r
+  pub enough : count ≤ 128 * each
+  pub most : each ≤ 40000

@@ -10,12 +10,16 @@ ghost use Rattle.share.specs.Record.{recordLen, macOff, keyOff};
 ghost use Rattle.rbits.specs.Chosen.{bitSum, wordsOf};
 ghost use Rattle.draw.specs.Strings.{strings};
 ghost use Rattle.rsums.specs.Sums.{Given, partySums, grown};
+use rbits::WINDOW;
+
+// The words of a Block for each string and each of seven other parties.
+pub const WORDS: usize = 1680;
 
 // The sums: of bits as 0 or 1; of MACs and of keys two words a Block, other party q's being Blocks 120q to 120q + 119, zero past the last.
 pub struct AllSums {
     pub bits: [u8; 120],
-    pub macs: [u64; 1680],
-    pub keys: [u64; 1680],
+    pub macs: [u64; WORDS],
+    pub keys: [u64; WORDS],
 }
 
 // Adds what the strings choose of the 64 records from `first` on, of every party but i.
@@ -27,7 +31,7 @@ fn add_group(
     i: usize,
     count: usize,
     first: usize,
-    win: &[u64; 240],
+    win: &[u64; WINDOW],
     h: usize,
 )
     requires { ⌜ (length (now macs) ≡ 1680) × (length (now keys) ≡ 1680) ⌝ }
@@ -79,9 +83,9 @@ pub fn sums(s: &[u8], n: usize, i: usize, count: usize, r: &[u8], blocks: usize)
     let p = c.parts;
     let stride = share::record_len(n);
     let mut bits = [0u64; 120];
-    let mut macs = [0u64; 1680];
-    let mut keys = [0u64; 1680];
-    let mut win = [0u64; 240];
+    let mut macs = [0u64; WORDS];
+    let mut keys = [0u64; WORDS];
+    let mut win = [0u64; WINDOW];
     let mut g = 0;
     while g * 64 < count {
         window::turn(&mut win, r, &t, &w, &p, blocks, g);

@@ -8,15 +8,18 @@ ghost use Rattle.rbits.specs.Tables.{windowOf};
 ghost use Rattle.draw.specs.Strings.{strings};
 ghost use Rattle.draw.specs.Given.{Whole};
 ghost use Rattle.window.specs.Ready.{Ready};
+use aes_counter::PARTS;
 use aes_counter::Two;
+use aes_key::WORDS;
+use aes_tables::ENTRIES;
 use block::Block;
 
 // What a seed's Blocks are made with: AES's tables, the seed's words and the parts that counters begin with. Where the strings are lent
 // nobody looks at it.
 pub struct Cipher {
-    pub tables: [u32; 1280],
-    pub words: [u32; 44],
-    pub parts: [u64; 1536],
+    pub tables: [u32; ENTRIES],
+    pub words: [u32; WORDS],
+    pub parts: [u64; PARTS],
 }
 
 pub fn prepare(r: &[u8]) -> Cipher
@@ -33,18 +36,18 @@ pub fn prepare(r: &[u8]) -> Cipher
         };
     }
     Cipher {
-        tables: [0u32; 1280],
-        words: [0u32; 44],
-        parts: [0u64; 1536],
+        tables: [0u32; ENTRIES],
+        words: [0u32; WORDS],
+        parts: [0u64; PARTS],
     }
 }
 
 // Blocks number c and d of the strings.
 pub fn two_at(
     r: &[u8],
-    t: &[u32; 1280],
-    w: &[u32; 44],
-    parts: &[u64; 1536],
+    t: &[u32; ENTRIES],
+    w: &[u32; WORDS],
+    parts: &[u64; PARTS],
     c: usize,
     d: usize,
 ) -> Two
@@ -65,9 +68,9 @@ pub fn two_at(
 fn window(
     out: &mut [u64],
     r: &[u8],
-    t: &[u32; 1280],
-    w: &[u32; 44],
-    parts: &[u64; 1536],
+    t: &[u32; ENTRIES],
+    w: &[u32; WORDS],
+    parts: &[u64; PARTS],
     blocks: usize,
     q: usize,
 )
@@ -96,9 +99,9 @@ fn window(
 pub fn turn(
     out: &mut [u64],
     r: &[u8],
-    t: &[u32; 1280],
-    w: &[u32; 44],
-    parts: &[u64; 1536],
+    t: &[u32; ENTRIES],
+    w: &[u32; WORDS],
+    parts: &[u64; PARTS],
     blocks: usize,
     g: usize,
 )
