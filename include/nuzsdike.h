@@ -17,7 +17,7 @@ extern "C" {
 /* A session: four numbers n, i, l and the round that is due, 0 once it is done or ended. The host keeps them between calls and changes none. */
 #define NUZSDIKE_SESSION 4
 
-/* An answer: 0 accepted; else the number of docs/REFUSALS.md, 1 to 21, in the low byte, and above it the party that it names. A round call whose session has
+/* An answer: 0 accepted; else the number of docs/REFUSALS.md, 1 to 22, in the low byte, and above it the party that it names. A round call whose session has
  * another length than 4 answers 20 and names no party: nobody gave one. */
 #define NUZSDIKE_CODE(answer) ((unsigned)((answer) & 0xff))
 #define NUZSDIKE_PARTY(answer) ((uint64_t)(answer) >> 8)
@@ -26,6 +26,10 @@ extern "C" {
 /* Bytes of a seed that r is drawn from: a key of AES-128 (FIPS 197). Block c of the strings, counted from 0 over all of them, is c as 128 bits, low byte
  * first, enciphered. The seed is as public as r is. */
 #define NUZSDIKE_R_SEED 16
+
+/* A share record of party i of n, 32 + 32n bytes: the bit, n, i, 29 zero bytes; then by party 16 bytes MAC and 16 bytes key, own ones zero.
+ * n and i are those of the call: 22 where a record says another n or another box's number, or its filler, the 29 bytes, is not zero.
+ * Results, and what combining writes, are such records too. */
 
 /* Opens a session of party i of n, for l ANDs; round 1 is due. session: 4 numbers, written. delta 16 bytes, seed 32, pairs 32 for each party; bits, alpha
  * and beta share records; masks a byte for each party and leaky AND. out: the messages of round 1 to the others, by party, own left out.
@@ -48,7 +52,7 @@ uint64_t nuzsdike_round(uint32_t *session, size_t session_len, uint32_t round,
                         const uint8_t *r, size_t r_len, const uint32_t *perm, size_t perm_len,
                         uint8_t *work, size_t work_len, uint8_t *out, size_t out_len);
 
-/* Combines `count` triples of records x, y, z (at most 5) into one, by count - 1 bytes d; a call by itself. */
+/* Combines `count` triples of party i's records x, y, z (at most 5) into one, by count - 1 bytes d; a call by itself. */
 uint64_t nuzsdike_combine(uint32_t n, uint32_t i, uint32_t count, const uint8_t *triples, size_t triples_len,
                           const uint8_t *d, size_t d_len, uint8_t *out, size_t out_len);
 

@@ -3,9 +3,10 @@
 #include <stdio.h>
 #include <stdlib.h>
 #include <string.h>
+#include "../../host/examples-c/record.h"
 #include "nuzsdike.h"
 
-enum { MOST = 5, RECORD = 1 + 32 * 8 };
+enum { MOST = 5, RECORD = HEAD + ENTRY * 8 };
 
 static uint64_t state = 1;
 static uint8_t byte(void) {
@@ -13,8 +14,10 @@ static uint8_t byte(void) {
     return (uint8_t)(state * 2685821657736338717u >> 56);
 }
 
+/* Bit and entries: the sum keeps its label. */
 static void add(uint8_t *sum, const uint8_t *record, size_t len, uint8_t d) {
-    for (size_t b = 0; b < len; b++) sum[b] ^= record[b] & -d;
+    sum[0] ^= record[0] & -d;
+    for (size_t b = HEAD; b < len; b++) sum[b] ^= record[b] & -d;
 }
 
 int main(int argc, char **argv) {
@@ -24,8 +27,9 @@ int main(int argc, char **argv) {
     uint8_t d[MOST - 1] = {0, 1, 1, 0}, triples[3 * MOST * RECORD], out[3 * RECORD], due[3 * RECORD];
     for (size_t k = 0; k < 3 * count; k++) {
         uint8_t *record = triples + k * len;
-        for (size_t b = 0; b < len; b++) record[b] = byte();
-        record[0] &= 1, memset(record + 1, 0, 32); /* its own entry */
+        put_head(record, n, 0, byte() & 1);
+        memset(record + mac_at(0), 0, ENTRY); /* its own */
+        for (size_t b = mac_at(1); b < len; b++) record[b] = byte();
     }
     memcpy(due, triples, 3 * len);
     for (size_t e = 1; e < count; e++) {

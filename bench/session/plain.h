@@ -1,7 +1,9 @@
 /* The sums of `fabitn` in plain C: mask and XOR, a pass over the records for each of the 120 strings, as `chunked_update_with_rbits` of src/mpc/faand.rs
- * has them. A record is its bit and, for each party, MAC and key; `row` is the bytes of a string. */
+ * has them. `row` is the bytes of a string. */
 #include <stdint.h>
 #include <string.h>
+#include "../../host/examples-c/record.h"
+#include "nuzsdike.h"
 
 enum { STRINGS = 120 };
 
@@ -42,14 +44,14 @@ __attribute__((noinline)) static void plain_bits(const uint8_t *s, size_t record
 
 /* Box 0's sums for n boxes: the bits, and for each other the MACs, which it sends, and the keys, which it keeps. Whether its messages hold them. */
 static int plain_sums(const uint8_t *s, size_t n, size_t count, const uint8_t *r, size_t row, const uint8_t *sent, size_t len) {
-    size_t record = 1 + 32 * n;
+    size_t record = nuzsdike_record_len((uint32_t)n);
     uint64_t macs[2 * STRINGS], keys[2 * STRINGS], kept = 0;
     uint8_t bits[STRINGS];
     int same = 1;
     plain_bits(s, record, count, r, row, bits);
     for (size_t k = 1; k < n; k++, sent += len) {
-        plain_blocks(s, record, 1 + 32 * k, count, r, row, macs);
-        plain_blocks(s, record, 17 + 32 * k, count, r, row, keys);
+        plain_blocks(s, record, mac_at(k), count, r, row, macs);
+        plain_blocks(s, record, key_at(k), count, r, row, keys);
         for (size_t j = 0; j < STRINGS; j++) {
             const uint8_t *item = sent + 8 + 17 * j;
             same &= item[0] == bits[j] && half(item + 1) == macs[2 * j] && half(item + 9) == macs[2 * j + 1];

@@ -6,6 +6,7 @@
 #include <stdlib.h>
 #include <string.h>
 #include <time.h>
+#include "../../host/examples-c/record.h"
 #include "aes.h"
 #include "nuzsdike.h"
 #include "plain.h"
@@ -44,13 +45,14 @@ static void deal(uint8_t *list[], size_t count) {
     for (size_t j = 0; j < n; j++) memset(list[j], 0, count * record);
     for (size_t t = 0; t < count; t++)
         for (size_t j = 0; j < n; j++) {
-            uint8_t *own = list[j] + t * record, bit = own[0] = word() >> 63;
+            uint8_t *own = list[j] + t * record, bit = word() >> 63;
+            put_head(own, n, j, bit);
             for (size_t k = 0; k < n; k++) {
                 if (k == j) continue;
-                uint8_t *key = list[k] + t * record + 17 + 32 * j, *mac = own + 1 + 32 * k;
+                uint8_t *key = list[k] + t * record + key_at(j), *mac = own + mac_at(k);
                 uint64_t a = word(), b = word();
                 memcpy(key, &a, 8), memcpy(key + 8, &b, 8);
-                for (size_t x = 0; x < 16; x++) mac[x] = key[x] ^ (delta[k][x] & -bit);
+                for (size_t x = 0; x < BLOCK; x++) mac[x] = key[x] ^ (delta[k][x] & -bit);
             }
         }
 }
@@ -81,7 +83,8 @@ int main(int argc, char **argv) {
         bits[i] = buffer(bits_len), alpha[i] = buffer(shares), beta[i] = buffer(shares), work[i] = buffer(work_len), out[i] = buffer(most);
     }
     in = buffer(most * n);
-    deal(bits, bits_len / nuzsdike_record_len(n)), deal(alpha, l), deal(beta, l);
+    size_t count = bits_len / nuzsdike_record_len(n);
+    deal(bits, count), deal(alpha, l), deal(beta, l);
     uint8_t *r_seed = drawn(NUZSDIKE_R_SEED, 255), *r = buffer(r_len);
     aes_draw(r_seed, r, r_len / 16);
     uint32_t *perm = malloc(4 * perm_len + 4);
@@ -122,7 +125,7 @@ int main(int argc, char **argv) {
                 if (!i && t < least[form][k]) least[form][k] = t;
                 if (i || k != MAKES_FABITN) continue;
                 t = now();
-                if (!plain_sums(bits[0], n, bits_len / (1 + 32 * n), r, r_len / STRINGS, out[0], nuzsdike_message_len(n, l, k + 1)))
+                if (!plain_sums(bits[0], n, count, r, r_len / STRINGS, out[0], nuzsdike_message_len(n, l, k + 1)))
                     return fputs("rounds: `fabitn` is not what plain C sums\n", stderr), 1;
                 t = now() - t;
                 if (t < plain) plain = t;

@@ -9,6 +9,7 @@
 #include <string.h>
 
 #include "nuzsdike.h"
+#include "record.h"
 
 enum { N = 2 };
 
@@ -36,14 +37,15 @@ static uint8_t *random_bytes(uint8_t *p, size_t len) {
     return p;
 }
 
-/* Share records: the bit, then by party 16 bytes MAC and 16 bytes key, own ones zero. j's MAC for k is k's key of j, plus k's delta where j's bit is 1. */
+/* Share records. j's MAC for k is k's key of j, plus k's delta where j's bit is 1. */
 static void deal(struct box *box, uint8_t *list[N], size_t count) {
     for (size_t t = 0; t < count; t++)
         for (size_t j = 0; j < N; j++) {
             size_t k = 1 - j, at = t * nuzsdike_record_len(N);
-            uint8_t bit = list[j][at] = byte() & 1, *key = list[k] + at + 17 + 32 * j, *mac = list[j] + at + 1 + 32 * k;
-            random_bytes(key, 16);
-            for (size_t b = 0; b < 16; b++) mac[b] = key[b] ^ (box[k].delta[b] & -bit);
+            uint8_t bit = byte() & 1, *key = list[k] + at + key_at(j), *mac = list[j] + at + mac_at(k);
+            put_head(list[j] + at, N, j, bit);
+            random_bytes(key, BLOCK);
+            for (size_t b = 0; b < BLOCK; b++) mac[b] = key[b] ^ (box[k].delta[b] & -bit);
         }
 }
 
@@ -127,21 +129,22 @@ int main(int argc, char **argv) {
         }
     }
 
-    /* The results lie in out. A checker that sees both boxes: MAC rule and AND. */
+    /* The results lie in out. A checker that sees both boxes: heads, MAC rule and AND. */
     for (size_t t = 0; t < l; t++) {
         size_t at = t * record;
         int ok = (box[0].out[at] ^ box[1].out[at]) == ((alpha[0][at] ^ alpha[1][at]) & (beta[0][at] ^ beta[1][at]));
-        for (size_t j = 0; j < N; j++)
-            for (size_t b = 0; b < 16; b++) {
-                size_t k = 1 - j;
-                uint8_t key = box[k].out[at + 17 + 32 * j + b], mac = box[j].out[at + 1 + 32 * k + b];
-                ok = ok && mac == (key ^ (box[k].delta[b] & -box[j].out[at]));
-            }
+        for (size_t j = 0; j < N; j++) {
+            const uint8_t *own = box[j].out + at, *other = box[1 - j].out + at, *delta = box[1 - j].delta;
+            uint8_t head[HEAD];
+            put_head(head, N, j, own[0] & 1);
+            ok = ok && !memcmp(own, head, HEAD);
+            for (size_t b = 0; b < BLOCK; b++) ok = ok && own[mac_at(1 - j) + b] == (other[key_at(j) + b] ^ (delta[b] & -own[0]));
+        }
         if (!ok) {
             fprintf(stderr, "two: result %zu is wrong\n", t);
             return 1;
         }
     }
-    printf("%u ANDs of two boxes are right: MAC rule and AND\n", l);
+    printf("%u ANDs of two boxes are right: heads, MAC rule and AND\n", l);
     return 0;
 }

@@ -7,15 +7,17 @@
  *   secrets control   a jump and an address that do depend on a secret: memcheck has to see both
  * Before N, `strings` lends r as strings; else it is a seed, from which the library draws.
  *
- * Secret: delta, the seeds of the tosses, the share records and the masks. Public: n, i, l, r in either form (bytes of a seed are indices of AES' tables,
- * and may be), the permutation, and what is on the line. So what a call wrote to
- * the outgoing buffer is declared defined before it is carried over; the results stay undefined, and are looked at by nobody.
+ * Secret: delta, the seeds of the tosses, the bits, MACs and keys of share records, and the masks. Public: n, i, l, and so records' labels;
+ * r in either form (bytes of a seed are indices of AES' tables, and may be), the permutation, and what is on the line. So what a call wrote
+ * to the outgoing buffer is declared defined before it is carried over; the results stay undefined but for their labels, and are looked at
+ * by nobody.
  */
 #include <stdio.h>
 #include <stdlib.h>
 #include <string.h>
 #include <valgrind/memcheck.h>
 
+#include "../examples-c/record.h"
 #include "nuzsdike.h"
 
 enum { MOST = 8 };
@@ -46,16 +48,22 @@ static void deal(uint32_t n, uint8_t *delta[], uint8_t *list[], size_t count) {
     size_t record = nuzsdike_record_len(n);
     for (size_t t = 0; t < count; t++)
         for (size_t j = 0; j < n; j++) {
-            uint8_t bit = list[j][t * record] = byte() & 1;
+            uint8_t *own = list[j] + t * record, bit = byte() & 1;
+            put_head(own, n, j, bit);
             for (size_t k = 0; k < n; k++) {
                 if (k == j) continue;
-                uint8_t *key = list[k] + t * record + 17 + 32 * j, *mac = list[j] + t * record + 1 + 32 * k;
-                for (size_t b = 0; b < 16; b++) {
+                uint8_t *key = list[k] + t * record + key_at(j), *mac = own + mac_at(k);
+                for (size_t b = 0; b < BLOCK; b++) {
                     key[b] = byte();
                     mac[b] = key[b] ^ (delta[k][b] & -bit);
                 }
             }
         }
+}
+
+/* The bits and entries of records; what stands between them, their labels, is public. */
+static void hide_records(const uint8_t *list, size_t len, size_t record) {
+    for (const uint8_t *own = list; own < list + len; own += record) hide(own, 1), hide(own + mac_at(0), record - mac_at(0));
 }
 
 /* The control: what a leak looks like. */
@@ -68,6 +76,21 @@ __attribute__((noinline)) static void control_address(const uint8_t *secret) {
     sink = table[*secret];
 }
 
+/* Combining by itself: five triples of dealt records; d is public, as it is opened. A run of its own, since memcheck tells a place once. */
+static int combining(uint32_t n) {
+    size_t record = nuzsdike_record_len(n), len = 15 * record;
+    if (!record) return 2;
+    uint8_t *delta[MOST], *list[MOST], d[4] = {0, 1, 1, 0}, *combined = buffer(3 * record);
+    for (size_t i = 0; i < n; i++) delta[i] = random_bytes(16), list[i] = buffer(len);
+    deal(n, delta, list, 15);
+    hide_records(list[0], len, record);
+    VALGRIND_PRINTF("CALL combine\n");
+    uint64_t answer = nuzsdike_combine(n, 0, 5, list[0], len, d, sizeof d, combined, 3 * record);
+    VALGRIND_PRINTF("CALL none\n");
+    show(&answer, sizeof answer);
+    return answer != 0;
+}
+
 int main(int argc, char **argv) {
     if (argc == 2 && !strcmp(argv[1], "control")) {
         uint8_t secret = 5;
@@ -77,13 +100,14 @@ int main(int argc, char **argv) {
         control_address(&secret);
         return 0;
     }
+    if (argc == 3 && !strcmp(argv[1], "combine")) return combining((uint32_t)strtoul(argv[2], 0, 10));
     size_t strings = argc > 1 && !strcmp(argv[1], "strings");
     argc -= (int)strings, argv += strings;
     uint32_t n = argc > 1 ? (uint32_t)strtoul(argv[1], 0, 10) : 0, l = argc > 2 ? (uint32_t)strtoul(argv[2], 0, 10) : 0;
     uint32_t flip = argc > 3 ? (uint32_t)strtoul(argv[3], 0, 10) : 0, flipped = argc > 4 ? n : 1;
     size_t work_len = nuzsdike_work_len(n, l), record = nuzsdike_record_len(n);
     if (!work_len) {
-        fputs("usage: secrets [strings] N L [K [all]] | secrets control\n", stderr);
+        fputs("usage: secrets [strings] N L [K [all]] | secrets combine N | secrets control\n", stderr);
         return 2;
     }
     size_t bits_len = nuzsdike_bits_len(n, l), shares_len = nuzsdike_shares_len(n, l), masks_len = nuzsdike_masks_len(n, l);
@@ -103,7 +127,7 @@ int main(int argc, char **argv) {
     deal(n, delta, beta, l);
     for (size_t i = 0; i < n; i++) {
         hide(delta[i], 16), hide(seed[i], 32), hide(pairs[i], pairs_len), hide(masks[i], masks_len);
-        hide(bits[i], bits_len), hide(alpha[i], shares_len), hide(beta[i], shares_len);
+        hide_records(bits[i], bits_len, record), hide_records(alpha[i], shares_len, record), hide_records(beta[i], shares_len, record);
     }
 
     for (uint32_t i = 0; i < n; i++) {
@@ -142,12 +166,5 @@ int main(int argc, char **argv) {
         for (size_t i = 0; i < n; i++) free(out[i]), free(incoming[i]), out[i] = next[i];
     }
     if (flip) return puts("nobody refused"), 0;
-
-    /* Combining by itself: records of the list of bits as triples; d is public, as it is opened. */
-    uint8_t d[4] = {0, 1, 1, 0}, *combined = buffer(3 * record);
-    VALGRIND_PRINTF("CALL combine\n");
-    uint64_t answer = nuzsdike_combine(n, 0, 5, bits[0], 15 * record, d, 4, combined, 3 * record);
-    VALGRIND_PRINTF("CALL none\n");
-    show(&answer, sizeof answer);
-    return answer != 0;
+    return 0;
 }

@@ -1,8 +1,8 @@
-//! A checker that sees every box's outputs: the MAC rule and the AND, at every position. Only a demo or a test can have one.
+//! A checker that sees every box's outputs: labels, the MAC rule and the AND, at every position. Only a demo or a test can have one.
 
 use std::{error, fmt};
 
-use crate::{key_at, mac_at, record_len, Plan, ENTRY};
+use crate::{key_at, mac_at, record_head, record_len, Plan, ENTRY, RECORD_HEAD};
 
 /// One box's part.
 #[derive(Clone, Copy)]
@@ -26,6 +26,7 @@ pub enum Wrong {
     Boxes { want: usize, got: usize },
     Length { holder: usize, want: usize, got: usize },
     Bit { holder: usize, position: usize },
+    Label { holder: usize, position: usize },
     OwnEntry { holder: usize, position: usize },
     Mac { holder: usize, towards: usize, position: usize },
     And { position: usize },
@@ -37,6 +38,9 @@ impl fmt::Display for Wrong {
             Wrong::Boxes { want, got } => write!(f, "outputs of {got} boxes, not {want}"),
             Wrong::Length { holder, want, got } => write!(f, "box {holder} has a list of {got} bytes, not {want}"),
             Wrong::Bit { holder, position } => write!(f, "position {position}: box {holder}'s bit is neither 0 nor 1"),
+            Wrong::Label { holder, position } => {
+                write!(f, "position {position}: box {holder}'s record says another n or another box's number, or its filler is not zero")
+            }
             Wrong::OwnEntry { holder, position } => write!(f, "position {position}: box {holder}'s own entry is not zero"),
             Wrong::Mac { holder, towards, position } => {
                 write!(f, "position {position}: box {holder}'s MAC for box {towards} is not the key, plus delta where the bit is 1")
@@ -71,6 +75,9 @@ pub fn check(plan: Plan, boxes: &[Outputs]) -> Result<Checked, Wrong> {
             if bit > 1 {
                 return Err(Wrong::Bit { holder, position });
             }
+            if record[..RECORD_HEAD] != record_head(n, holder, bit) {
+                return Err(Wrong::Label { holder, position });
+            }
             alpha ^= outputs.alpha[at];
             beta ^= outputs.beta[at];
             result ^= bit;
@@ -102,8 +109,8 @@ mod tests {
     /// Two boxes and one AND, by hand: alpha 1, beta 1, result 1, box 0 holding all the ones.
     fn sample() -> ([[u8; 16]; 2], Vec<Vec<u8>>, Vec<Vec<u8>>) {
         let deltas = [[3; 16], [5; 16]];
-        let mut ones = vec![vec![0; mac_at(2)], vec![0; mac_at(2)]];
-        ones[0][0] = 1;
+        let record = |i, bit| [&record_head(2, i, bit)[..], &[0; 2 * ENTRY]].concat();
+        let mut ones = vec![record(0, 1), record(1, 0)];
         ones[1][key_at(0)..mac_at(1)].fill(9); // box 1's key of box 0
         ones[0][mac_at(1)..key_at(1)].fill(9 ^ 5); // box 0's MAC for box 1: its bit is 1
         ones[0][key_at(1)..mac_at(2)].fill(6); // box 0's key of box 1
@@ -122,17 +129,27 @@ mod tests {
         assert_eq!(run(&deltas, &inputs, &results), Ok(Checked { ands: 1, macs: 2 }));
     }
 
-    /// Any one flipped bit of any record is seen.
+    /// Any one flipped bit of any record is seen, and one of its label as such.
     #[test]
     fn every_flipped_bit_is_seen() {
         let (deltas, inputs, results) = sample();
         for holder in 0..2 {
-            for bit in 0..65 * 8 {
+            for bit in 0..results[holder].len() * 8 {
                 let mut wrong = results.clone();
                 wrong[holder][bit / 8] ^= 1 << (bit % 8);
-                assert!(run(&deltas, &inputs, &wrong).is_err(), "box {holder}, bit {bit}");
+                let found = run(&deltas, &inputs, &wrong).expect_err(&format!("box {holder}, bit {bit}"));
+                let label = (1..RECORD_HEAD).contains(&(bit / 8));
+                assert_eq!(found == Wrong::Label { holder, position: 0 }, label, "box {holder}, bit {bit}: {found}");
             }
         }
+    }
+
+    /// Results in another box's place: their labels tell before any MAC.
+    #[test]
+    fn another_boxs_results_are_seen() {
+        let (deltas, inputs, mut results) = sample();
+        results.swap(0, 1);
+        assert_eq!(run(&deltas, &inputs, &results), Err(Wrong::Label { holder: 0, position: 0 }));
     }
 
     /// MACs that fit and a wrong AND: the inputs change, the results do not.
@@ -147,6 +164,6 @@ mod tests {
     fn a_short_list_is_seen() {
         let (deltas, inputs, mut results) = sample();
         results[1].pop();
-        assert_eq!(run(&deltas, &inputs, &results), Err(Wrong::Length { holder: 1, want: 65, got: 64 }));
+        assert_eq!(run(&deltas, &inputs, &results), Err(Wrong::Length { holder: 1, want: 96, got: 95 }));
     }
 }

@@ -5,7 +5,7 @@
 
 use std::io::{self, Write};
 
-use crate::{files, key_at, mac_at, record_len, Inputs, Plan};
+use crate::{files, key_at, mac_at, record_head, record_len, Inputs, Plan, RECORD_HEAD};
 
 /// SplitMix64 (Steele, Lea, Flood): small, fast, and the same everywhere. Not for secrets.
 pub struct Generator(u64);
@@ -88,7 +88,7 @@ fn deal_shares<W: Write>(g: &mut Generator, deltas: &[[u8; 16]], count: usize, b
         let bits = g.word();
         for j in 0..n {
             let bit = (bits >> j & 1) as u8;
-            records[j][0] = bit;
+            records[j][..RECORD_HEAD].copy_from_slice(&record_head(n, j, bit));
             for k in (0..n).filter(|k| *k != j) {
                 let mut block: [u8; 16] = g.array();
                 records[k][key_at(j)..][..16].copy_from_slice(&block);
@@ -121,7 +121,7 @@ mod tests {
         bytes[at..at + 16].try_into().unwrap()
     }
 
-    /// Every dealt record keeps the MAC rule, own entries are zero, and both bits occur.
+    /// Every dealt record says whose it is and keeps the MAC rule, own entries are zero, and both bits occur.
     #[test]
     fn dealt_shares_keep_the_mac_rule() {
         for n in [2, 3, 8] {
@@ -136,6 +136,7 @@ mod tests {
                         let record = &list(holder)[t * len..][..len];
                         assert!(record[0] < 2);
                         ones += usize::from(record[0]);
+                        assert_eq!(record[..RECORD_HEAD], record_head(n, j, record[0]));
                         assert_eq!(record[mac_at(j)..][..ENTRY], [0; ENTRY]);
                         for k in (0..n).filter(|k| *k != j) {
                             let key = block(&list(&boxes[k])[t * len..], key_at(j));

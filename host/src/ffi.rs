@@ -1,4 +1,4 @@
-//! include/nuzsdike.h, word for word. Nothing but lib.rs uses it, whose safe wrapper says what each call needs, tests/filler.rs, and oracle/beside.
+//! include/nuzsdike.h, word for word. Only lib.rs uses it, whose safe wrapper says what each call needs, tests/raw and oracle/beside.
 
 // The library is compiled for x86-64: size_t is u64 there, and usize.
 #[cfg(not(target_pointer_width = "64"))]

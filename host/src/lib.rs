@@ -53,10 +53,20 @@ pub fn round_title(round: usize) -> String {
     }
 }
 
-/// The bytes of a share record: the bit, then for each party a MAC and a key; 0 where opening would refuse n.
+/// The bytes of a share record: its head, then for each party a MAC and a key; 0 where opening would refuse n.
 pub fn record_len(n: usize) -> usize {
     // Sound: takes a number.
     unsafe { ffi::nuzsdike_record_len(ffi::number(n)) }
+}
+
+/// The bytes of a share record's head: the bit, and the label behind it.
+pub const RECORD_HEAD: usize = 32;
+
+/// The head of a share record of box i among n: the bit, then n, the own number and zeros, its label.
+pub fn record_head(n: usize, i: usize, bit: u8) -> [u8; RECORD_HEAD] {
+    let mut head = [0; RECORD_HEAD];
+    head[..3].copy_from_slice(&[bit, n as u8, i as u8]);
+    head
 }
 
 /// The bytes of an entry of a share record: a MAC, then a key.
@@ -64,7 +74,7 @@ pub const ENTRY: usize = 32;
 
 /// Where the MAC for party k starts in a share record, and so its entry.
 pub const fn mac_at(k: usize) -> usize {
-    1 + ENTRY * k
+    RECORD_HEAD + ENTRY * k
 }
 
 /// Where the key of party k starts in a share record.
@@ -469,7 +479,7 @@ impl Drop for Session {
     }
 }
 
-/// Combines `count` triples of records x, y, z into one, by count - 1 bytes d.
+/// Combines `count` triples of box i's records x, y, z into one, by count - 1 bytes d.
 pub fn combine(n: usize, i: usize, count: usize, triples: &[u8], d: &[u8]) -> Result<Vec<u8>, Refusal> {
     let mut out = vec![0; 3 * record_len(n)];
     // Sound: as in `Session::open`.

@@ -4,9 +4,9 @@ use std::{error, fmt};
 
 use crate::{round_title, Call};
 
-/// Number, name, and what it says. The names of 1 to 12 are those of the Rust that the session is carried over from; 13 to 21 have none
+/// Number, name, and what it says. The names of 1 to 12 are those of the Rust that the session is carried over from; 13 to 22 have none
 /// there, and are named here.
-const REASONS: [(&str, &str); 21] = [
+const REASONS: [(&str, &str); 22] = [
     ("InvalidBitValue", "a bit byte above 1"),
     ("CommitmentCouldNotBeOpened", "what was opened is not what was committed to"),
     ("EmptyVector", "l is 0, or an echo lacks a needed entry"),
@@ -28,9 +28,10 @@ const REASONS: [(&str, &str); 21] = [
     ("NotDue", "another round is due"),
     ("SessionOver", "the session is done or ended"),
     ("BytesAfterValue", "a message has bytes after its value"),
+    ("WrongLabel", "a record says another n or another box's number, or its filler is not zero"),
 ];
 
-/// Why a call was refused: document 01's number, or 21 of document 02.
+/// Why a call was refused: document 01's number, or 21 or 22 of document 02.
 #[derive(Clone, Copy, Debug, PartialEq, Eq, Hash)]
 pub struct Reason(pub u8);
 

@@ -1,6 +1,6 @@
 //! The numbers in docs/INTEGRATION.md are the library's.
 
-use nuzsdike_host::{Plan, Reason};
+use nuzsdike_host::{record_len, Plan, Reason};
 
 fn doc(name: &str) -> String {
     std::fs::read_to_string(format!("{}/../docs/{name}", env!("CARGO_MANIFEST_DIR"))).unwrap()
@@ -14,6 +14,14 @@ fn table(text: &str, header: &str) -> Vec<Vec<String>> {
 
 fn number(cell: &str) -> usize {
     cell.replace(',', "").parse().unwrap_or_else(|_| panic!("'{cell}' is no number"))
+}
+
+/// 1234567 as 1,234,567.
+fn grouped(number: usize) -> String {
+    match number / 1000 {
+        0 => number.to_string(),
+        thousands => format!("{},{:03}", grouped(thousands), number % 1000),
+    }
 }
 
 #[test]
@@ -50,19 +58,31 @@ fn the_worked_example() {
     }
     assert_eq!(rounds, plan.rounds());
     assert_eq!(number(&rows[0][1]), plan.out_len(0));
-    assert!(rows[0][3].ends_with(&format!("work area {},{:03}", plan.work_len() / 1000, plan.work_len() % 1000)), "{:?}", rows[0]);
+    let (bits, shares, masks, pairs) = (grouped(plan.bits_len()), plan.shares_len(), plan.masks_len(), plan.pairs_len());
+    let lent = format!("bits (3·5 + 160)·{} = {bits}; alpha, beta {shares}; masks {masks}; pairs {pairs}", record_len(2));
+    assert_eq!(rows[0][3], format!("{lent}; work area {}", grouped(plan.work_len())));
+    // and what the text below says of three boxes and 1,000 ANDs
     let three = Plan::new(3, 1000);
-    assert_eq!((three.work_len(), three.message_len(17), three.traffic()), (3_009_274, 160_008, 923_232));
+    let text = doc("INTEGRATION.md").split_whitespace().collect::<Vec<_>>().join(" ");
+    for says in [
+        format!("R = {}; bits (15,000 + 160)·{} = {};", record_len(3), record_len(3), grouped(three.bits_len())),
+        format!("alpha, beta {} each; masks {};", grouped(three.shares_len()), grouped(three.masks_len())),
+        format!("work area {};", grouped(three.work_len())),
+        format!("that of round 17, {} bytes,", grouped(three.message_len(17))),
+        format!("A box sends {} bytes.", grouped(three.traffic())),
+    ] {
+        assert!(text.contains(&says), "the text lacks '{says}'");
+    }
 }
 
 /// docs/REFUSALS.md has every number that the kit knows, under the same name.
 #[test]
 fn the_names_of_refusals() {
     let rows = table(&doc("REFUSALS.md"), "| no. | name |");
-    for number in 1..=21u8 {
+    for number in 1..=22u8 {
         let row = rows.iter().find(|row| row[0] == number.to_string()).unwrap_or_else(|| panic!("no {number}"));
         assert!(row[1].is_empty() || row[1] == Reason(number).name(), "{row:?}");
     }
-    assert_eq!(rows.len(), 21);
-    assert_eq!((Reason(21).name(), Reason(22).name()), ("BytesAfterValue", "Unknown"));
+    assert_eq!(rows.len(), 22);
+    assert_eq!((Reason(22).name(), Reason(23).name()), ("WrongLabel", "Unknown"));
 }

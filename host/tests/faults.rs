@@ -524,24 +524,39 @@ fn boxes_of_two_deals() {
 
 // ---- inputs
 
-/// A bit byte of 2 in a box's inputs: opening refuses, and the others hear of it.
-#[test]
-fn inputs_that_opening_refuses() {
+/// Box i's inputs are changed, its share records from `first_bit` on: opening refuses, and the others hear of it.
+fn opening_refuses(i: usize, reason: &str, change: impl FnOnce(&Deal, &mut Vec<u8>, usize)) {
     let deal = Deal::new(3, 2, 51);
-    let path = deal.inputs(1);
+    let path = deal.inputs(i);
     let mut bytes = std::fs::read(&path).unwrap();
     let first_bit = 56 + 16 + 16 + 32 + 32 * 3 + deal.plan.masks_len() - 16;
     assert!(bytes[first_bit] < 2);
-    bytes[first_bit] = 2;
+    change(&deal, &mut bytes, first_bit);
     std::fs::write(&path, bytes).unwrap();
     let ends = end(session(&deal, |_, _, address| address));
     let errors = errors(&ends);
-    has(errors[1], &["refused 1 InvalidBitValue at opening, names box 1"]);
+    has(errors[i], &[&format!("refused {reason} at opening, names box {i}")]);
     // In round 1, or at hello from a box that has heard of it.
-    for error in [errors[0], errors[2]] {
-        has(error, &["it ended the session, because box 1 refused 1 InvalidBitValue at opening, naming box 1"]);
+    for (_, error) in errors.iter().enumerate().filter(|(k, _)| *k != i) {
+        has(error, &[&format!("it ended the session, because box {i} refused {reason} at opening, naming box {i}")]);
         assert!(["in round 1 (RNG comm): ", "at hello: "].iter().any(|place| error.contains(place)), "{error}");
     }
+}
+
+/// A bit byte of 2.
+#[test]
+fn inputs_that_opening_refuses() {
+    opening_refuses(1, "1 InvalidBitValue", |_, bytes, first_bit| bytes[first_bit] = 2);
+}
+
+/// "Shares of box 1 got into box 2" (02, order 5): the session ends before its first round.
+#[test]
+fn shares_of_box_1_in_box_2() {
+    opening_refuses(2, "22 WrongLabel", |deal, bytes, first_bit| {
+        let shares = std::fs::read(deal.inputs(1)).unwrap().split_off(first_bit);
+        bytes.truncate(first_bit);
+        bytes.extend(shares);
+    });
 }
 
 #[test]

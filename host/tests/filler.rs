@@ -1,23 +1,10 @@
 //! "nothing after the message's end" (02, order 1): bytes after a message's value are 21, in every round of two and three boxes. On the interface for C,
 //! so that all that a call is lent can be looked at afterwards.
 
-// The kit's declarations of the header.
-#[allow(dead_code)]
-#[path = "../src/ffi.rs"]
-mod ffi;
+mod raw;
 
 use nuzsdike_host::{dealer, files::Common, Plan};
-
-/// What an outgoing buffer holds before a call.
-const MARK: u8 = 165;
-
-/// A box, and what its host keeps for it.
-#[derive(Clone, PartialEq, Eq, Debug)]
-struct State {
-    session: [u32; ffi::SESSION],
-    work: Vec<u8>,
-    out: Vec<u8>,
-}
+use raw::{ffi, split, Answer, State, MARK};
 
 /// A message for a box, or none.
 type Letter = Option<Vec<u8>>;
@@ -33,40 +20,9 @@ impl Boxes {
     fn new(n: usize, l: usize, seed: u64) -> Self {
         let plan = Plan::new(n, l);
         let (inputs, common) = dealer::deal_in_memory(plan, seed);
-        let mut states = vec![];
-        for (i, x) in inputs.iter().enumerate() {
-            let (mut session, mut work, mut out) = ([0; ffi::SESSION], vec![MARK; plan.work_len()], vec![MARK; plan.out_len(0)]);
-            let number = ffi::number;
-            // Sound: pointers and counts are those of slices that outlive the call, and what is written overlaps nothing.
-            let answer = unsafe {
-                ffi::nuzsdike_open(
-                    session.as_mut_ptr(),
-                    session.len(),
-                    number(n),
-                    number(i),
-                    number(l),
-                    x.delta.as_ptr(),
-                    x.delta.len(),
-                    x.seed.as_ptr(),
-                    x.seed.len(),
-                    x.pairs.as_ptr(),
-                    x.pairs.len(),
-                    x.bits.as_ptr(),
-                    x.bits.len(),
-                    x.alpha.as_ptr(),
-                    x.alpha.len(),
-                    x.beta.as_ptr(),
-                    x.beta.len(),
-                    x.masks.as_ptr(),
-                    x.masks.len(),
-                    work.as_mut_ptr(),
-                    work.len(),
-                    out.as_mut_ptr(),
-                    out.len(),
-                )
-            };
-            assert_eq!(answer, 0);
-            states.push(State { session, work, out });
+        let mut states = vec![State::new(plan); n];
+        for (i, state) in states.iter_mut().enumerate() {
+            assert_eq!(state.open(plan, i, &inputs[i]), (0, 0));
         }
         Boxes { plan, common, states }
     }
@@ -89,7 +45,7 @@ impl Boxes {
     }
 
     /// The call for a round: its number and party. The messages lie apart, with other bytes before and behind each.
-    fn call(&self, state: &mut State, round: usize, letters: &[Letter]) -> (u8, u64) {
+    fn call(&self, state: &mut State, round: usize, letters: &[Letter]) -> Answer {
         let (mut incoming, mut starts, mut lens, mut missing) = (vec![7; 3], vec![], vec![], vec![]);
         for letter in letters {
             let letter = letter.as_deref();
@@ -104,8 +60,8 @@ impl Boxes {
         let r = if self.plan.r_len(round) != 0 { state.work[joint_seed..][..ffi::R_SEED].to_vec() } else { vec![] };
         let perm = if self.plan.perm_len(round) != 0 { &self.common.perm[..] } else { &[] };
         state.out = vec![MARK; self.plan.out_len(round)];
-        // Sound: as above.
-        let answer = unsafe {
+        // Sound: pointers and counts are those of slices that outlive the call, and what is written overlaps nothing.
+        split(unsafe {
             ffi::nuzsdike_round(
                 state.session.as_mut_ptr(),
                 state.session.len(),
@@ -127,12 +83,11 @@ impl Boxes {
                 state.out.as_mut_ptr(),
                 state.out.len(),
             )
-        };
-        (answer as u8, answer >> 8)
+        })
     }
 
     /// What a copy of box i answers to these, and what is left of it.
-    fn answers(&self, i: usize, letters: &[Letter]) -> ((u8, u64), State) {
+    fn answers(&self, i: usize, letters: &[Letter]) -> (Answer, State) {
         let mut state = self.states[i].clone();
         (self.call(&mut state, self.round(), letters), state)
     }

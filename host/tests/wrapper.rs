@@ -4,7 +4,8 @@ use nuzsdike_host::{
     check::{self, Checked, Outputs},
     combine, dealer,
     files::Common,
-    record_len, round_name, round_title, Call, Form, Inputs, Lent, Mail, Outgoing, Plan, Reason, Refusal, Session, Step, R_SEED,
+    key_at, mac_at, record_head, record_len, round_name, round_title, Call, Form, Inputs, Lent, Mail, Outgoing, Plan, Reason, Refusal,
+    Session, Step, R_SEED,
 };
 
 /// All boxes of a session in memory, in step.
@@ -115,7 +116,7 @@ fn results_have_ones() {
             break results;
         }
     };
-    let ones = (0..64).filter(|t| results[0][t * 65] ^ results[1][t * 65] == 1).count();
+    let ones = (0..64).filter(|t| results[0][t * record_len(2)] ^ results[1][t * record_len(2)] == 1).count();
     assert!((5..30).contains(&ones), "{ones} of 64");
 }
 
@@ -125,7 +126,7 @@ fn results_have_ones() {
 fn lengths_are_those_of_the_documents() {
     for n in 2..=8 {
         for (l, b) in [(1, 5), (3_099, 5), (3_100, 4), (279_999, 4), (280_000, 3), (300_000, 3)] {
-            let (plan, record, lb) = (Plan::new(n, l), 1 + 32 * n, l * b);
+            let (plan, record, lb) = (Plan::new(n, l), 32 + 32 * n, l * b);
             assert_eq!((record_len(n), plan.bucket_size()), (record, b));
             assert_eq!(plan.bits_len(), (3 * lb + 160) * record);
             assert_eq!(plan.shares_len(), l * record);
@@ -146,7 +147,18 @@ fn lengths_are_those_of_the_documents() {
     for (n, l) in [(1, 1), (9, 1), (2, 0), (2, 300_001), (usize::MAX, usize::MAX)] {
         let plan = Plan::new(n, l);
         assert_eq!((plan.work_len(), plan.bits_len(), plan.out_len(0), plan.shares_len()), (0, 0, 0, 0));
-        assert_eq!((record_len(n), plan.bucket_size()), (if n == 2 { 65 } else { 0 }, if l == 1 { 5 } else { 0 }));
+        assert_eq!((record_len(n), plan.bucket_size()), (if n == 2 { 96 } else { 0 }, if l == 1 { 5 } else { 0 }));
+    }
+}
+
+/// The head by hand: bit, n, own number, 29 zero bytes; then the entries.
+#[test]
+fn a_record_has_a_head_and_entries() {
+    for (n, i, bit) in [(2, 1, 0), (8, 7, 1)] {
+        let head = record_head(n, i, bit);
+        assert_eq!(head[..3], [bit, n as u8, i as u8]);
+        assert_eq!(head[3..], [0; 29]);
+        assert_eq!((mac_at(0), key_at(0), mac_at(1), mac_at(n)), (32, 48, 64, record_len(n)));
     }
 }
 
@@ -176,22 +188,23 @@ fn opening_refuses() {
     refused(open(plan, 3, &deal()), 15, 3, true);
     refused(open(Plan::new(3, 300_001), 1, &deal()), 16, 1, true);
     refused(open(Plan::new(3, 0), 1, &deal()), 3, 1, true);
-    // Another box's number: its own entries are elsewhere.
-    refused(open(plan, 0, &deal()), 4, 0, true);
+    // Another box's number: the records say whose they are. (tests/labels.rs looks closer.)
+    refused(open(plan, 0, &deal()), 22, 0, true);
 
     let with = |change: fn(&mut Inputs)| {
         let mut inputs = deal();
         change(&mut inputs);
         open(plan, 1, &inputs)
     };
-    refused(with(|inputs| inputs.bits.truncate(97)), 6, 1, true);
+    refused(with(|inputs| inputs.bits.truncate(record_len(3))), 6, 1, true);
     refused(with(|inputs| inputs.alpha.push(0)), 6, 1, true);
     refused(with(|inputs| inputs.beta.clear()), 6, 1, true);
     refused(with(|inputs| inputs.masks.truncate(5)), 17, 1, true);
     refused(with(|inputs| inputs.pairs.push(0)), 17, 1, true);
     refused(with(|inputs| inputs.bits[0] = 2), 1, 1, true);
-    refused(with(|inputs| inputs.beta[97] = 255), 1, 1, true);
-    refused(with(|inputs| inputs.bits[97 + 1 + 32] = 1), 4, 1, true);
+    refused(with(|inputs| inputs.beta[record_len(3)] = 255), 1, 1, true);
+    refused(with(|inputs| inputs.alpha[record_len(3) + 1] = 2), 22, 1, true);
+    refused(with(|inputs| inputs.bits[record_len(3) + mac_at(1)] = 1), 4, 1, true);
     refused(with(|inputs| inputs.masks[0] = 3), 1, 1, true);
     // The own masks are neither used nor checked.
     let lb = plan.perm_total();
@@ -347,8 +360,10 @@ fn a_refused_opening_leaves_a_live_session() {
             bad(run.plan, 1, |inputs| inputs.alpha.clear(), 6);
             bad(run.plan, 1, |inputs| inputs.pairs.clear(), 17);
             bad(run.plan, 1, |inputs| inputs.bits[0] = 2, 1);
+            bad(run.plan, 1, |inputs| inputs.beta[2] = 0, 22);
+            bad(run.plan, 1, |inputs| inputs.beta[mac_at(1)] = 1, 4);
             // Another box's inputs.
-            refused(run.sessions[1].open_again(run.plan, 1, &again[0]), 4, 1, false);
+            refused(run.sessions[1].open_again(run.plan, 1, &again[0]), 22, 1, false);
             if let Some(results) = run.step() {
                 break results;
             }
@@ -492,8 +507,13 @@ fn refusals_say_what_and_where() {
     assert_eq!(refusal, Refusal { reason: Reason(14), party: 2, call: Call::Round(9), over: true });
     assert_eq!(refusal.to_string(), "refused 14 MissingMessage in round 9 (echo of fashare comm), names box 2: a message is missing");
     assert_eq!(
-        [7, 20, 21, 22, 0].map(|number| Reason(number).name()),
-        ["InconsistentBroadcast", "SessionOver", "BytesAfterValue", "Unknown", "Unknown"]
+        [7, 20, 21, 22, 23, 0].map(|number| Reason(number).name()),
+        ["InconsistentBroadcast", "SessionOver", "BytesAfterValue", "WrongLabel", "Unknown", "Unknown"]
+    );
+    let refusal = Session::open(run.plan, 0, &run.inputs[2]).err().unwrap();
+    assert_eq!(
+        refusal.to_string(),
+        "refused 22 WrongLabel at opening, names box 0: a record says another n or another box's number, or its filler is not zero"
     );
 }
 
@@ -503,17 +523,16 @@ fn refusals_say_what_and_where() {
 #[test]
 fn combining_by_hand() {
     let len = record_len(2);
-    let mut triples = vec![0; 6 * len];
-    for (record, bit) in [(0, 1), (2, 0), (3, 1), (5, 1)] {
-        triples[record * len] = bit;
-    }
+    let record = |bit| [&record_head(2, 0, bit)[..], &vec![0; len - mac_at(0)]].concat();
+    let triples = [1, 0, 0, 1, 0, 1].map(record).concat();
     let bits = |out: Vec<u8>| (out[0], out[len], out[2 * len]);
     assert_eq!(combine(2, 0, 2, &triples, &[1]).map(bits), Ok((0, 0, 0)));
     assert_eq!(combine(2, 0, 2, &triples, &[0]).map(bits), Ok((0, 0, 1)));
     refused(combine(2, 0, 0, &[], &[]), 5, 0, false);
-    refused(combine(2, 0, 6, &[0; 18 * 65], &[0; 5]), 16, 0, false);
+    refused(combine(2, 0, 6, &triples.repeat(3), &[0; 5]), 16, 0, false);
     refused(combine(2, 0, 2, &triples[1..], &[1]), 6, 0, false);
     refused(combine(2, 0, 2, &triples, &[]), 6, 0, false);
     refused(combine(2, 0, 2, &triples, &[2]), 1, 0, false);
+    refused(combine(2, 1, 2, &triples, &[1]), 22, 1, false);
     refused(combine(9, 0, 2, &triples, &[1]), 15, 0, false);
 }

@@ -1,25 +1,28 @@
 //! Private functions of faand.rs, called alone. This file is a module of faand.rs.
 
 use super::*;
-use crate::run::{End, caught, put, refusal, shares};
+use crate::{
+    record,
+    run::{End, caught, refusal},
+};
 
-/// `combine_bucket`: x1 y1 z1 x2 y2 z2 .. as share records of party i, and a byte d for each
-/// triple after the first. Gives the records x, y, z.
-pub fn combine(n: usize, i: usize, triples: &[u8], d: &[u8]) -> Result<Vec<u8>, End> {
-    let list = shares(triples, n);
-    let bucket: Vec<_> = list
+/// `combine_bucket`: x1 y1 z1 x2 y2 z2 .. as shares of party i, and a byte d for each triple after
+/// the first. Gives the shares x, y, z.
+pub fn combine(
+    n: usize,
+    i: usize,
+    triples: &[record::Share],
+    d: &[u8],
+) -> Result<Vec<record::Share>, End> {
+    let bucket: Vec<_> = triples
         .as_chunks::<3>()
         .0
         .iter()
-        .map(|[x, y, z]| (x, y, z))
+        .map(|[x, y, z]| (&x.0, &y.0, &z.0))
         .collect();
     let d = d.iter().map(|d| *d != 0).collect();
     match caught(|| combine_bucket(i, n, bucket, d)) {
-        Ok(Ok((x, y, z))) => {
-            let mut out = vec![];
-            [x, y, z].iter().for_each(|share| put(&mut out, share));
-            Ok(out)
-        }
+        Ok(Ok((x, y, z))) => Ok([x, y, z].map(record::Share).to_vec()),
         Ok(Err(error)) => Err(refusal(error, 0)),
         Err(error) => Err(End::Panic { round: 0, error }),
     }

@@ -3,6 +3,7 @@
 
 mod aes;
 mod ot_core;
+mod record;
 mod run;
 mod session;
 
@@ -30,9 +31,14 @@ use staged::{block, channel, crypto, mpc, ot, utils};
 pub mod by_hand;
 pub mod damage;
 pub mod expect;
+pub mod labels;
 pub mod rules;
 
 pub use aes::{aes_block, aes_blocks, seed_of, tossed};
 pub use mpc::faand::inside::{Sums, combine, r_sum};
+pub use record::{
+    BIT_AT, ENTRY, FILLER_AT, HEAD, N_AT, OWN_AT, Share, blank, head, kept, kept_len, key_at,
+    labelled, mac_at, put_label, record_fault, record_len, records, shares,
+};
 pub use run::{End, Message, Outcome, cpu_time, honest, round_name, run};
-pub use session::{ENTRY, Party, Session, SplitMix, bucket_size, draw, drawn_bit, key_at, mac_at, record_len};
+pub use session::{Party, Session, SplitMix, bucket_size, draw, drawn_bit};

@@ -15,14 +15,14 @@ use std::{
 use recorded::Values;
 
 use crate::{
-    block::Block,
     channel::{Channel, ErrorKind},
     mpc::{
-        data_types::{Auth, Delta, Key, Mac, Share},
+        data_types::{self, Delta},
         faand::{self, Error},
     },
     ot_core::{self, Outputs},
-    session::{ENTRY, Session, mac_at, record_len},
+    record::{BIT_AT, Share, block, key_at, mac_at, record_len, shares},
+    session::Session,
 };
 
 /// A message of the session.
@@ -39,8 +39,8 @@ pub struct Message {
 /// How a session ended for one party.
 #[derive(Clone, Debug, PartialEq, Eq)]
 pub enum End {
-    /// The l result records.
-    Done(Vec<u8>),
+    /// The l result shares.
+    Done(Vec<Share>),
     /// Document 01's number, the round whose messages were read last, and the Rust's words. 13, 14
     /// and a wrong outer count (6) are its `ChannelErr`; 0 is an error without a number.
     Refused {
@@ -85,12 +85,12 @@ impl Outcome {
         at.ok().map(|at| &self.messages[at])
     }
 
-    /// The result records of each party, if all are done.
-    pub fn results(&self) -> Option<Vec<&[u8]>> {
+    /// The result shares of each party, if all are done.
+    pub fn results(&self) -> Option<Vec<&[Share]>> {
         let mut lists = vec![];
         for end in &self.ends {
-            let End::Done(records) = end else { return None };
-            lists.push(&records[..]);
+            let End::Done(shares) = end else { return None };
+            lists.push(&shares[..]);
         }
         Some(lists)
     }
@@ -180,8 +180,8 @@ async fn party(
     n: usize,
     l: usize,
     delta: Delta,
-    alpha_beta: Vec<(Share, Share)>,
-) -> Result<Vec<Share>, Error> {
+    alpha_beta: Vec<(data_types::Share, data_types::Share)>,
+) -> Result<Vec<data_types::Share>, Error> {
     let mut joint = faand::shared_rng(line, i, n).await?;
     line.joint.set(Some(joint.get_seed()));
     line.pairwise.set(true);
@@ -198,36 +198,14 @@ async fn party(
     faand::beaver_aand((line, delta), &alpha_beta, i, n, l, &mut joint, &bits).await
 }
 
-fn block(bytes: &[u8]) -> Block {
-    Block::new(bytes.try_into().unwrap())
-}
-
-pub(crate) fn share(record: &[u8]) -> Share {
-    let auth = record[1..]
-        .chunks_exact(32)
-        .map(|e| (Mac(block(&e[..16])), Key(block(&e[16..]))));
-    Share(record[0] == 1, Auth(auth.collect()))
-}
-
-pub(crate) fn shares(records: &[u8], n: usize) -> Vec<Share> {
-    records.chunks_exact(record_len(n)).map(share).collect()
-}
-
-pub(crate) fn put(out: &mut Vec<u8>, share: &Share) {
-    out.push(share.0.into());
-    for (mac, key) in &share.1.0 {
-        out.extend(mac.0.as_bytes());
-        out.extend(key.0.as_bytes());
-    }
-}
-
 /// The recorded values of party i, in the order in which the Rust draws them.
 fn values(s: &Session, i: usize, r: &Option<Arc<Vec<u8>>>, permutation: &Arc<Vec<u32>>) -> Values {
     let p = &s.parties[i];
     let lb = s.l * s.b();
     let mut draws = p.joint_seed.to_vec();
     draws.extend(&p.pair_seeds);
-    draws.extend(p.bits.chunks_exact(record_len(s.n)).map(|record| record[0]));
+    let records = p.bits.chunks_exact(record_len(s.n));
+    draws.extend(records.map(|record| record[BIT_AT]));
     // ot.rs seeds a generator for each OT, which the OT here leaves alone.
     draws.resize(draws.len() + 2 * 16 * (s.n - 1), 0);
     for k in (0..s.n).filter(|k| *k != i) {
@@ -246,17 +224,13 @@ fn outputs(s: &Session, i: usize) -> Outputs {
     let delta = block(&p.delta);
     let mut o = Outputs::default();
     for k in 0..s.n {
-        let entries = p
-            .bits
-            .chunks_exact(record_len(s.n))
-            .map(|record| &record[mac_at(k)..][..ENTRY]);
-        o.macs
-            .push(entries.clone().map(|e| block(&e[..16])).collect());
-        o.keys.push(
-            entries
-                .map(|e| (block(&e[16..]), block(&e[16..]) ^ delta))
-                .collect(),
-        );
+        let records = p.bits.chunks_exact(record_len(s.n));
+        let macs = records
+            .clone()
+            .map(|record| block(&record[mac_at(k)..][..16]));
+        let keys = records.map(|record| block(&record[key_at(k)..][..16]));
+        o.macs.push(macs.collect());
+        o.keys.push(keys.map(|key| (key, key ^ delta)).collect());
     }
     o
 }
@@ -373,7 +347,7 @@ pub fn run(
         .collect();
 
     struct Running<'a> {
-        future: Pin<Box<dyn Future<Output = Result<Vec<Share>, Error>> + 'a>>,
+        future: Pin<Box<dyn Future<Output = Result<Vec<data_types::Share>, Error>> + 'a>>,
         values: Option<Values>,
         outputs: Outputs,
     }
@@ -383,10 +357,8 @@ pub fn run(
     let mut running: Vec<Option<Running>> = (0..n)
         .map(|i| {
             let p = &s.parties[i];
-            let alpha_beta = shares(&p.alpha, n)
-                .into_iter()
-                .zip(shares(&p.beta, n))
-                .collect();
+            let lent = |list: &[u8]| shares(list, n).into_iter().map(|share| share.0);
+            let alpha_beta = lent(&p.alpha).zip(lent(&p.beta)).collect();
             let delta = Delta(block(&p.delta));
             Some(Running {
                 future: Box::pin(party(&lines[i], i, n, s.l, delta, alpha_beta)),
@@ -418,9 +390,7 @@ pub fn run(
                         run.values.as_ref().unwrap().used_up(),
                         "recorded values are left"
                     );
-                    let mut records = Vec::with_capacity(result.len() * record_len(n));
-                    result.iter().for_each(|share| put(&mut records, share));
-                    Some(End::Done(records))
+                    Some(End::Done(result.into_iter().map(Share).collect()))
                 }
                 Ok(Poll::Ready(Err(error))) => Some(refusal(error, round)),
                 Err(error) => Some(End::Panic { round, error }),

@@ -3,6 +3,7 @@
 use crate::{
     aes::{aes_blocks, tossed},
     mpc::faand,
+    record::{BIT_AT, Share, blank, key_at, mac_at, put_label, record_fault, record_len},
 };
 
 /// What opening takes for one party, as document 01 lays it out.
@@ -20,6 +21,28 @@ pub struct Party {
     pub masks: Vec<u8>,
 }
 
+impl Party {
+    /// The lists of share records, in the order in which opening looks at them.
+    pub fn lists(&self) -> [&[u8]; 3] {
+        [&self.bits, &self.alpha, &self.beta]
+    }
+
+    pub fn lists_mut(&mut self) -> [&mut Vec<u8>; 3] {
+        [&mut self.bits, &mut self.alpha, &mut self.beta]
+    }
+
+    /// What opening finds in these bytes if party i of n is lent them, their lengths being right: record by record,
+    /// list by list, then in the masks for the others.
+    pub fn fault(&self, n: usize, i: usize) -> Option<u8> {
+        let lists = self.lists().into_iter();
+        let mut records = lists.flat_map(|list| list.chunks_exact(record_len(n)));
+        let found = records.find_map(|record| record_fault(record, n, i));
+        let lb = self.masks.len() / n;
+        let mut masks = (self.masks.iter().enumerate()).filter(|(at, _)| at / lb != i);
+        found.or_else(|| masks.any(|(_, mask)| *mask > 1).then_some(1))
+    }
+}
+
 #[derive(Clone, Debug, Default, PartialEq, Eq)]
 pub struct Session {
     pub n: usize,
@@ -35,28 +58,10 @@ pub struct Session {
     pub permutation: Vec<u32>,
 }
 
-const MAGIC: &[u8; 8] = b"NZSESS01";
+const MAGIC: &[u8; 8] = b"NZSESS02";
 
 pub fn bucket_size(l: usize) -> usize {
     faand::bucket_size(l)
-}
-
-/// Bytes of a share record.
-pub fn record_len(n: usize) -> usize {
-    mac_at(n)
-}
-
-/// Bytes of an entry of a share record: a MAC, then a key.
-pub const ENTRY: usize = 32;
-
-/// Where party k's MAC starts in a share record, and so its entry.
-pub fn mac_at(k: usize) -> usize {
-    1 + ENTRY * k
-}
-
-/// Where party k's key starts in a share record.
-pub fn key_at(k: usize) -> usize {
-    mac_at(k) + 16
 }
 
 impl Session {
@@ -93,7 +98,8 @@ impl Session {
     }
 
     /// Whether the Rust can be given these inputs. What it has no way to hold (a bit of 2, a list
-    /// of another length, no permutation) is refused here; a wrong MAC is not.
+    /// of another length, no permutation) is refused here; a wrong MAC is not, nor a label, which it
+    /// never sees.
     pub fn check(&self) -> Result<(), String> {
         let (n, l, lb) = (self.n, self.l, self.l * self.b());
         let record = record_len(n);
@@ -106,8 +112,9 @@ impl Session {
             must(p.alpha.len() == l * record, "length of alpha")?;
             must(p.beta.len() == l * record, "length of beta")?;
             must(p.masks.len() == n * lb, "length of masks")?;
-            for list in [&p.bits, &p.alpha, &p.beta] {
-                must(list.chunks_exact(record).all(|r| r[0] < 2), "a share's bit")?;
+            for list in p.lists() {
+                let mut records = list.chunks_exact(record);
+                must(records.all(|r| r[BIT_AT] < 2), "a share's bit")?;
             }
             must(p.masks.iter().all(|m| *m < 2), "a mask")?;
         }
@@ -122,30 +129,28 @@ impl Session {
         Ok(())
     }
 
-    /// Whether lists of records, one for each party, meet the MAC rule: j's MAC for k is k's key
-    /// for j, plus k's delta where j's bit is 1.
-    pub fn macs_hold(&self, lists: &[&[u8]]) -> bool {
-        let len = record_len(self.n);
+    /// Whether lists of shares, one for each party, meet the MAC rule: j's MAC for k is k's key for
+    /// j, plus k's delta where j's bit is 1.
+    pub fn macs_hold(&self, lists: &[impl AsRef<[Share]>]) -> bool {
         let pairs = (0..self.n).flat_map(|j| (0..self.n).map(move |k| (j, k)));
         pairs.filter(|(j, k)| j != k).all(|(j, k)| {
-            let records = lists[j].chunks_exact(len).zip(lists[k].chunks_exact(len));
-            records.into_iter().all(|(mine, theirs)| {
-                let mac = &mine[mac_at(k)..][..16];
-                let key = &theirs[key_at(j)..][..16];
+            let mut shares = lists[j].as_ref().iter().zip(lists[k].as_ref());
+            shares.all(|(mine, theirs)| {
+                let (mac, key) = (mine.mac(k), theirs.key(j));
                 let delta = &self.parties[k].delta;
-                (0..16).all(|t| mac[t] == key[t] ^ (mine[0] * delta[t]))
+                (0..16).all(|t| mac[t] == key[t] ^ (mine.bit() * delta[t]))
             })
         })
     }
 
     /// Whether the bits of results are shares of (XOR of alphas) AND (XOR of betas).
-    pub fn and_holds(&self, results: &[&[u8]]) -> bool {
-        let len = record_len(self.n);
-        (0..self.l * len).step_by(len).all(|at| {
+    pub fn and_holds(&self, results: &[impl AsRef<[Share]>]) -> bool {
+        (0..self.l).all(|j| {
+            let at = j * record_len(self.n) + BIT_AT;
             let sum = |bit: &dyn Fn(usize) -> u8| (0..self.n).fold(0, |sum, i| sum ^ bit(i));
             let alpha = sum(&|i| self.parties[i].alpha[at]);
             let beta = sum(&|i| self.parties[i].beta[at]);
-            sum(&|i| results[i][at]) == alpha & beta
+            sum(&|i| results[i].as_ref()[j].bit()) == alpha & beta
         })
     }
 
@@ -295,16 +300,13 @@ impl Session {
             let mut list = vec![];
             for t in 0..count {
                 let bit = drawn_bit(draw(seed, kind, j, j, t));
-                list.push(bit);
-                for k in 0..n {
-                    let mut entry = [0; 32];
-                    if k != j {
-                        let mac = draw(seed, kind, j, k, t);
-                        (0..16).for_each(|x| entry[x] = mac[x] ^ (bit * delta(k)[x]));
-                        entry[16..].copy_from_slice(&draw(seed, kind, k, j, t)[..16]);
-                    }
-                    list.extend(entry);
+                let mut record = blank(n, j, bit);
+                for k in (0..n).filter(|k| *k != j) {
+                    let mac = draw(seed, kind, j, k, t);
+                    (0..16).for_each(|x| record[mac_at(k) + x] = mac[x] ^ (bit * delta(k)[x]));
+                    record[key_at(k)..][..16].copy_from_slice(&draw(seed, kind, k, j, t)[..16]);
                 }
+                list.extend(record);
             }
             list
         };
@@ -367,7 +369,8 @@ impl SplitMix {
             let bits = self.word();
             for j in 0..n {
                 let bit = (bits >> j & 1) as u8;
-                lists[j][t * record] = bit;
+                lists[j][t * record + BIT_AT] = bit;
+                put_label(&mut lists[j][t * record..][..record], n, j);
                 for k in (0..n).filter(|k| *k != j) {
                     let mut key = [0; 16];
                     self.fill(&mut key);

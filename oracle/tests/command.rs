@@ -2,7 +2,7 @@
 
 use std::{fs, process::Command};
 
-use oracle::{End, Session, honest, record_len, run};
+use oracle::{End, Session, honest, record_len, records, run};
 
 fn oracle(args: &[&str]) -> String {
     let o = Command::new(env!("CARGO_BIN_EXE_oracle"))
@@ -37,8 +37,9 @@ fn gen_and_run() {
         assert_eq!(rest[12..12 + len], m.sent);
         rest = &rest[12 + len..];
     }
-    for end in &o.ends {
-        let End::Done(records) = end else { panic!() };
+    for (i, end) in o.ends.iter().enumerate() {
+        let End::Done(shares) = end else { panic!() };
+        let records = records(shares, i);
         assert_eq!(rest[..4], [0; 4]);
         assert_eq!(rest[4..4 + records.len()], records[..]);
         rest = &rest[4 + records.len()..];
@@ -76,11 +77,12 @@ fn record() {
         assert_eq!(entry[4..8], (m.sent.len() as u32).to_le_bytes());
         assert_eq!(entry[8..], blake3::hash(&m.sent).as_bytes()[..]);
     }
-    let End::Done(records) = &o.ends[1] else {
+    let End::Done(shares) = &o.ends[1] else {
         panic!()
     };
+    let records = records(shares, 1);
     assert_eq!(records.len(), record_len(2));
-    assert_eq!(v[v.len() - 32..], blake3::hash(records).as_bytes()[..]);
+    assert_eq!(v[v.len() - 32..], blake3::hash(&records).as_bytes()[..]);
 
     oracle(&["record", "2", "1", "9", &hurt, "--rule", "3 0 1 flip 8 1"]);
     let v = fs::read(&hurt).unwrap();

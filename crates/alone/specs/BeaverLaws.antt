@@ -7,8 +7,10 @@ use Prim.Native.Nat.{ℕ, _<_}
 use Rattle.lists.specs.Rows.{cat-ext}
 use Rattle.algebra.specs.Group.{bits, addb, sel}
 use Rattle.algebra.specs.Sum.{others}
-use Rattle.share.specs.Share.{Share, shares, recordOf}
-use Rattle.share.specs.ShareLaws.{Agree, agree-op, agree-sel, agree-refl, agree-record}
+use Rattle.share.specs.Share.{Share, shares}
+use Rattle.share.specs.ShareLaws.{Agree, agree-op, agree-sel, agree-refl}
+use Rattle.share.specs.Lent.{lentOf}
+use Rattle.share.specs.LentLaws.{agree-lent}
 use Rattle.encode.specs.Encode.{twoBitsTwoBlocks}
 use Rattle.rounds.specs.Opening.{Args}
 use Rattle.rounds.specs.Buckets.{Triple, permBytes}
@@ -77,6 +79,6 @@ module _ (S : Seen) (I : Admissible S) (O : Ordered (S .inputs .party .l) (S .pe
       let b : Share = B.share f (a .beta) j in
       let s : Share = B.a f triples j in
       let g : Triple = F.abc S j in
-      ap₂ (λ (p q : Bool). recordOf (f .n) (f .i) (B.finish c b s p q)) (d-opened j lj) (e-opened j lj)
-      ∙ agree-record (f .n) (f .i) _ _ (agree-finish (f .n) (f .i) c b s (g .tz) b (g .tx) (F.beaverDOpened S j) (F.beaverEOpened S j)
+      ap₂ (λ (p q : Bool). lentOf (f .n) (f .i) (B.finish c b s p q)) (d-opened j lj) (e-opened j lj)
+      ∙ agree-lent (f .n) (f .i) _ _ (agree-finish (f .n) (f .i) c b s (g .tz) b (g .tx) (F.beaverDOpened S j) (F.beaverEOpened S j)
       (c-is j lj) (agree-refl (f .n) (f .i) b) (a-is j lj)))

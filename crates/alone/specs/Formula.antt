@@ -1,6 +1,7 @@
 -- What one box sends and what it ends with, whoever it talks to (document 01, "What each round means"): of what it was opened with, its
 -- inputs, of the r strings and the permutation that it was lent, and of the messages that it received: `mail k j` is party j's for round k.
 -- `strings` is r as it was lent, all strings or a seed. Nothing here knows a work area.
+-- The lists of shares among the inputs are as the box keeps them (rounds/Opening.antt, `kept`): the lent shares, in records without labels.
 use mathlib.Core.Bool.{Bool, cond, _&&_}
 use mathlib.Core.List.{List, []}
 use Prim.Native.Nat.{ℕ, suc, _+_, _*_}
@@ -15,7 +16,8 @@ use Rattle.block.specs.declared.Block.{Block}
 use Rattle.block.specs.Block.{blockAt, bytesOf, xorInplace}
 use Rattle.block.specs.Group.{blocks}
 use Rattle.blake3.specs.Tree.{hash}
-use Rattle.share.specs.Share.{Share, shares, recordOf}
+use Rattle.share.specs.Share.{Share, shares}
+use Rattle.share.specs.Lent.{lentOf}
 use Rattle.encode.specs.Encode.{encode, bitBlock, dvalueItem, twoBitsTwoBlocks, noneItem, someItem}
 use Rattle.plan.specs.Plan.{leaky, bucketSize}
 use Rattle.rounds.specs.Opening.{Args}
@@ -214,6 +216,6 @@ module _ (S : Seen) where
       (pick (eqb k 17) sent17 (pick (eqb k 19) sent19 (pick (eqb k 21) (sent21 j) (pick (eqb k 22) (sent22 j)
       [])))))))))))))
 
-  -- "the l result records"
+  -- "the l result records", as they are given back: with labels
   unfoldable pub result : List ℕ
-  result = cat (f .l) (λ j. recordOf (f .n) (f .i) (resultShare j))
+  result = cat (f .l) (λ j. lentOf (f .n) (f .i) (resultShare j))

@@ -1,4 +1,5 @@
--- What is known of one box that was opened with a, and of the messages that it received: it is in range, and all that was lent is bytes.
+-- What is known of one box that was opened with a, and of the messages that it received: it is in range, and all that it
+-- goes by is bytes.
 use mathlib.Core.Path.{_≡_}
 use Prim.Native.Nat.{ℕ, _*_, _<_}
 use lib.ListN.{length}

@@ -11,29 +11,29 @@ use Rattle.lists.specs.Pick.{pick}
 use Rattle.lists.specs.All.{allOf, of-all, and-both}
 use Rattle.lists.specs.Bytes.{Bytes}
 use Rattle.share.specs.Record.{recordLen}
+use Rattle.share.specs.Lent.{keptOf}
+use Rattle.share.specs.LentLaws.{length-kept, bytes-kept}
 use Rattle.plan.specs.Plan.{InRange, leaky, bitsCount, msgLen}
 use Rattle.engine.specs.declared.Frame.{Frame}
-use Rattle.engine.specs.Step.{Accepted, Outcome, outcome}
+use Rattle.engine.specs.Step.{Loan, Accepted, Outcome, outcome}
 use Rattle.engine.specs.Area.{toOthers, mem, Every, every-mem}
 use Rattle.engine.specs.Sheet.{Known, known-lay}
 use Rattle.engine.specs.Honest.{due}
 use Rattle.rounds.specs.Area.{DELTA, SEED, PAIRS, MASKS, BITS, ALPHA, BETA, ROUNDS-OWN, sizes, sizeOf, workLen}
-use Rattle.rounds.specs.Opening.{Args, listsDue, buffersDue, bytesFault, reason, section, area, spec, lengthsFault, orFault}
+use Rattle.rounds.specs.Opening.{Args, listsDue, buffersDue, bytesFault, reason, kept, section, area, spec, lengthsFault, orFault}
 use Rattle.rounds.specs.Toss as Toss
 use Rattle.alone.specs.Holds.{since, storeOf, holds}
 use Rattle.alone.specs.Formula.{Seen}
 use Rattle.alone.specs.Given.{Admissible}
+use Rattle.alone.specs.Rounds.{seenBy}
 
 -- ---- what is accepted
--- the inputs are as long as they should
+-- the inputs are as long as they should; the lists of shares are so as they are kept, whatever was lent
 pub record Lens (a : Args) : Type 0 where
   pub delta-len : length (a .delta) ≡ 16
   pub seed-len : length (a .seed) ≡ 32
   pub pairs-len : length (a .pairs) ≡ 32 * a .party .n
   pub masks-len : length (a .masks) ≡ a .party .n * leaky (a .party .l)
-  pub bits-len : length (a .bits) ≡ bitsCount (a .party .l) * recordLen (a .party .n)
-  pub alpha-len : length (a .alpha) ≡ a .party .l * recordLen (a .party .n)
-  pub beta-len : length (a .beta) ≡ a .party .l * recordLen (a .party .n)
 
 pub record Taken (a : Args) : Type 0 where
   pub range : InRange (a .party .n) (a .party .l)
@@ -47,22 +47,8 @@ module _ (a : Args) where
   abbrev l : ℕ
   l = a .party .l
 
-  abbrev lists-say : Type 0
-  lists-say =
-      (length (a .bits) ≡ bitsCount l * recordLen n) × ((length (a .alpha) ≡ l * recordLen n) × (length (a .beta) ≡ l * recordLen n))
-
   abbrev lists : Bool
   lists = listsDue (a .party) (length (a .bits)) (length (a .alpha)) (length (a .beta))
-
-  lists-true : lists ≡ true → lists-say
-  unfolding listsDue
-  lists-true h =
-      let b : Bool = eqb (length (a .bits)) (bitsCount l * recordLen n) in
-      let c : Bool = eqb (length (a .alpha)) (l * recordLen n) in
-      let d : Bool = eqb (length (a .beta)) (l * recordLen n) in
-      let w2 = and-both (b && c) d h in
-      let w1 = and-both b c (w2 .0) in
-      (eqb-true _ _ (w1 .0), (eqb-true _ _ (w1 .1), eqb-true _ _ (w2 .1)))
 
   abbrev buffers-say : Type 0
   buffers-say =
@@ -102,7 +88,6 @@ module _ (a : Args) where
           → (u : Bool) → buffersDue a ≡ u → orFault (pick p (pick q (pick s 3 (pick t (pick u 0 17) 6)) 16) 15) (bytesFault a) ≡ 0 → Taken a
       go true ep true eq false es true et true eu h =
           let p = parties-true ep in
-          let t = lists-true et in
           let u = buffers-true eu in
           record {
             range = record { two = p .0; eight = p .1 .0; one = omega (arith, eqb-false l 0 es); most = leb-true _ _ eq };
@@ -112,9 +97,6 @@ module _ (a : Args) where
               seed-len = u .1 .0;
               pairs-len = u .1 .1 .0;
               masks-len = u .1 .1 .1;
-              bits-len = t .0;
-              alpha-len = t .1 .0;
-              beta-len = t .1 .1;
             };
           }
       go false ep q eq s es t et u eu h = absurd (omega arith)
@@ -146,27 +128,45 @@ section-zero a s h =
       ne-eqb s 6 (omega arith),
     ) refl
 
-section-len : (a : Args) → Lens a → (s : ℕ) → length (section a s) ≡ sizeOf (a .party) s
+section-len : (a : Args) → Lens a → (s : ℕ) → length (section (kept a) s) ≡ sizeOf (a .party) s
 unfolding section sizeOf sizes
 section-len a o s = go (ltb s 7) refl
   where
-    go : (b : Bool) → ltb s 7 ≡ b → length (section a s) ≡ sizeOf (a .party) s
+    long : (count : ℕ) (x : List ℕ) → length (keptOf (a .party .n) (a .party .i) count x) ≡ count * recordLen (a .party .n)
+    long count x = length-kept (a .party .n) (a .party .i) x count
+
+    go : (b : Bool) → ltb s 7 ≡ b → length (section (kept a) s) ≡ sizeOf (a .party) s
     go true e =
-        first-seven (λ s. length (section a s) ≡ sizeOf (a .party) s)
-        (o .delta-len, (o .seed-len, (o .pairs-len, (o .masks-len, (o .bits-len, (o .alpha-len, (o .beta-len, tt)))))))
+        first-seven (λ s. length (section (kept a) s) ≡ sizeOf (a .party) s) (
+          o .delta-len,
+          (
+            o .seed-len,
+            (
+              o .pairs-len,
+              (
+                o .masks-len,
+                (
+                  long (bitsCount (a .party .l)) (a .bits),
+                  (long (a .party .l) (a .alpha), (long (a .party .l) (a .beta), tt)),
+                ),
+              ),
+            ),
+          ),
+        )
         s (ltb-true s 7 e)
-    go false e = ap length (section-zero a s (ltb-false s 7 e)) ∙ length-replicate {A = ℕ} (sizeOf (a .party) s) 0
+    go false e = ap length (section-zero (kept a) s (ltb-false s 7 e)) ∙ length-replicate {A = ℕ} (sizeOf (a .party) s) 0
 
 -- what is ready when round 1 is due is an input
 early : allOf ROUNDS-OWN (λ s. pick (leb (since s) (due 1)) (ltb s 7) true) ≡ true
 unfolding allOf since
 early = refl
 
-pub known-opened : (f : Frame) (val : ℕ → ℕ → List ℕ) (a : Args) → a .party ≡ f → Lens a → ((s : ℕ) → s < 7 → section a s ≡ val (f .i) s)
+pub known-opened : (f : Frame) (val : ℕ → ℕ → List ℕ) (a : Args) → a .party ≡ f → Lens a
+    → ((s : ℕ) → s < 7 → section (kept a) s ≡ val (f .i) s)
     → Known (f .n) (f .l) (storeOf val) (due 1) (f .i) (area a)
 unfolding area
 known-opened f val a p o h =
-    known-lay (f .n) (f .l) (storeOf val) (omega arith) (due 1) (f .i) (section a)
+    known-lay (f .n) (f .l) (storeOf val) (omega arith) (due 1) (f .i) (section (kept a))
     (λ s ls. section-len a o s ∙ ap (λ (g : Frame). sizeOf g s) p)
     (λ s ls r. h s (ltb-true s 7 (sym (ap (λ b. pick b (ltb s 7) true) r) ∙ of-all ROUNDS-OWN _ early s ls)))
 
@@ -179,26 +179,22 @@ spec-takes a f p z =
     outcome (record { party = f; due = 1 }) Accepted (area a) (toOthers (f .n) (f .i) (λ r. Toss.commMsg (a .seed) (f .i))) in
     rw (eq-eqb (reason a) 0 z) (ap left p)
 
--- all that opening was lent is bytes
-pub record ByteArgs (a : Args) : Type 0 where
-  pub delta-bytes : Bytes (a .delta)
-  pub bits-bytes : Bytes (a .bits)
-  pub alpha-bytes : Bytes (a .alpha)
-  pub beta-bytes : Bytes (a .beta)
+-- a: what the box was opened with; q, m: what it is lent and sent (Theorem.antt)
+module _ (a : Args) (q : ℕ → Loan) (m : ℕ → ℕ → List ℕ) (z : reason a ≡ 0) where
+  open Args a using (party as f)
 
-module _ (S : Seen) (z : reason (S .inputs) ≡ 0) where
-  open Seen S using (inputs as a, mail as m)
-  open Args (S .inputs) using (party as f)
+  abbrev S : Seen
+  S = seenBy (kept a) q m
 
-  pub given : ByteArgs a → ((k j : ℕ) → Bytes (m k j)) → Admissible S
+  pub given : Bytes (a .delta) → ((k j : ℕ) → Bytes (m k j)) → Admissible S
   given b h = record {
     range = taken a z .range;
     own = taken a z .own;
     pairs-len = taken a z .lens .pairs-len;
-    delta-bytes = b .delta-bytes;
-    bits-bytes = b .bits-bytes;
-    alpha-bytes = b .alpha-bytes;
-    beta-bytes = b .beta-bytes;
+    delta-bytes = b;
+    bits-bytes = bytes-kept (f .n) (f .i) (a .bits) (bitsCount (f .l));
+    alpha-bytes = bytes-kept (f .n) (f .i) (a .alpha) (f .l);
+    beta-bytes = bytes-kept (f .n) (f .i) (a .beta) (f .l);
     mail-bytes = h;
   }
 
@@ -207,4 +203,4 @@ module _ (S : Seen) (z : reason (S .inputs) ≡ 0) where
   unfolding section holds
   opened =
       known-opened f (λ i s. holds S s) a refl (taken a z .lens)
-      (first-seven (λ s. section a s ≡ holds S s) (refl, (refl, (refl, (refl, (refl, (refl, (refl, tt))))))))
+      (first-seven (λ s. section (kept a) s ≡ holds S s) (refl, (refl, (refl, (refl, (refl, (refl, (refl, tt))))))))

@@ -27,7 +27,7 @@ use Rattle.engine.specs.Alone.{Tale, wroteFor, sureAt, Lives, State, lives, ove
 use Rattle.engine.specs.OneBox.{Turn, turnBox, turns, AllRead, taken, answer, received, lentWith, all-received}
 use Rattle.rounds.specs.Area.{ROUNDS-OWN, at}
 use Rattle.rounds.specs.Echo.{hashVec, echoMsg, echo}
-use Rattle.rounds.specs.Opening.{Args, reason, spec}
+use Rattle.rounds.specs.Opening.{Args, reason, kept, spec}
 use Rattle.rounds.specs.Table.{table}
 use Rattle.alone.specs.Formula as F
 use Rattle.alone.specs.Formula.{Seen}
@@ -37,7 +37,7 @@ use Rattle.alone.specs.Given.{Admissible}
 use Rattle.rounds.specs.EchoLaws.{length-hashVec}
 use Rattle.rounds.specs.JudgeLaws.{Found, judge-found}
 use Rattle.alone.specs.Echo.{lawful}
-use Rattle.alone.specs.Opening.{ByteArgs, given, opened, spec-takes}
+use Rattle.alone.specs.Opening.{given, opened, spec-takes}
 use Rattle.alone.specs.Rounds as R
 
 -- the box that opening leaves
@@ -52,7 +52,7 @@ module _ (a : Args) (q : ℕ → Loan) (m : ℕ → ℕ → List ℕ) where
   open Args a using (party as f)
 
   abbrev S : Seen
-  S = R.seenBy a q m
+  S = R.seenBy (kept a) q m
 
   -- what is told of the box
   abbrev pub U : Tale
@@ -71,44 +71,44 @@ module _ (a : Args) (q : ℕ → Loan) (m : ℕ → ℕ → List ℕ) where
       plain = 1 ∷ 3 ∷ 4 ∷ 5 ∷ 6 ∷ 8 ∷ 10 ∷ 12 ∷ 14 ∷ 15 ∷ 17 ∷ 19 ∷ 21 ∷ [];
       whole = refl;
       recv =
-          (also (R.recv-1 a q m I)
-          (also (R.recv-3 a q m I)
-          (also (R.recv-4 a q m I)
-          (also (R.recv-5 a q m I)
-          (also (R.recv-6 a q m I)
-          (also (R.recv-8 a q m I)
-          (also (R.recv-10 a q m I)
-          (also (R.recv-12 a q m I)
-          (also (R.recv-14 a q m I)
-          (also (R.recv-15 a q m I)
-          (also (R.recv-17 a q m I)
-          (also (R.recv-19 a q m I)
-          (also (R.recv-21 a q m I) tt)))))))))))));
+          (also (R.recv-1 (kept a) q m I)
+          (also (R.recv-3 (kept a) q m I)
+          (also (R.recv-4 (kept a) q m I)
+          (also (R.recv-5 (kept a) q m I)
+          (also (R.recv-6 (kept a) q m I)
+          (also (R.recv-8 (kept a) q m I)
+          (also (R.recv-10 (kept a) q m I)
+          (also (R.recv-12 (kept a) q m I)
+          (also (R.recv-14 (kept a) q m I)
+          (also (R.recv-15 (kept a) q m I)
+          (also (R.recv-17 (kept a) q m I)
+          (also (R.recv-19 (kept a) q m I)
+          (also (R.recv-21 (kept a) q m I) tt)))))))))))));
       send =
-          (also (R.send-3 a q m I)
-          (also (R.send-4 a q m I)
-          (also (R.send-5 a q m I)
-          (also (R.send-6 a q m I)
-          (also (R.send-8 a q m I)
-          (also (R.send-10 a q m I)
-          (also (R.send-12 a q m I)
-          (also (R.send-14 a q m I)
-          (also (R.send-15 a q m I)
-          (also (R.send-17 a q m I)
-          (also (R.send-19 a q m I)
-          (also (R.send-21 a q m I)
-          (also (R.send-22 a q m I) tt)))))))))))));
-      last = R.last-22 a q m I;
+          (also (R.send-3 (kept a) q m I)
+          (also (R.send-4 (kept a) q m I)
+          (also (R.send-5 (kept a) q m I)
+          (also (R.send-6 (kept a) q m I)
+          (also (R.send-8 (kept a) q m I)
+          (also (R.send-10 (kept a) q m I)
+          (also (R.send-12 (kept a) q m I)
+          (also (R.send-14 (kept a) q m I)
+          (also (R.send-15 (kept a) q m I)
+          (also (R.send-17 (kept a) q m I)
+          (also (R.send-19 (kept a) q m I)
+          (also (R.send-21 (kept a) q m I)
+          (also (R.send-22 (kept a) q m I) tt)))))))))))));
+      last = R.last-22 (kept a) q m I;
     }
 
-  module _ (z : reason a ≡ 0) (b : ByteArgs a) (h : (k j : ℕ) → Bytes (m k j)) where
+  module _ (z : reason a ≡ 0) (b : Bytes (a .delta)) (h : (k j : ℕ) → Bytes (m k j)) where
     I : Admissible S
-    I = given S z b h
+    I = given a q m z b h
 
     start : AsTold table (f .n) (f .l) (f .i) U m q (duties I) (openedBox a)
     unfolding F.sent F.sent1
     start =
-        rw (spec-takes a f refl z) (first table (f .n) (f .l) (f .i) U m q (duties I) _ (omega arith) refl refl (opened S z) refl)
+        rw (spec-takes a f refl z) (first table (f .n) (f .l) (f .i) U m q (duties I) _ (omega arith) refl refl (opened a q m z) refl)
 
     -- for every list of calls of which the accepted ones read m and are lent q
     pub told-alone : (cs : List Turn) → AllRead table (f .n) (f .l) (f .i) m q (openedBox a) cs
@@ -180,8 +180,9 @@ module _ (a : Args) (cs : List Turn) where
   abbrev pub loans : ℕ → Loan
   loans = lentWith table n l i (openedBox a) cs
 
+  -- the box goes by its inputs as it keeps them
   abbrev pub seen : Seen
-  seen = R.seenBy a loans mail
+  seen = R.seenBy (kept a) loans mail
 
   -- The moment up to which the sections are filled for sure: while an echo is due, a fault in the messages that it is about may still drop
   -- what was kept of them
@@ -230,7 +231,7 @@ module _ (a : Args) (cs : List Turn) where
       dead z (over x) = x .blank
 
 -- ---- THE THEOREM: for every opening that is accepted and every list of round calls after it
-pub alone : (a : Args) → reason a ≡ 0 → ByteArgs a → (cs : List Turn) → ByteCalls cs → Claim a cs
+pub alone : (a : Args) → reason a ≡ 0 → Bytes (a .delta) → (cs : List Turn) → ByteCalls cs → Claim a cs
 alone a z b cs h =
     claim a cs
     (told-alone a (loans a cs) (mail a cs) z b (received-bytes (n a cs) (l a cs) (i a cs) (openedBox a) cs h) cs

@@ -108,10 +108,10 @@ module _ (n i : ℕ) (x z : Share) (m : List ℕ) where
         ap (λ (l : List ℕ). headOf a ++ drop (macOff 0) l) (w .is)
         ∙ ap (λ (l : List ℕ). headOf a ++ l) (drop-append-le (macOff 0) (w .x₁) R (entered-long (w .x-part)))
         ∙ sym (append-assoc (headOf a) (drop (macOff 0) (w .x₁)) R)
-        ∙ ap (λ (l : List ℕ). l ++ R) (entered-head (w .x-part) a e ∙ ap (λ (b : Bool). headOf b ++ cat n (entryOf i x)) ha)
+        ∙ ap (λ (l : List ℕ). l ++ R) (entered-head (w .x-part) (headOf a) e ∙ ap (λ (b : Bool). headOf b ++ cat n (entryOf i x)) ha)
         ∙ sym (append-assoc X m (w .z₁)) in
         let p : length (X ++ m) ≡ at = length-append X m ∙ (let q : length X + length m ≡ at = omega (arith, length-recordOf n i x) in q) in
         ap₂ (λ (l r : List ℕ). take at l ++ (headOf b ++ drop (macOff 0) (drop at r))) s s
         ∙ ap₂ (λ (l r : List ℕ). l ++ (headOf b ++ drop (macOff 0) r)) (take-at (X ++ m) (w .z₁) at p) (drop-at (X ++ m) (w .z₁) at p)
-        ∙ ap (λ (l : List ℕ). (X ++ m) ++ l) (entered-head (w .z-part) b e ∙ ap (λ (b : Bool). headOf b ++ cat n (entryOf i z)) hb)
+        ∙ ap (λ (l : List ℕ). (X ++ m) ++ l) (entered-head (w .z-part) (headOf b) e ∙ ap (λ (b : Bool). headOf b ++ cat n (entryOf i z)) hb)
         ∙ append-assoc X m (recordOf n i z)

@@ -1,5 +1,5 @@
 -- What is summed over a bucket, and what the sums are for party k.
-use mathlib.Core.Path.{_≡_, refl, sym, ap, ap₂, _∙_}
+use mathlib.Core.Path.{_≡_, sym, ap, ap₂, _∙_}
 use mathlib.Core.Bool.{Bool, not, _&&_, Bool·beq}
 use mathlib.Core.Logic.{_≢_}
 use mathlib.Core.List.{List, _++_}
@@ -18,53 +18,44 @@ use Rattle.share.specs.Share.{Share, shareAt, shares, entryOf}
 use Rattle.share.specs.ShareLaws.{mac-sel, key-sel, entry-own, entry-other, zero-pair}
 use Rattle.bucket_sum.specs.declared.Sums.{Sums}
 
--- the e-th x is record ts[e] of s
+-- the e-th x is record ts[e] of s, which has one every `len` bytes
 unfoldable pub xAmong : ℕ → List ℕ → List ℕ → ℕ → Share
-xAmong n s ts e = shareAt s (getD ts e 0 * recordLen n)
+xAmong len s ts e = shareAt s (getD ts e 0 * len)
 
 -- and its z lies `behind` records behind it
 unfoldable pub zAmong : ℕ → List ℕ → List ℕ → ℕ → ℕ → Share
-zAmong n s ts behind e = shareAt s ((getD ts e 0 + behind) * recordLen n)
+zAmong len s ts behind e = shareAt s ((getD ts e 0 + behind) * len)
 
 -- `room` bytes at a step of `step` bytes for each record: all of them lie in s
 abbrev pub Within : List ℕ → List ℕ → ℕ → ℕ → ℕ → Type 0
 Within s ts behind step room = (e : ℕ) → e < length ts → (getD ts e 0 + behind) * step + room ≤ length s
 
 -- the records of a bucket lie in s, and d has a byte for each but the first
-pub record BucketIn (n : ℕ) (s ts : List ℕ) (behind : ℕ) (d : List ℕ) : Type 0 where
+pub record BucketIn (n len : ℕ) (s ts : List ℕ) (behind : ℕ) (d : List ℕ) : Type 0 where
   pub few : n ≤ 8
+  pub step : 1 ≤ len
   pub count : length ts ≡ length d + 1
-  pub inside : Within s ts behind (recordLen n) (recordLen n)
+  pub inside : Within s ts behind len (recordLen n)
 
 -- no number wraps where the bytes are there
 pub step-most : (t step : ℕ) → 1 ≤ step → t ≤ t * step
 step-most t step h = omega (arith, mul-le-mul (let e : t ≤ t = omega arith in e) h)
 
--- the e-th of them, where the code has `len` for a record's length
-module _ {n : ℕ} {s ts : List ℕ} {behind : ℕ} {d : List ℕ} (h : BucketIn n s ts behind d) (e len : ℕ) (l : e < length ts)
-    (long : len ≡ recordLen n) where
-  pub z-fits : (getD ts e 0 + behind) * len + recordLen n ≤ length s
-  z-fits = omega (arith, h .inside e l, ap (λ m. (getD ts e 0 + behind) * m) long)
+module _ {n len : ℕ} {s ts : List ℕ} {behind : ℕ} {d : List ℕ} (h : BucketIn n len s ts behind d) where
+  -- the e-th of them
+  module _ (e : ℕ) (l : e < length ts) where
+    pub x-fits : getD ts e 0 * len + recordLen n ≤ length s
+    x-fits = omega (arith, h .inside e l, mul-le-mul-right len (let w : getD ts e 0 ≤ getD ts e 0 + behind = omega arith in w))
 
-  pub x-fits : getD ts e 0 * len + recordLen n ≤ length s
-  x-fits = omega (arith, z-fits, mul-le-mul-right len (let w : getD ts e 0 ≤ getD ts e 0 + behind = omega arith in w))
+    pub no-wrap : getD ts e 0 + behind ≤ length s
+    no-wrap = omega (arith, h .inside e l, step-most (getD ts e 0 + behind) len (h .step))
 
-  pub no-wrap : getD ts e 0 + behind ≤ length s
-  no-wrap = omega (arith, h .inside e l, step-most (getD ts e 0 + behind) (recordLen n) (record-some n))
+  -- the first bytes of all of them
+  pub x-bits : Within s ts 0 len 1
+  x-bits e l = omega (arith, x-fits e l, record-some n, ap (λ t. t * len) (add-zero (getD ts e 0)))
 
--- the first bytes of all of them
-module _ {n : ℕ} {s ts : List ℕ} {behind : ℕ} {d : List ℕ} (h : BucketIn n s ts behind d) where
-  pub x-bits : Within s ts 0 (recordLen n) 1
-  x-bits e l =
-      omega (
-        arith,
-        x-fits h e (recordLen n) l refl,
-        record-some n,
-        ap (λ t. t * recordLen n) (add-zero (getD ts e 0)),
-      )
-
-  pub z-bits : (len : ℕ) → len ≡ recordLen n → Within s ts behind len 1
-  z-bits len long e l = omega (arith, z-fits h e len l long, record-some n)
+  pub z-bits : Within s ts behind len 1
+  z-bits e l = omega (arith, h .inside e l, record-some n)
 
 -- ---- the sums for party k
 pub record Summed (k : ℕ) (x z : Share) (r : Sums) : Type 0 where

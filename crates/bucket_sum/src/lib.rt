@@ -9,7 +9,6 @@ ghost use Rattle.algebra.specs.Group.{bits, odd};
 ghost use Rattle.algebra.specs.Bucket.{bucketX, bucketZ};
 ghost use Rattle.block.specs.Block.{bytesOf};
 ghost use Rattle.share.specs.Layout.{ENTRY, macOff};
-ghost use Rattle.share.specs.Record.{recordLen};
 ghost use Rattle.share.specs.Share.{shares};
 ghost use Rattle.bucket_sum.specs.Sums.{xAmong, zAmong, BucketIn, Within, Summed};
 ghost use Rattle.bucket_sum.specs.Row.{putEntries, putHeads};
@@ -40,15 +39,22 @@ pub fn nothing() -> Sums
     }
 }
 
-// Party k's entries of the sums: the bucket's x are the records ts of s, and each z lies `behind` records behind its x. d has a byte for
-// each x but the first.
-pub fn sum_entries(s: &[u8], ts: &[usize], behind: usize, d: &[u8], n: usize, k: usize) -> Sums
-    requires { ⌜ (BucketIn n (now s) (now ts) behind (now d)) × (k < n) ⌝ }
-    ensures { λ r. ⌜ Summed k (bucketX shares (xAmong n (now (s .entry)) (now (ts .entry))) (length (now (d .entry))))
-        (bucketZ shares (xAmong n (now (s .entry)) (now (ts .entry))) (zAmong n (now (s .entry)) (now (ts .entry)) behind)
+// Party k's entries of the sums: the bucket's x are the records ts of s, which has one every `len` bytes, and each z lies `behind` records
+// behind its x. d has a byte for each x but the first.
+pub fn sum_entries(
+    s: &[u8],
+    ts: &[usize],
+    behind: usize,
+    len: usize,
+    d: &[u8],
+    n: usize,
+    k: usize,
+) -> Sums
+    requires { ⌜ (BucketIn n len (now s) (now ts) behind (now d)) × (k < n) ⌝ }
+    ensures { λ r. ⌜ Summed k (bucketX shares (xAmong len (now (s .entry)) (now (ts .entry))) (length (now (d .entry))))
+        (bucketZ shares (xAmong len (now (s .entry)) (now (ts .entry))) (zAmong len (now (s .entry)) (now (ts .entry)) behind)
         (λ e. odd (getD (now (d .entry)) e 0)) (length (now (d .entry)))) r ⌝ }
 {
-    let len = share::record_len(n);
     let first = ts[0];
     let mut x = share::entry_at(s, first * len, k);
     let mut z = share::entry_at(s, (first + behind) * len, k);
@@ -69,19 +75,18 @@ pub fn sum_bits(
     s: &[u8],
     ts: &[usize],
     d: &[u8],
-    n: usize,
+    len: usize,
     zs: &[u8],
     behind: usize,
     step: usize,
 ) -> Bits
-    requires { ⌜ (n ≤ 8) × (length (now ts) ≡ length (now d) + 1) ⌝ }
-    requires { ⌜ (Within (now s) (now ts) 0 (recordLen n) 1) × (Within (now zs) (now ts) behind step 1) × (1 ≤ step) ⌝ }
-    ensures { λ r. ⌜ (r .x ≡ bucketX bits (λ e. xAmong n (now (s .entry)) (now (ts .entry)) e .bit) (length (now (d .entry))))
-        × (r .z ≡ bucketZ bits (λ e. xAmong n (now (s .entry)) (now (ts .entry)) e .bit)
+    requires { ⌜ length (now ts) ≡ length (now d) + 1 ⌝ }
+    requires { ⌜ (Within (now s) (now ts) 0 len 1) × (Within (now zs) (now ts) behind step 1) × (1 ≤ len) × (1 ≤ step) ⌝ }
+    ensures { λ r. ⌜ (r .x ≡ bucketX bits (λ e. xAmong len (now (s .entry)) (now (ts .entry)) e .bit) (length (now (d .entry))))
+        × (r .z ≡ bucketZ bits (λ e. xAmong len (now (s .entry)) (now (ts .entry)) e .bit)
         (λ e. odd (getD (now (zs .entry)) ((getD (now (ts .entry)) e 0 + behind) * step) 0))
         (λ e. odd (getD (now (d .entry)) e 0)) (length (now (d .entry)))) ⌝ }
 {
-    let len = share::record_len(n);
     let first = ts[0];
     let mut x = share::bit_at(s, first * len);
     let mut z = block::bit(zs, (first + behind) * step);

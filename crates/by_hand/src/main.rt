@@ -6,6 +6,9 @@ use engine::Session;
 use engine::Verdict;
 use libc::STDOUT_FILENO;
 
+// The bytes of a work area of 8 boxes for one AND.
+const WORK_LEN: usize = 131906;
+
 // What was asked, and the number that came: 0 for accepted.
 fn line(what: &[u8], number: u8) {
     io::write_all(STDOUT_FILENO, what);
@@ -44,13 +47,26 @@ fn bare(n: usize, l: usize) -> u8 {
     number(v)
 }
 
-// Opening of 8 boxes for one AND, all inputs zero.
-fn open_eight(work: &mut [u8; 131906]) -> Answer {
+// Heads of box 0's records among 8, with bits of 0.
+fn put_heads(list: &mut [u8]) {
+    let size = share::lent_len(8);
+    let mut at = 0;
+    while size <= list.len() - at {
+        let e = at + size;
+        share::put_lent_head(&mut list[at..e], 8, 0, false);
+        at = e;
+    }
+}
+
+// Opening of 8 boxes for one AND, all inputs zero but the records' heads.
+fn open_eight(work: &mut [u8; WORK_LEN]) -> Answer {
     let delta = [0u8; 16];
     let seed = [0u8; 32];
     let pairs = [0u8; 256];
-    let bits = [0u8; 44975];
-    let shares = [0u8; 257];
+    let mut bits = [0u8; 50400];
+    put_heads(&mut bits);
+    let mut shares = [0u8; 288];
+    put_heads(&mut shares);
     let masks = [0u8; 40];
     let mut out = [0u8; 280];
     opening::open(
@@ -70,7 +86,7 @@ fn open_eight(work: &mut [u8; 131906]) -> Answer {
 }
 
 // The call for round 1 among 8, with a commitment of each, and an outgoing buffer for seven echoes of `len` bytes.
-fn echo(s: Session, work: &mut [u8; 131906], out: &mut [u8]) -> u8 {
+fn echo(s: Session, work: &mut [u8; WORK_LEN], out: &mut [u8]) -> u8 {
     let mut incoming = [0u8; 40];
     incoming[0] = 1;
     let starts = [0usize; 8];
@@ -95,7 +111,7 @@ fn echo(s: Session, work: &mut [u8; 131906], out: &mut [u8]) -> u8 {
 }
 
 fn eight() {
-    let mut work = [0u8; 131906];
+    let mut work = [0u8; WORK_LEN];
     let a = open_eight(&mut work);
     let s = a.session;
     let v = a.verdict;

@@ -1,2 +1,3 @@
 pub mod Triples
+pub mod Out
 pub mod Stops

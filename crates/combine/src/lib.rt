@@ -2,20 +2,22 @@
 // read where they lie, and each bit, MAC and key is written once. Bits, MACs and keys decide no branch and no index.
 ghost use mathlib.Core.Path.{_≡_};
 ghost use Prim.Native.Nat.{_+_, _*_, _<_, _≤_};
-ghost use lib.ListN.{length, getD};
+ghost use lib.ListN.{length, getD, drop};
 ghost use lib.Dec.{leb};
 ghost use Rattle.lists.specs.All.{allOf};
 ghost use Rattle.lists.specs.Pick.{pick};
 ghost use Rattle.algebra.specs.Group.{odd};
 ghost use Rattle.algebra.specs.Bucket.{bucketX, bucketZ};
-ghost use Rattle.share.specs.Record.{recordLen};
-ghost use Rattle.share.specs.Share.{shares, recordOf};
-ghost use Rattle.bucket_sum.specs.Sums.{xAmong, zAmong, BucketIn, Entries};
+ghost use Rattle.share.specs.Share.{shares};
+ghost use Rattle.share.specs.Lent.{LABEL, lentLen, lentOf};
+ghost use Rattle.bucket_sum.specs.Sums.{BucketIn, Entries};
 ghost use Rattle.engine.specs.Step.{replyOf};
 ghost use Rattle.rounds.specs.Buckets as B;
 ghost use Rattle.rounds.specs.Combine as C;
+ghost use Rattle.combine.specs.Triples.{xLent, zLent};
 use bucket_sum::Sums;
 use engine::Verdict;
+use share::LABEL;
 
 // A triple's records are x, y and z, so the x of the triples are the records 0, 3, 6 ..; how far behind x the others are.
 const TRIPLE: usize = 3;
@@ -26,47 +28,49 @@ const Z: usize = 2;
 
 // Writes the y of triple t.
 fn put_y(out: &mut [u8], triples: &[u8], t: usize, n: usize, i: usize)
-    requires { ⌜ (n ≤ 8) × (t ≤ 4) × (length (now out) ≡ recordLen n) ⌝ }
-    requires { ⌜ (3 * t + 1) * recordLen n + recordLen n ≤ length (now triples) ⌝ }
-    ensures { λ _. ⌜ now (out .exit) ≡ recordOf n i (C.triple n (now (triples .entry)) t .ty) ⌝ }
+    requires { ⌜ (n ≤ 8) × (t ≤ 4) × (length (now out) ≡ lentLen n) × (i < n) ⌝ }
+    requires { ⌜ (3 * t + 1) * lentLen n + lentLen n ≤ length (now triples) ⌝ }
+    ensures { λ _. ⌜ now (out .exit) ≡ lentOf n i (C.triple n (now (triples .entry)) t .ty) ⌝ }
 {
-    let at = (TRIPLE * t + Y) * share::record_len(n);
-    share::copy_record(out, triples, at, n, i);
+    let at = (TRIPLE * t + Y) * share::lent_len(n);
+    share::keep_record(&mut out[LABEL..], triples, at, n, i);
+    share::put_lent_head(out, n, i, share::bit_at(triples, at));
 }
 
 // What stands for party k in party i's records of the combined x and z.
 fn party(triples: &[u8], ts: &[usize], d: &[u8], n: usize, i: usize, k: usize) -> Sums
-    requires { ⌜ (BucketIn n (now triples) (now ts) 2 (now d)) × (k < n) ⌝ }
-    ensures { λ r. ⌜ Entries i k (bucketX shares (xAmong n (now (triples .entry)) (now (ts .entry))) (length (now (d .entry))))
-        (bucketZ shares (xAmong n (now (triples .entry)) (now (ts .entry))) (zAmong n (now (triples .entry)) (now (ts .entry)) 2)
+    requires { ⌜ (BucketIn n (lentLen n) (drop LABEL (now triples)) (now ts) 2 (now d)) × (k < n) ⌝ }
+    ensures { λ r. ⌜ Entries i k (bucketX shares (xLent n (now (triples .entry)) (now (ts .entry))) (length (now (d .entry))))
+        (bucketZ shares (xLent n (now (triples .entry)) (now (ts .entry))) (zLent n (now (triples .entry)) (now (ts .entry)))
         (λ e. odd (getD (now (d .entry)) e 0)) (length (now (d .entry)))) r ⌝ }
 {
     if k == i {
         return bucket_sum::nothing();
     }
-    bucket_sum::sum_entries(triples, ts, Z, d, n, k)
+    bucket_sum::sum_entries(&triples[LABEL..], ts, Z, share::lent_len(n), d, n, k)
 }
 
 // All triples as one sum; d's first byte is the second triple's.
 fn combine_all(out: &mut [u8], triples: &[u8], d: &[u8], n: usize, i: usize)
-    requires { ⌜ (n ≤ 8) × (length (now out) ≡ 3 * recordLen n) × (length (now d) ≤ 4) ⌝ }
-    requires { ⌜ length (now triples) ≡ 3 * (length (now d) + 1) * recordLen n ⌝ }
+    requires { ⌜ (n ≤ 8) × (length (now out) ≡ 3 * lentLen n) × (length (now d) ≤ 4) × (i < n) ⌝ }
+    requires { ⌜ length (now triples) ≡ 3 * (length (now d) + 1) * lentLen n ⌝ }
     ensures { λ _. ⌜ now (out .exit) ≡ C.records n i
         (B.combine (C.triple n (now (triples .entry))) (λ e. odd (getD (now (d .entry)) e 0)) (length (now (d .entry)))) ⌝ }
 {
     let x_places = [0usize, 3, 6, 9, 12];
     let count = d.len() + 1;
-    let len = share::record_len(n);
+    let len = share::lent_len(n);
     let z = Z * len;
     put_y(&mut out[len..z], triples, 0, n, i);
     let mut k = 0;
     while k < n {
         let s = party(triples, &x_places[..count], d, n, i, k);
-        bucket_sum::put_entries(out, z, k, s);
+        bucket_sum::put_entries(&mut out[LABEL..], z, k, s);
         k += 1;
     }
-    let b = bucket_sum::sum_bits(triples, &x_places[..count], d, n, triples, Z, len);
-    bucket_sum::put_heads(out, z, b);
+    let b = bucket_sum::sum_bits(triples, &x_places[..count], d, len, triples, Z, len);
+    share::put_lent_head(out, n, i, b.x);
+    share::put_lent_head(&mut out[z..], n, i, b.z);
 }
 
 // 1 where a byte is above 1, else 0.
@@ -102,7 +106,7 @@ fn reason(n: usize, i: usize, count: usize, triples: &[u8], d: &[u8], out: &[u8]
     if 5 < count {
         return 16;
     }
-    let len = share::record_len(n);
+    let len = share::lent_len(n);
     if triples.len() != 3 * count * len {
         return 6;
     }

@@ -18,7 +18,7 @@ pub struct Session {
 
 pub enum Verdict {
     Accepted,
-    // The number of the reason, 1 to 20, and a party.
+    // The number of the reason and a party.
     Refused(u8, usize),
 }
 

@@ -8,8 +8,8 @@ use lib.ListN.{length}
 use Rattle.lists.specs.Over.{in-chunks}
 use Rattle.algebra.specs.Group.{XorGroup, sel}
 use Rattle.share.specs.Record.{recordLen}
-use Rattle.share.specs.Share.{Share, shareAt, shares, recordOf}
-use Rattle.share.specs.ShareLaws.{Alike, alike-op, alike-agree, alike-get, Agree, agree-record, agree-op, agree-sel}
+use Rattle.share.specs.Share.{Share, shareAt, shares}
+use Rattle.share.specs.ShareLaws.{Alike, alike-op, alike-agree, alike-get, Agree, agree-op, agree-sel}
 use Rattle.engine.specs.declared.Frame.{Frame}
 use Rattle.engine.specs.Area.{off, sec}
 use Rattle.rounds.specs.Area.{BITS, PERM, TRIPLES, ALPHA, BETA, SECTIONS, sizeOf, at}
@@ -54,8 +54,8 @@ pub record Reads (f : Frame) (w : List ℕ) (j : ℕ) (r : Records) : Type 0 whe
   pub beta-in : r .beta + recordLen (f .n) ≤ length w
   pub d-read : Alike (f .n) (shares .op (shareAt w (r .a)) (shareAt w (r .alpha))) (D f w j)
   pub e-read : Alike (f .n) (shares .op (shareAt w (r .b)) (shareAt w (r .beta))) (E f w j)
-  pub finish-read : (d e : Bool) → recordOf (f .n) (f .i) (R.finish (shareAt w (r .c)) (shareAt w (r .beta)) (shareAt w (r .a)) d e)
-      ≡ recordOf (f .n) (f .i) (R.finish (R.c f (at f TRIPLES w) j) (R.share f (at f BETA w) j) (R.a f (at f TRIPLES w) j) d e)
+  pub finish-read : (d e : Bool) → Agree (f .n) (f .i) (R.finish (shareAt w (r .c)) (shareAt w (r .beta)) (shareAt w (r .a)) d e)
+      (R.finish (R.c f (at f TRIPLES w) j) (R.share f (at f BETA w) j) (R.a f (at f TRIPLES w) j) d e)
 
 -- the record at p is the one at x of section s
 record Read (f : Frame) (w : List ℕ) (s x p : ℕ) : Type 0 where
@@ -82,8 +82,7 @@ module _ {f : Frame} {w : List ℕ} (h : Work f w) where
     d-read = alike-op (f .n) _ _ _ _ (a .alike) (alpha .alike);
     e-read = alike-op (f .n) _ _ _ _ (b .alike) (beta .alike);
     finish-read =
-        λ d e. agree-record (f .n) (f .i) _ _ (plus (plus (agrees (c .alike)) (times d (agrees (beta .alike))))
-        (times e (agrees (a .alike))));
+        λ d e. plus (plus (agrees (c .alike)) (times d (agrees (beta .alike)))) (times e (agrees (a .alike)));
   }
     where
       a : Read f w TRIPLES (j * (2 * recordLen (f .n))) (r .a)

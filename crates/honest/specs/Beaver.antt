@@ -18,8 +18,10 @@ use Rattle.block.specs.Block.{blockAt, bytesOf, Small}
 use Rattle.block.specs.Group.{blocks, eq-block}
 use Rattle.block.specs.Trip.{length-bytesOf, block-at}
 use Rattle.share.specs.Record.{recordLen}
-use Rattle.share.specs.Share.{Share, shares, recordOf}
-use Rattle.share.specs.ShareLaws.{SmallShare, small-share-at, small-share-op, small-share-sel, Agree, agree-record, agree-op, agree-refl}
+use Rattle.share.specs.Share.{Share, shares}
+use Rattle.share.specs.ShareLaws.{SmallShare, small-share-at, small-share-op, small-share-sel, Agree, agree-op, agree-refl}
+use Rattle.share.specs.Lent.{lentOf}
+use Rattle.share.specs.LentLaws.{agree-lent}
 use Rattle.share.specs.Parties.{shareOf, share-of-op, share-of-sel, share-of-at}
 use Rattle.message.specs.declared.Kind.the-variants.{Items}
 use Rattle.message.specs.Format.{formOf}
@@ -256,18 +258,18 @@ module _ (R : Run) (I : Inputs R) where
 
   results-are : (i : ℕ) → i < n → (m : ℕ → List ℕ) → Mail n (S.sent22 R) i m
       → B.results (box R i) (inputs i .bits) (perm i) (triples i) (inputs i .alpha) (inputs i .beta) m
-      ≡ cat l (λ j. recordOf n i (shareOf i (outOf R j)))
+      ≡ cat l (λ j. lentOf n i (shareOf i (outOf R j)))
   unfolding B.results B.resultShare
   results-are i li m M =
       cat-ext l _ _ (λ j lj.
-      ap₂ (λ (p q : Bool). recordOf n i
+      ap₂ (λ (p q : Bool). lentOf n i
       (B.finish (B.c (box R i) (triples i) j) (B.share (box R i) (inputs i .beta) j) (B.a (box R i) (triples i) j) p q))
       (d-opened i li m M j lj) (e-opened i li m M j lj)
-      ∙ agree-record n i _ _ (agree-finish n i _ _ _ _ _ _ _ _ (c-read R I i j li lj) (beta-read i j) (a-read R I i j li lj))
-      ∙ ap (recordOf n i) (sym (share-out i j)))
+      ∙ agree-lent n i _ _ (agree-finish n i _ _ _ _ _ _ _ _ (c-read R I i j li lj) (beta-read i j) (a-read R I i j li lj))
+      ∙ ap (lentOf n i) (sym (share-out i j)))
 
   -- what box i writes at the end
-  pub result-is : (i : ℕ) → i < n → S.resultOf R i ≡ cat l (λ j. recordOf n i (shareOf i (outOf R j)))
+  pub result-is : (i : ℕ) → i < n → S.resultOf R i ≡ cat l (λ j. lentOf n i (shareOf i (outOf R j)))
   unfolding S.resultOf
   result-is i li = results-are i li _ (λ k lk ne. refl)
 

@@ -12,8 +12,16 @@ use borrow.Author.Tests.{lt-ltb, le-leb, eq-eqb, ne-eqb, eqb-true}
 use Rattle.lists.specs.Pick.{pick, by-eq}
 use Rattle.lists.specs.All.{allOf, all-of}
 use Rattle.lists.specs.Over.{tab, length-tab, getD-tab}
+use Rattle.lists.specs.Bytes.{Bytes}
 use Rattle.algebra.specs.Sum.{neq, Same, apart, apart?}
-use Rattle.share.specs.RecordLaws.{valid-faults}
+use Rattle.algebra.specs.Share.{total, Good}
+use Rattle.block.specs.Group.{blocks}
+use Rattle.share.specs.Record.{recordLen}
+use Rattle.share.specs.Share.{shareAt}
+use Rattle.share.specs.ShareLaws as Shares
+use Rattle.share.specs.Lent.{lentLen, keptOf}
+use Rattle.share.specs.LentLaws.{bytes-kept, valid-faults}
+use Rattle.share.specs.Parties.{sharedAt, lentShared, shareOf, good-at, total-at, kept-agree}
 use Rattle.permutation.specs.Permutation.{isPerm}
 use Rattle.permutation.specs.PermutationLaws.{perm-of}
 use Rattle.plan.specs.Plan.{InRange, leaky, bitsCount, msgLen}
@@ -25,7 +33,8 @@ use Rattle.engine.specs.Sheet.{Known}
 use Rattle.engine.specs.Honest.{Lawful, due}
 use Rattle.engine.specs.PlainSession.{AlikeSend, alike-same, HonestOpening}
 use Rattle.rounds.specs.Area.{BITS, KEY-SUMS, workLen, at, keep}
-use Rattle.rounds.specs.Opening.{Args, listsDue, buffersDue, masksFault, orFault, bytesFault, lengthsFault, reason, section, area, spec}
+use Rattle.rounds.specs.Opening.{Args, listsDue, buffersDue, masksFault, orFault, bytesFault, lengthsFault, reason}
+use Rattle.rounds.specs.Opening.{kept, section, area, spec}
 use Rattle.rounds.specs.Table.{noLoan, lent, held, written}
 use Rattle.rounds.specs.Fabitn.{rFits}
 use Rattle.rounds.specs.Fabitn as Fabitn
@@ -35,7 +44,7 @@ use Rattle.alone.specs.Opening.{Lens, first-seven, spec-takes}
 use Rattle.alone.specs.Opening as A
 use Rattle.honest.specs.Subject.{opener, subject}
 use Rattle.honest.specs.Script as S
-use Rattle.honest.specs.Inputs.{Run, box, Own, Boxes, Inputs}
+use Rattle.honest.specs.Inputs.{Run, box, deltas, Own, Opened, Inputs}
 use Rattle.honest.specs.Base.{stored}
 
 -- ---- no reason to refuse
@@ -90,31 +99,17 @@ module _ (a : Args) (r : InRange (a .party .n) (a .party .l)) (li : a .party .i 
         buffers-due hw ho,
       ) bytes-none
 
--- ---- the work area that it lays out
 lens-of : (a : Args) → Own (a .party) a → Lens a
 lens-of a o = record {
   delta-len = o .delta-len;
   seed-len = o .seed-len;
   pairs-len = o .pairs-len;
   masks-len = o .masks-len;
-  bits-len = o .bits-len;
-  alpha-len = o .alpha-len;
-  beta-len = o .beta-len;
 }
 
 -- in the words of its frame
 own-frame : (f : Frame) (a : Args) → Own f a → Own (a .party) a
 own-frame f a o = subst (λ (f : Frame). Own f a) (sym (o .party)) o
-
-module _ (R : Run) (X : Boxes R) where
-  open Run R using (n, l, inputs)
-
-  pub known-opened : (i : ℕ) → i < n → Known n l (stored R) (due 1) i (area (inputs i))
-  unfolding section S.holds
-  known-opened i li =
-      A.known-opened (box R i) (S.holds R) (inputs i) (X .own i li .party)
-      (lens-of (inputs i) (own-frame (box R i) (inputs i) (X .own i li)))
-      (first-seven (λ s. section (inputs i) s ≡ S.holds R i s) (refl, (refl, (refl, (refl, (refl, (refl, (refl, tt))))))))
 
 -- ---- what demand 3 asks of a call of opening, and of the r Blocks and the permutation
 -- "work areas and buffers hold anything": the inputs of a with another work area and outgoing buffer
@@ -151,9 +146,15 @@ module _ (R : Run) where
 unfoldable pub orderFor : ℕ → List ℕ → List ℕ
 orderFor l p = pick (eqb (length p) (leaky l) && isPerm p) p (tab (leaky l) (λ t. t))
 
--- the run of the script
+-- the run of the script: the rounds go by the inputs as they are kept
 abbrev pub played : Run → Run
-played R = record { n = R .n; l = R .l; inputs = R .inputs; strings = R .strings; permutation = orderFor (R .l) (R .permutation) }
+played R = record {
+  n = R .n;
+  l = R .l;
+  inputs = λ b. kept (R .inputs b);
+  strings = R .strings;
+  permutation = orderFor (R .l) (R .permutation);
+}
 
 pub order-for : (l : ℕ) (p : List ℕ) → (length (orderFor l p) ≡ leaky l) × (isPerm (orderFor l p) ≡ true)
 unfolding orderFor
@@ -177,9 +178,42 @@ order-for l p = go (eqb (length p) (leaky l)) refl (isPerm p) refl
     go true ea false eb = (long, perm)
     go false ea b eb = (long, perm)
 
-pub inputs-for : (R : Run) → Boxes R → Inputs (played R)
+-- what the boxes keep of one list each, `count l` records, is what they were lent
+module _ (R : Run) (X : Opened R) (count : ℕ → ℕ) (files : ℕ → List ℕ) (bytes : (b : ℕ) → b < R .n → Bytes (files b))
+    (t : ℕ) (lt : t < count (R .l)) where
+  open Run R using (n, l, inputs)
+
+  abbrev keeps : ℕ → List ℕ
+  keeps b = keptOf (inputs b .party .n) (inputs b .party .i) (count (inputs b .party .l)) (files b)
+
+  keeps-lent : (b : ℕ) → b < n → Shares.Agree n b (shareAt (keeps b) (t * recordLen n)) (shareOf b (lentShared files (t * lentLen n)))
+  keeps-lent b lb =
+      subst (λ (f : Frame). Shares.Agree n b (shareAt (keptOf (f .n) (f .i) (count (f .l)) (files b)) (t * recordLen n))
+      (shareOf b (lentShared files (t * lentLen n))))
+      (sym (X .own b lb .party)) (kept-agree n files (count l) t lt bytes b lb)
+
+  good-keeps : Good blocks n (deltas R) (lentShared files (t * lentLen n)) → Good blocks n (deltas R) (sharedAt keeps (t * recordLen n))
+  good-keeps = good-at n (lentShared files (t * lentLen n)) keeps (t * recordLen n) keeps-lent (deltas R)
+
+  pub total-keeps : total n (sharedAt keeps (t * recordLen n)) ≡ total n (lentShared files (t * lentLen n))
+  total-keeps = total-at n (lentShared files (t * lentLen n)) keeps (t * recordLen n) keeps-lent
+
+pub inputs-for : (R : Run) → Opened R → Inputs (played R)
 inputs-for R X = record {
-  boxes = record { range = X .range; own = X .own; bits-mac = X .bits-mac; alpha-mac = X .alpha-mac; beta-mac = X .beta-mac };
+  boxes = record {
+    range = X .range;
+    own = λ b lb. record {
+      seed-len = X .own b lb .seed-len;
+      pairs-len = X .own b lb .pairs-len;
+      delta-bytes = X .own b lb .delta-bytes;
+      bits-bytes = bytes-kept _ _ (R .inputs b .bits) _;
+      alpha-bytes = bytes-kept _ _ (R .inputs b .alpha) _;
+      beta-bytes = bytes-kept _ _ (R .inputs b .beta) _;
+    };
+    bits-mac = λ t lt. good-keeps R X bitsCount (λ b. R .inputs b .bits) (λ b lb. X .own b lb .bits-bytes) t lt (X .bits-mac t lt);
+    alpha-mac = λ t lt. good-keeps R X (λ l. l) (λ b. R .inputs b .alpha) (λ b lb. X .own b lb .alpha-bytes) t lt (X .alpha-mac t lt);
+    beta-mac = λ t lt. good-keeps R X (λ l. l) (λ b. R .inputs b .beta) (λ b lb. X .own b lb .beta-bytes) t lt (X .beta-mac t lt);
+  };
   order-len = order-for (R .l) (R .permutation) .0;
   order-perm = order-for (R .l) (R .permutation) .1;
 }
@@ -260,7 +294,7 @@ spec-refuses : (a : Args) → reason a ≢ 0
 unfolding spec
 spec-refuses a ne = rw (ne-eqb (reason a) 0 ne) refl
 
-module _ (R : Run) (X : Boxes R) where
+module _ (R : Run) (X : Opened R) where
   open Run R using (n, l, inputs, strings, permutation)
 
   -- what box b's opening writes: the commitment of its seed
@@ -287,13 +321,21 @@ module _ (R : Run) (X : Boxes R) where
       let z : reason (lend (inputs b) (a .work) (a .out)) ≡ 0 = no-reason-lend b lb (a .work) (a .out) (g .work-len) (g .out-len) in
       rw (g .inputs-are) (z, spec-takes (lend (inputs b) (a .work) (a .out)) (box R b) (X .own b lb .party) z)
 
+  -- the work area that it lays out
+  known-opened : (i : ℕ) → i < n → Known n l (stored (played R)) (due 1) i (area (inputs i))
+  unfolding section S.holds
+  known-opened i li =
+      A.known-opened (box R i) (S.holds (played R)) (inputs i) (X .own i li .party)
+      (lens-of (inputs i) (own-frame (box R i) (inputs i) (X .own i li)))
+      (first-seven (λ s. section (kept (inputs i)) s ≡ S.holds (played R) i s) (refl, (refl, (refl, (refl, (refl, (refl, (refl, tt))))))))
+
   pub honest-opening : (W : Lawful subject n l) → HonestOpening subject (S.script (played R)) n l opener (Agree R) (Given R) W
   unfolding S.sent S.sent1
   honest-opening W = record {
     first = record { work = λ b. area (inputs b); out = firstOut };
     refuses = spec-refuses;
     takes = takes-given;
-    keeps = known-opened (played R) (inputs-for R X .boxes);
+    keeps = known-opened;
     writes = λ j lj. refl;
     agrees = λ j q h g. agrees R q n j h g;
   }

@@ -14,14 +14,14 @@ use Rattle.lists.specs.Bytes.{Bytes}
 use Rattle.algebra.specs.Sum.{neq, neq-true}
 use Rattle.algebra.specs.Share.{Good}
 use Rattle.block.specs.Group.{blocks}
-use Rattle.share.specs.Record.{recordLen, recordsFault}
-use Rattle.share.specs.RecordLaws.{faults-valid}
+use Rattle.share.specs.Lent.{lentLen, recordsFault}
+use Rattle.share.specs.LentLaws.{faults-valid}
 use Rattle.plan.specs.Plan.{InRange, leaky, bitsCount, msgLen}
 use Rattle.engine.specs.declared.Frame.{Frame}
 use Rattle.rounds.specs.Area.{workLen}
 use Rattle.rounds.specs.OpeningLaws.{neither}
 use Rattle.rounds.specs.Opening.{Args, listsDue, buffersDue, masksFault, bytesFault, lengthsFault, reason}
-use Rattle.honest.specs.Inputs.{Run, box, Own, Boxes, deltas, bitsOf, alphasOf, betasOf}
+use Rattle.honest.specs.Inputs.{Run, box, deltas, Own, lentBits, lentAlphas, lentBetas, Opened}
 use Rattle.honest.specs.Course.{lawful}
 use Rattle.honest.specs.Opening.{Given, honest-opening}
 use Rattle.honest.specs.Supply.{zeroInputs, zeroRun, zero-boxes}
@@ -44,9 +44,9 @@ pub record Premises (R : Run) : Type 0 where
   pub party : (b : ℕ) → b < R .n → R .inputs b .party ≡ box R b
   pub fine : (b : ℕ) → b < R .n → reason (R .inputs b) ≡ 0
   pub bytes : (b : ℕ) → b < R .n → InBytes (R .inputs b)
-  pub bits-mac : (t : ℕ) → t < bitsCount (R .l) → Good blocks (R .n) (deltas R) (bitsOf R t)
-  pub alpha-mac : (t : ℕ) → t < R .l → Good blocks (R .n) (deltas R) (alphasOf R t)
-  pub beta-mac : (t : ℕ) → t < R .l → Good blocks (R .n) (deltas R) (betasOf R t)
+  pub bits-mac : (t : ℕ) → t < bitsCount (R .l) → Good blocks (R .n) (deltas R) (lentBits R t)
+  pub alpha-mac : (t : ℕ) → t < R .l → Good blocks (R .n) (deltas R) (lentAlphas R t)
+  pub beta-mac : (t : ℕ) → t < R .l → Good blocks (R .n) (deltas R) (lentBetas R t)
 
 -- ---- what an opening without a reason was given
 not-zero : (k : ℕ) → _≡_ {A = ℕ} (suc k) 0 → ⊥
@@ -82,15 +82,15 @@ mask-bit a h k t lk ne lt =
 
 -- the lengths of the lists, and of the buffers
 record Lists (a : Args) : Type 0 where
-  bits : length (a .bits) ≡ bitsCount (a .party .l) * recordLen (a .party .n)
-  alpha : length (a .alpha) ≡ a .party .l * recordLen (a .party .n)
-  beta : length (a .beta) ≡ a .party .l * recordLen (a .party .n)
+  bits : length (a .bits) ≡ bitsCount (a .party .l) * lentLen (a .party .n)
+  alpha : length (a .alpha) ≡ a .party .l * lentLen (a .party .n)
+  beta : length (a .beta) ≡ a .party .l * lentLen (a .party .n)
 
 lists-of : (a : Args) → listsDue (a .party) (length (a .bits)) (length (a .alpha)) (length (a .beta)) ≡ true → Lists a
 unfolding listsDue
 lists-of a h =
-    let p = and-both _ (eqb (length (a .beta)) (a .party .l * recordLen (a .party .n))) h in
-    let q = and-both (eqb (length (a .bits)) (bitsCount (a .party .l) * recordLen (a .party .n))) _ (p .0) in
+    let p = and-both _ (eqb (length (a .beta)) (a .party .l * lentLen (a .party .n))) h in
+    let q = and-both (eqb (length (a .bits)) (bitsCount (a .party .l) * lentLen (a .party .n))) _ (p .0) in
     record { bits = eqb-true _ _ (q .0); alpha = eqb-true _ _ (q .1); beta = eqb-true _ _ (p .1) }
 
 record Buffers (a : Args) : Type 0 where
@@ -148,12 +148,12 @@ module _ (a : Args) (h : reason a ≡ 0) (y : InBytes a) where
         mask-bits = mask-bit a (beta .1);
       }
 
--- ---- the premises are those that the rounds' proofs go by
+-- ---- the premises are those that the proofs go by
 module _ (R : Run) (P : Premises R) where
   open Run R using (n, inputs)
 
-  pub boxes-of : Boxes R
-  boxes-of = record {
+  pub opened-of : Opened R
+  opened-of = record {
     range = record { two = P .two; eight = P .eight; one = P .one; most = P .most };
     own = λ b lb. subst (λ (f : Frame). Own f (inputs b)) (P .party b lb) (own-here (inputs b) (P .fine b lb) (P .bytes b lb));
     bits-mac = P .bits-mac;
@@ -171,7 +171,7 @@ module _ (R : Run) (P : Premises R) where
         out-len = bs .out ∙ ap (λ (f : Frame). (f .n - 1) * msgLen (f .n) (f .l) 1) (P .party b lb);
       }
 
--- ---- for every n, l and r there are inputs that meet them: all-zero ones
+-- ---- for every n, l and r there are inputs that meet them: all-zero ones, but for the labels
 pub zero-premises : (n l : ℕ) → InRange n l → (r : List ℕ) → Premises (zeroRun n l r)
 zero-premises n l range r =
     let X = zero-boxes n l range r in

@@ -8,10 +8,10 @@ use Rattle.lists.specs.Over.{length-cat}
 use Rattle.algebra.specs.Group.{bits, sel}
 use Rattle.algebra.specs.Share.{total, Good, Triple, beaver}
 use Rattle.block.specs.Group.{blocks}
-use Rattle.share.specs.Record.{recordLen}
-use Rattle.share.specs.Share.{shareAt, recordOf}
-use Rattle.share.specs.ShareLaws.{Agree, length-recordOf, record-row}
-use Rattle.share.specs.Parties.{sharedAt, shareOf, good-at, total-at, written-at}
+use Rattle.share.specs.ShareLaws.{Agree}
+use Rattle.share.specs.Lent.{lentLen, lentOf, lentAt}
+use Rattle.share.specs.LentLaws.{length-lentOf, lent-row}
+use Rattle.share.specs.Parties.{lentShared, shareOf, good-lent, total-lent, lent-written}
 use Rattle.honest.specs.Script as S
 use Rattle.honest.specs.Inputs.{Run, Inputs, deltas, alphasOf, betasOf}
 use Rattle.honest.specs.Values.{LeakyTriples}
@@ -25,17 +25,17 @@ module _ (R : Run) (I : Inputs R) where
   abbrev result : ℕ → List ℕ
   result i = S.resultOf R i
 
-  pub length-result : (i : ℕ) → i < n → length (S.resultOf R i) ≡ l * recordLen n
-  length-result i li = ap length (result-is R I i li) ∙ length-cat l (recordLen n) _ (λ j lj. length-recordOf n i _)
+  pub length-result : (i : ℕ) → i < n → length (S.resultOf R i) ≡ l * lentLen n
+  length-result i li = ap length (result-is R I i li) ∙ length-cat l (lentLen n) _ (λ j lj. length-lentOf n i _)
 
   module _ (t : ℕ) (lt : t < l) where
-    here : (i : ℕ) → i < n → take (recordLen n) (drop (t * recordLen n) (result i)) ≡ recordOf n i (shareOf i (outOf R t))
+    here : (i : ℕ) → i < n → take (lentLen n) (drop (t * lentLen n) (result i)) ≡ lentOf n i (shareOf i (outOf R t))
     here i li =
-        ap (λ (s : List ℕ). take (recordLen n) (drop (t * recordLen n) s)) (result-is R I i li)
-        ∙ record-row n i l (λ j. shareOf i (outOf R j)) t lt
+        ap (λ (s : List ℕ). take (lentLen n) (drop (t * lentLen n) s)) (result-is R I i li)
+        ∙ lent-row n i l (λ j. shareOf i (outOf R j)) t lt
 
-    read : (i : ℕ) → i < n → Agree n i (shareAt (result i) (t * recordLen n)) (shareOf i (outOf R t))
-    read = written-at n (outOf R t) result (t * recordLen n) here (λ i li. small-out R I i t li)
+    read : (i : ℕ) → i < n → Agree n i (lentAt (result i) (t * lentLen n)) (shareOf i (outOf R t))
+    read = lent-written n (outOf R t) result (t * lentLen n) here (λ i li. small-out R I i t li)
 
     module _ (L : LeakyTriples R) where
       product : Triple blocks n (deltas R) (alphasOf R t) (betasOf R t) (outOf R t)
@@ -43,9 +43,9 @@ module _ (R : Run) (I : Inputs R) where
           beaver blocks n (deltas R) (aOf R t) (bOf R t) (cOf R t)
           (alphasOf R t) (betasOf R t) (abc-triple R I L t lt) (I .boxes .alpha-mac t lt) (I .boxes .beta-mac t lt)
 
-      pub good-result : Good blocks n (deltas R) (sharedAt (λ i. S.resultOf R i) (t * recordLen n))
-      good-result = good-at n (outOf R t) result (t * recordLen n) read (deltas R) (product .good-c)
+      pub good-result : Good blocks n (deltas R) (lentShared (λ i. S.resultOf R i) (t * lentLen n))
+      good-result = good-lent n (outOf R t) result (t * lentLen n) read (deltas R) (product .good-c)
 
-      pub total-result : total n (sharedAt (λ i. S.resultOf R i) (t * recordLen n))
+      pub total-result : total n (lentShared (λ i. S.resultOf R i) (t * lentLen n))
           ≡ sel bits (total n (alphasOf R t)) (total n (betasOf R t))
-      total-result = total-at n (outOf R t) result (t * recordLen n) read ∙ product .product
+      total-result = total-lent n (outOf R t) result (t * lentLen n) read ∙ product .product

@@ -1,23 +1,25 @@
--- The premises of demand 3 can be met: all-zero inputs keep them, and with strings, lent or as a seed, and a permutation of due length no
--- call has a reason.
-use mathlib.Core.Path.{_≡_, refl, sym}
+-- The premises of demand 3 can be met: inputs that are all zero but for the records' labels keep them, and with strings, lent or as a seed,
+-- and a permutation of due length no call has a reason.
+use mathlib.Core.Path.{_≡_, refl, sym, ap, _∙_, subst}
 use mathlib.Core.Bool.{Bool, true, false, _&&_}
 use mathlib.Core.List.{List, []}
-use Prim.Native.Nat.{ℕ, zero, suc, _+_, _-_, _*_, _<_}
+use Prim.Native.Nat.{ℕ, zero, suc, _+_, _-_, _*_, _<_, _≤_}
 use native.Mathlib.Omega.{arith}
 use lib.ListN.{length, getD, replicate, length-replicate}
 use lib.Dec.{eqb}
 use borrow.Author.Tests.{eq-eqb, eqb-true}
 use Rattle.lists.specs.Pick.{pick}
-use Rattle.lists.specs.Bytes.{bytes-replicate}
-use Rattle.algebra.specs.Group.{odd}
-use Rattle.algebra.specs.Share.{Good}
+use Rattle.lists.specs.Over.{cat, length-cat}
+use Rattle.lists.specs.Bytes.{Bytes, bytes-cat, bytes-replicate}
+use Rattle.algebra.specs.Group.{XorGroup}
+use Rattle.algebra.specs.Share.{Good, shared, good-nil}
 use Rattle.block.specs.declared.Block.{Block}
-use Rattle.block.specs.Block.{wordAt, blockAt, zeroOf}
 use Rattle.block.specs.Group.{blocks}
-use Rattle.share.specs.Record.{recordLen, bitAt, macAt, keyAt}
-use Rattle.share.specs.RecordLaws.{Valid}
-use Rattle.share.specs.Parties.{sharedAt}
+use Rattle.share.specs.Share.{shares}
+use Rattle.share.specs.ShareLaws.{SmallShare, small-share-nil}
+use Rattle.share.specs.Lent.{lentLen, lentOf}
+use Rattle.share.specs.LentLaws.{length-lentOf, bytes-lentOf, lent-row, Valid, lent-valid}
+use Rattle.share.specs.Parties.{lentShared, share-of-nil, good-lent, lent-written}
 use Rattle.permutation.specs.Permutation.{isPerm}
 use Rattle.plan.specs.Plan.{InRange, leaky, bitsCount, rLen, msgLen}
 use Rattle.engine.specs.Step.{frame, Loan}
@@ -30,12 +32,16 @@ use Rattle.rounds.specs.Fabitn.{rFits}
 use Rattle.rounds.specs.Fabitn as Fabitn
 use Rattle.rounds.specs.FabitnLaws.{strings-all, seed-long, fits-all, fits-seed}
 use Rattle.honest.specs.Subject.{opener, subject}
-use Rattle.honest.specs.Inputs.{Run, box, Boxes}
+use Rattle.honest.specs.Inputs.{Run, box, Opened}
 use Rattle.honest.specs.Opening.{lend, Given, Agree, orderFor}
 
--- ---- all-zero inputs
+-- ---- zero inputs
 abbrev zeros : ℕ → List ℕ
 zeros c = replicate c 0
+
+-- box b's c records of nothing, among n boxes
+abbrev blanks : ℕ → ℕ → ℕ → List ℕ
+blanks n b c = cat c (λ t. lentOf n b (shares .nil))
 
 abbrev pub zeroInputs : ℕ → ℕ → ℕ → Args
 zeroInputs n l b = record {
@@ -43,9 +49,9 @@ zeroInputs n l b = record {
   delta = zeros 16;
   seed = zeros 32;
   pairs = zeros (32 * n);
-  bits = zeros (bitsCount l * recordLen n);
-  alpha = zeros (l * recordLen n);
-  beta = zeros (l * recordLen n);
+  bits = blanks n b (bitsCount l);
+  alpha = blanks n b l;
+  beta = blanks n b l;
   masks = zeros (n * leaky l);
   work = zeros (workLen (frame n l b));
   out = zeros ((n - 1) * msgLen n l 1);
@@ -60,19 +66,27 @@ zero-at zero k = refl
 zero-at (suc c) zero = refl
 zero-at (suc c) (suc k) = zero-at c k
 
-zero-block : (c at : ℕ) → blockAt (zeros c) at ≡ blocks .nil
-unfolding blockAt wordAt blocks zeroOf
-zero-block c at = simp zero-at
+-- such records are as long as they should, bytes, valid, and keep the MAC rule
+blanks-long : (n b c : ℕ) → length (blanks n b c) ≡ c * lentLen n
+blanks-long n b c = length-cat c (lentLen n) (λ t. lentOf n b (shares .nil)) (λ t h. length-lentOf n b (shares .nil))
 
-zero-valid : (i c at : ℕ) → Valid i (zeros c) at
-unfolding macAt keyAt
-zero-valid i c at = record { bit = rw (zero-at c at) (omega arith); mac = zero-block c _; key = zero-block c _ }
+module _ (n b : ℕ) (eight : n ≤ 8) (lb : b < n) where
+  blanks-bytes : (c : ℕ) → Bytes (blanks n b c)
+  blanks-bytes c = bytes-cat c (λ t. lentOf n b (shares .nil)) (λ t h. bytes-lentOf n b (omega arith) (omega arith) (shares .nil))
 
-zero-good : (n : ℕ) (δ : ℕ → Block) (c at : ℕ) → Good blocks n δ (sharedAt (λ b. zeros c) at)
-unfolding sharedAt bitAt macAt keyAt odd
-zero-good n δ c at i j li lj ne = simp (zero-at, zero-block) (sym (blocks .unit (blocks .nil)))
+  blanks-valid : (c t : ℕ) → t < c → Valid n b (blanks n b c) (t * lentLen n)
+  blanks-valid c t h =
+      lent-valid n b (shares .nil) (blanks n b c) (t * lentLen n) (lent-row n b c (λ t. shares .nil) t h) lb
 
-pub zero-boxes : (n l : ℕ) → InRange n l → (r : List ℕ) → Boxes (zeroRun n l r)
+blanks-good : (n c t : ℕ) (δ : ℕ → Block) → t < c → Good blocks n δ (lentShared (λ b. blanks n b c) (t * lentLen n))
+blanks-good n c t δ h =
+    good-lent n (shared blocks .nil) (λ b. blanks n b c) (t * lentLen n)
+    (lent-written n (shared blocks .nil) (λ b. blanks n b c) (t * lentLen n)
+    (λ b lb. lent-row n b c (λ t. shares .nil) t h ∙ ap (lentOf n b) (sym (share-of-nil b)))
+    (λ b lb. subst (SmallShare n) (sym (share-of-nil b)) (small-share-nil n)))
+    δ (good-nil blocks n δ)
+
+pub zero-boxes : (n l : ℕ) → InRange n l → (r : List ℕ) → Opened (zeroRun n l r)
 zero-boxes n l range r = record {
   range = range;
   own = λ b lb. record {
@@ -80,22 +94,22 @@ zero-boxes n l range r = record {
     delta-len = length-replicate {A = ℕ} 16 0;
     seed-len = length-replicate {A = ℕ} 32 0;
     pairs-len = length-replicate {A = ℕ} (32 * n) 0;
-    bits-len = length-replicate {A = ℕ} (bitsCount l * recordLen n) 0;
-    alpha-len = length-replicate {A = ℕ} (l * recordLen n) 0;
-    beta-len = length-replicate {A = ℕ} (l * recordLen n) 0;
+    bits-len = blanks-long n b (bitsCount l);
+    alpha-len = blanks-long n b l;
+    beta-len = blanks-long n b l;
     masks-len = length-replicate {A = ℕ} (n * leaky l) 0;
     delta-bytes = bytes-replicate 16 0 (omega arith);
-    bits-bytes = bytes-replicate (bitsCount l * recordLen n) 0 (omega arith);
-    alpha-bytes = bytes-replicate (l * recordLen n) 0 (omega arith);
-    beta-bytes = bytes-replicate (l * recordLen n) 0 (omega arith);
-    bits-valid = λ t lt. zero-valid b (bitsCount l * recordLen n) (t * recordLen n);
-    alpha-valid = λ t lt. zero-valid b (l * recordLen n) (t * recordLen n);
-    beta-valid = λ t lt. zero-valid b (l * recordLen n) (t * recordLen n);
+    bits-bytes = blanks-bytes n b (range .eight) lb (bitsCount l);
+    alpha-bytes = blanks-bytes n b (range .eight) lb l;
+    beta-bytes = blanks-bytes n b (range .eight) lb l;
+    bits-valid = blanks-valid n b (range .eight) lb (bitsCount l);
+    alpha-valid = blanks-valid n b (range .eight) lb l;
+    beta-valid = blanks-valid n b (range .eight) lb l;
     mask-bits = λ k t lk ne lt. rw (zero-at (n * leaky l) (k * leaky l + t)) (omega arith);
   };
-  bits-mac = λ t lt. zero-good n _ (bitsCount l * recordLen n) (t * recordLen n);
-  alpha-mac = λ t lt. zero-good n _ (l * recordLen n) (t * recordLen n);
-  beta-mac = λ t lt. zero-good n _ (l * recordLen n) (t * recordLen n);
+  bits-mac = λ t lt. blanks-good n (bitsCount l) t _ lt;
+  alpha-mac = λ t lt. blanks-good n l t _ lt;
+  beta-mac = λ t lt. blanks-good n l t _ lt;
 }
 
 -- ---- lent buffers, strings and a permutation

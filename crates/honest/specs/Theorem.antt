@@ -1,7 +1,7 @@
 -- DEMAND 3. The premises on the inputs are in Premises.antt, the lists of calls in engine/World.antt; the claim stands here. It is proved
 -- of every list; and there are lists that meet its premises and end with all boxes done, also where one box is lent a seed and the others
 -- all strings.
-use mathlib.Core.Path.{_≡_, refl, sym, ap, _∙_, subst}
+use mathlib.Core.Path.{_≡_, refl, sym, ap, ap₂, _∙_, subst}
 use mathlib.Core.Bool.{Bool, true, false, _&&_}
 use mathlib.Core.Logic.{_≢_, _↔_}
 use mathlib.Core.List.{List, [], _∷_}
@@ -17,8 +17,9 @@ use Rattle.algebra.specs.Group.{bits, sel}
 use Rattle.algebra.specs.Sum.{sum, sum-ext}
 use Rattle.algebra.specs.Share.{total}
 use Rattle.block.specs.Group.{blocks}
-use Rattle.share.specs.Record.{recordLen, bitAt, macAt, keyAt}
-use Rattle.share.specs.Parties.{sharedAt}
+use Rattle.share.specs.Record.{bitAt}
+use Rattle.share.specs.Lent.{lentLen, lentAt}
+use Rattle.share.specs.Parties.{lentShared}
 use Rattle.permutation.specs.Permutation.{isPerm}
 use Rattle.plan.specs.Plan.{InRange, leaky, rLen}
 use Rattle.engine.specs.Step.{Loan, Lent, Protocol}
@@ -36,11 +37,11 @@ use Rattle.rounds.specs.Fabitn as Fabitn
 use Rattle.rounds.specs.FabitnLaws.{seed-long}
 use Rattle.honest.specs.Subject.{opener, subject}
 use Rattle.honest.specs.Script as S
-use Rattle.honest.specs.Inputs.{Run, box, Boxes, Inputs, deltas, alphasOf, betasOf}
+use Rattle.honest.specs.Inputs.{Run, box, deltas, lentAlphas, lentBetas, Opened, Boxes, Inputs}
 use Rattle.honest.specs.Course.{lawful}
-use Rattle.honest.specs.Opening.{Given, Agree, played, order-for, inputs-for, honest-opening}
+use Rattle.honest.specs.Opening.{Given, Agree, played, order-for, total-keeps, inputs-for, honest-opening}
 use Rattle.honest.specs.Supply.{zeroRun, Forms, supply, supply-r, oneSeed, one-seed}
-use Rattle.honest.specs.Premises.{Premises, boxes-of, zero-premises}
+use Rattle.honest.specs.Premises.{Premises, opened-of, zero-premises}
 use Rattle.honest.specs.Values.{LeakyTriples}
 use Rattle.honest.specs.Toss.{recv-1, list-1, send-3, recv-3, send-4, recv-4, send-5, recv-5}
 use Rattle.honest.specs.Fabitn.{send-6, recv-6, list-6}
@@ -62,7 +63,7 @@ module _ (R : Run) (P : Premises R) where
   open Run R using (n, l, inputs)
 
   abbrev pub scene : Scene Args
-  scene = sceneOf subject n l opener (Agree R) (Given R) (lawful n l (boxes-of R P .range))
+  scene = sceneOf subject n l opener (Agree R) (Given R) (lawful n l (opened-of R P .range))
 
   -- "every list of openings and round calls in which a box takes a round only once its messages are there, whatever the order among boxes
   -- and whichever calls stand between that 01 refuses without ending a session"
@@ -85,17 +86,17 @@ module _ (R : Run) (P : Premises R) where
     -- "a box is done exactly when 22 of its rounds (14 for two boxes) were accepted"
     pub done : (b : ℕ) (x : Box) → Stands cs b x → Done session (x .session) ↔ x .rounds ≡ all-rounds
     -- "Its result shares are the l records its accepted round 22 call wrote"
-    pub records : (b : ℕ) (x : Box) → Stands cs b x → Done session (x .session) → length (x .wrote) ≡ l * recordLen n
+    pub records : (b : ℕ) (x : Box) → Stands cs b x → Done session (x .session) → length (x .wrote) ≡ l * lentLen n
     -- "that MAC rule holds between the result shares of any two done boxes": at position t j's MAC for k equals k's key for j, plus the
     -- delta k was opened with where j's bit is 1
     pub macs : (j k : ℕ) (x y : Box) → Stands cs j x → Stands cs k y → j ≢ k
         → Done session (x .session) → Done session (y .session) → (t : ℕ) → t < l
-        → macAt (x .wrote) (t * recordLen n) k
-        ≡ blocks .op (keyAt (y .wrote) (t * recordLen n) j) (sel blocks (bitAt (x .wrote) (t * recordLen n)) (deltas R k))
+        → lentAt (x .wrote) (t * lentLen n) .mac k
+        ≡ blocks .op (lentAt (y .wrote) (t * lentLen n) .key j) (sel blocks (bitAt (x .wrote) (t * lentLen n)) (deltas R k))
     -- "and once all are done, the bits of each result XOR to (XOR of alphas) AND (XOR of betas)"
     pub ands : (x : ℕ → Box) → ((b : ℕ) → b < n → Stands cs b (x b) × Done session (x b .session)) → (t : ℕ) → t < l
-        → sum bits n (λ b. bitAt (x b .wrote) (t * recordLen n))
-        ≡ (sum bits n (λ b. bitAt (inputs b .alpha) (t * recordLen n)) && sum bits n (λ b. bitAt (inputs b .beta) (t * recordLen n)))
+        → sum bits n (λ b. bitAt (x b .wrote) (t * lentLen n))
+        ≡ (sum bits n (λ b. bitAt (inputs b .alpha) (t * lentLen n)) && sum bits n (λ b. bitAt (inputs b .beta) (t * lentLen n)))
 
 -- a call of box b for round 5, which writes `fabitn`, is lent x as r
 abbrev pub LentR : ℕ → List ℕ → Call Args → Type 0
@@ -190,21 +191,24 @@ and-is false b = refl
 module _ (R : Run) (P : Premises R) where
   open Run R using (n, l, inputs, permutation)
 
-  -- with some other permutation, where that is none
+  abbrev O : Opened R
+  O = opened-of R P
+
+  -- with the inputs as they are kept, and some other permutation where that is none
   abbrev R′ : Run
   R′ = played R
 
   abbrev I′ : Inputs R′
-  I′ = inputs-for R (boxes-of R P)
+  I′ = inputs-for R O
 
   abbrev W : Lawful subject n l
-  W = lawful n l (boxes-of R P .range)
+  W = lawful n l (O .range)
 
   abbrev H : Honest subject (S.script R′) n l
   H = honest R′ I′
 
   abbrev opens : HonestOpening subject (S.script R′) n l opener (Agree R) (Given R) W
-  opens = honest-opening R (boxes-of R P) W
+  opens = honest-opening R O W
 
   abbrev duty : Duty (scene R P)
   duty = dutyOf subject (S.script R′) n l opener (Agree R) (Given R) W H opens
@@ -221,16 +225,21 @@ module _ (R : Run) (P : Premises R) where
   wrote-is = every-written subject (S.script R′) n l opener (Agree R) (Given R) W H opens
 
   mac-rule : (j k : ℕ) → j < n → k < n → j ≢ k → (t : ℕ) → t < l
-      → macAt (result j) (t * recordLen n) k
-      ≡ blocks .op (keyAt (result k) (t * recordLen n) j) (sel blocks (bitAt (result j) (t * recordLen n)) (deltas R k))
-  unfolding sharedAt
+      → lentAt (result j) (t * lentLen n) .mac k
+      ≡ blocks .op (lentAt (result k) (t * lentLen n) .key j) (sel blocks (bitAt (result j) (t * lentLen n)) (deltas R k))
+  unfolding lentShared lentAt
   mac-rule j k lj lk ne t lt = good-result R′ I′ t lt triples j k lj lk ne
 
   and-rule : (t : ℕ) → t < l
-      → sum bits n (λ b. bitAt (result b) (t * recordLen n))
-      ≡ (sum bits n (λ b. bitAt (inputs b .alpha) (t * recordLen n)) && sum bits n (λ b. bitAt (inputs b .beta) (t * recordLen n)))
-  unfolding sharedAt
-  and-rule t lt = total-result R′ I′ t lt triples ∙ and-is (total n (alphasOf R t)) (total n (betasOf R t))
+      → sum bits n (λ b. bitAt (result b) (t * lentLen n))
+      ≡ (sum bits n (λ b. bitAt (inputs b .alpha) (t * lentLen n)) && sum bits n (λ b. bitAt (inputs b .beta) (t * lentLen n)))
+  unfolding lentShared
+  and-rule t lt =
+      total-result R′ I′ t lt triples
+      ∙ ap₂ (sel bits)
+      (total-keeps R O (λ l. l) (λ b. inputs b .alpha) (λ b lb. O .own b lb .alpha-bytes) t lt)
+      (total-keeps R O (λ l. l) (λ b. inputs b .beta) (λ b lb. O .own b lb .beta-bytes) t lt)
+      ∙ and-is (total n (lentAlphas R t)) (total n (lentBetas R t))
 
   -- ---- DEMAND 3
   pub every-list : (cs : List (Call Args)) → Fine R P cs → Claim R P cs
@@ -250,7 +259,7 @@ module _ (R : Run) (P : Premises R) where
         rw (p .1, q .1) (mac-rule j k (p .0) (q .0) ne t lt);
     ands = λ x all t lt.
         sum-ext bits n _ _ (λ b lb.
-        ap (λ (s : List ℕ). bitAt s (t * recordLen n)) (wrote-is cs fair b (x b) (all b lb .0) (all b lb .1) .1))
+        ap (λ (s : List ℕ). bitAt s (t * lentLen n)) (wrote-is cs fair b (x b) (all b lb .0) (all b lb .1) .1))
         ∙ and-rule t lt;
   }
 

@@ -8,7 +8,7 @@ use lib.Dec.{leb, eqb}
 use Rattle.lists.specs.Pick.{pick}
 use Rattle.lists.specs.All.{allOf}
 use Rattle.algebra.specs.Sum.{neq}
-use Rattle.share.specs.Record.{recordsFault}
+use Rattle.share.specs.Lent.{lentLen, keptOf, recordsFault}
 use Rattle.plan.specs.Plan.{leaky, bitsCount, inRange, bitsLen, sharesLen, pairsLen, masksLen, outLen, msgLen}
 use Rattle.engine.specs.declared.Frame.{Frame}
 use Rattle.engine.specs.Step.{frame}
@@ -65,7 +65,7 @@ row? f masks k = pick (neq (f .i) k) (allOf (leaky (f .l)) (λ t. leb (getD mask
 unfoldable pub masks? : Frame → List ℕ → Bool
 masks? f masks = allOf (f .n) (row? f masks)
 
--- 1 or 4
+-- 1, 22 or 4
 unfoldable pub bytesOf : Frame → List ℕ → List ℕ → List ℕ → List ℕ → ℕ
 bytesOf f bits alpha beta masks =
     orFault (recordsFault (f .n) (f .i) bits (bitsCount (f .l)))
@@ -86,7 +86,9 @@ unfoldable pub withSeeds : Frame → List ℕ → List ℕ → List ℕ → List
 withSeeds f delta seed pairs masks w = keep f MASKS masks (keep f PAIRS pairs (keep f SEED seed (keep f DELTA delta w)))
 
 unfoldable pub withLists : Frame → List ℕ → List ℕ → List ℕ → List ℕ → List ℕ
-withLists f bits alpha beta w = keep f BETA beta (keep f ALPHA alpha (keep f BITS bits w))
+withLists f bits alpha beta w =
+    keep f BETA (keptOf (f .n) (f .i) (f .l) beta) (keep f ALPHA (keptOf (f .n) (f .i) (f .l) alpha)
+    (keep f BITS (keptOf (f .n) (f .i) (bitsCount (f .l)) bits) w))
 
 -- delta, the seeds and the masks are as long as their sections
 pub record Seeds (f : Frame) (d s p m : ℕ) : Type 0 where
@@ -95,11 +97,11 @@ pub record Seeds (f : Frame) (d s p m : ℕ) : Type 0 where
   pub pairs : p ≡ sizeOf f PAIRS
   pub masks : m ≡ sizeOf f MASKS
 
--- the share lists are
+-- the share lists are, as they are lent
 pub record Lists (f : Frame) (b x y : ℕ) : Type 0 where
-  pub bits : b ≡ sizeOf f BITS
-  pub alpha : x ≡ sizeOf f ALPHA
-  pub beta : y ≡ sizeOf f BETA
+  pub bits : b ≡ bitsCount (f .l) * lentLen (f .n)
+  pub alpha : x ≡ f .l * lentLen (f .n)
+  pub beta : y ≡ f .l * lentLen (f .n)
 
 -- all is
 pub record Due (f : Frame) (v : Lens) : Type 0 where

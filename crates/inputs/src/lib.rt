@@ -1,6 +1,6 @@
-// What opening refuses (document 01, "Opening: 15, 16, 3 for l = 0, 6, 17, then lent bytes in order (1 before 4)"): the lengths and the
-// bytes of its inputs. The definition stands in crates/rounds (Opening). Secret bytes decide nothing but a refusal: bit bytes, own entries
-// and mask bytes (1, 4).
+// What opening refuses (document 01, "Opening: 15, 16, 3 for l = 0, 6, 17, then lent bytes in order (1 before 4)"; document 02, order 5: 22
+// between the two): the lengths and the bytes of its inputs. The definition stands in crates/rounds (Opening). Secret bytes decide nothing
+// but a refusal: bit bytes, own entries and mask bytes (1, 4).
 ghost use mathlib.Core.Path.{_≡_};
 ghost use Prim.Native.Nat.{_+_, _*_, _≤_, _<_};
 ghost use lib.ListN.{length, getD};
@@ -143,5 +143,3 @@ pub fn reason(f: Frame, v: Lens, bits: &[u8], alpha: &[u8], beta: &[u8], masks: 
     }
     bytes_fault(f, bits, alpha, beta, masks)
 }
-
-// ---- what is kept

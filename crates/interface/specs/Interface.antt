@@ -5,7 +5,7 @@ use Prim.Native.Nat.{ℕ, _+_, _*_}
 use lib.ListN.{length, getD}
 use lib.Dec.{ltb, leb, eqb}
 use Rattle.lists.specs.Pick.{pick}
-use Rattle.share.specs.Record.{recordLen}
+use Rattle.share.specs.Lent.{lentLen}
 use Rattle.plan.specs.Plan.{parties?, inRange, within, isRound, writes, bucketSize, msgLen}
 use Rattle.plan.specs.Names.{roundName}
 use Rattle.engine.specs.declared.Session.{Session}
@@ -95,7 +95,7 @@ nameByte k j = pick (ltb j 16) (getD (roundName k) j 0) 0
 
 -- a share record
 unfoldable pub recordBytes : ℕ → ℕ
-recordBytes n = pick (parties? n) (recordLen n) 0
+recordBytes n = pick (parties? n) (lentLen n) 0
 
 -- "b = `bucket_size`(l)"
 unfoldable pub bucketOf : ℕ → ℕ

@@ -85,7 +85,7 @@ pub fn record_len(n: u32) -> usize
     ensures { λ r. ⌜ r ≡ recordBytes n ⌝ }
 {
     if plan::parties(n as usize) {
-        share::record_len(n as usize)
+        share::lent_len(n as usize)
     } else {
         0
     }

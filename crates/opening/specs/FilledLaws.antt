@@ -12,14 +12,17 @@ use borrow.Rule.Slice.PartMut.{putMid}
 use Rattle.lists.specs.Over.{cat, Written, written-zero, written-turn}
 use Rattle.lists.specs.Rows.{cat-part}
 use Rattle.lists.specs.Sect.{get, put, length-get}
+use Rattle.share.specs.LentLaws.{length-kept}
+use Rattle.plan.specs.Plan.{bitsCount}
 use Rattle.engine.specs.declared.Frame.{Frame}
 use Rattle.engine.specs.Step.{Accepted, outcome}
 use Rattle.engine.specs.Area.{off, sec, putSec, toOthers}
 use Rattle.rounds.specs.Area.{SEED, BITS, SECTIONS, sizes, sizeOf, workLen, at, keep}
 use Rattle.rounds.specs.Toss as Toss
-use Rattle.rounds.specs.Opening.{Args, section, area, spec}
+use Rattle.rounds.specs.Opening.{Args, kept, section, area, spec}
 use Rattle.area.specs.Given.{Work}
 use Rattle.area.specs.GivenLaws.{section-inside}
+use Rattle.area.specs.Sizes.{size-bits, size-alpha, size-beta}
 use Rattle.inputs.specs.Given.{EMPTY, cleared, withSeeds, withLists, Due, lens, found}
 use Rattle.inputs.specs.OpeningLaws.{accepts}
 
@@ -91,12 +94,12 @@ module _ (a : Args) (D : Due (a .party) (lens a)) where
   given = record { ranges = D .ranges; whole = D .work }
 
   abbrev Got : ℕ → List ℕ → Type 0
-  Got s x = Written (section a) s (off (sizeOf f) s) (a .work) x
+  Got s x = Written (section (kept a)) s (off (sizeOf f) s) (a .work) x
 
-  got-more : (s : ℕ) (x y : List ℕ) → s < SECTIONS → Got s x → section a s ≡ y → length y ≡ sizeOf f s → Got (suc s) (keep f s y x)
+  got-more : (s : ℕ) (x y : List ℕ) → s < SECTIONS → Got s x → section (kept a) s ≡ y → length y ≡ sizeOf f s → Got (suc s) (keep f s y x)
   unfolding keep
   got-more s x y h p e long =
-      rw e at (filled-turn (sizeOf f) (section a) s (a .work) x p (ap length e ∙ long) (section-inside given s h))
+      rw e at (filled-turn (sizeOf f) (section (kept a)) s (a .work) x p (ap length e ∙ long) (section-inside given s h))
 
   abbrev seeded : List ℕ
   seeded = withSeeds f (a .delta) (a .seed) (a .pairs) (a .masks) (a .work)
@@ -107,42 +110,43 @@ module _ (a : Args) (D : Due (a .party) (lens a)) where
       got-more 3 _ (a .masks) (omega arith)
       (got-more 2 _ (a .pairs) (omega arith)
       (got-more 1 _ (a .seed) (omega arith)
-      (got-more 0 _ (a .delta) (omega arith) (filled-zero (sizeOf f) (section a) (a .work)) refl (D .seeds .delta))
+      (got-more 0 _ (a .delta) (omega arith) (filled-zero (sizeOf f) (section (kept a)) (a .work)) refl (D .seeds .delta))
       refl (D .seeds .seed))
       refl (D .seeds .pairs))
       refl (D .seeds .masks)
 
-  -- the inputs
+  -- the inputs, as they are kept
   abbrev pub inputs : List ℕ
   inputs = withLists f (a .bits) (a .alpha) (a .beta) seeded
 
   got-lists : Got EMPTY inputs
   unfolding withLists section
   got-lists =
-      got-more 6 _ (a .beta) (omega arith)
-      (got-more 5 _ (a .alpha) (omega arith)
-      (got-more 4 _ (a .bits) (omega arith) got-seeds refl (D .lists .bits))
-      refl (D .lists .alpha))
-      refl (D .lists .beta)
+      got-more 6 _ (kept a .beta) (omega arith)
+      (got-more 5 _ (kept a .alpha) (omega arith)
+      (got-more 4 _ (kept a .bits) (omega arith) got-seeds refl
+      (length-kept (f .n) (f .i) (a .bits) (bitsCount (f .l)) ∙ sym (size-bits f)))
+      refl (length-kept (f .n) (f .i) (a .alpha) (f .l) ∙ sym (size-alpha f)))
+      refl (length-kept (f .n) (f .i) (a .beta) (f .l) ∙ sym (size-beta f))
 
   filled : cleared f inputs ≡ area a
   unfolding cleared area workLen
   filled =
       ap (λ (x : List ℕ). x ++ replicate (off (sizeOf f) SECTIONS - off (sizeOf f) EMPTY) 0)
       (ap (take (off (sizeOf f) EMPTY)) (got-lists .here)
-      ∙ take-at (cat EMPTY (section a)) (drop (off (sizeOf f) EMPTY) (a .work)) (off (sizeOf f) EMPTY) (got-lists .at))
-      ∙ sym (zeros-behind (sizeOf f) (section a) EMPTY (section-zero a) SECTIONS (omega arith))
+      ∙ take-at (cat EMPTY (section (kept a))) (drop (off (sizeOf f) EMPTY) (a .work)) (off (sizeOf f) EMPTY) (got-lists .at))
+      ∙ sym (zeros-behind (sizeOf f) (section (kept a)) EMPTY (section-zero (kept a)) SECTIONS (omega arith))
 
   -- the seed stands behind delta
-  before-seed : length (cat SEED (section a)) ≡ off (sizeOf f) SEED
+  before-seed : length (cat SEED (section (kept a))) ≡ off (sizeOf f) SEED
   unfolding cat section off sizeOf sizes
   before-seed = D .seeds .delta
 
   seed-kept : at f SEED (area a) ≡ a .seed
   unfolding at sec area section
   seed-kept =
-      ap₂ (λ o m. take m (drop o (cat SECTIONS (section a)))) (sym before-seed) (sym (D .seeds .seed))
-      ∙ cat-part SECTIONS (section a) SEED (omega arith)
+      ap₂ (λ o m. take m (drop o (cat SECTIONS (section (kept a))))) (sym before-seed) (sym (D .seeds .seed))
+      ∙ cat-part SECTIONS (section (kept a)) SEED (omega arith)
 
   pub left : (code : ℕ) (w o : List ℕ) → code ≡ found a → code ≡ 0 → w ≡ cleared f inputs
       → o ≡ toOthers (f .n) (f .i) (λ r. Toss.commMsg (at f SEED w) (f .i))

@@ -1,8 +1,10 @@
 // Opening a session (document 01, "The call"): what is refused (crate inputs), what is kept of the inputs, and the first messages. The
 // definition stands in crates/rounds (Opening).
 ghost use mathlib.Core.Path.{_≡_};
-ghost use Prim.Native.Nat.{_<_};
+ghost use Prim.Native.Nat.{_*_, _<_, _≤_};
 ghost use lib.ListN.{length};
+ghost use Rattle.share.specs.Record.{recordLen};
+ghost use Rattle.share.specs.Lent.{lentLen, keptOf};
 ghost use Rattle.engine.specs.Step.{replyOf, outcome};
 ghost use Rattle.rounds.specs.Area.{MASKS, SECTIONS, sizeOf, keep};
 ghost use Rattle.rounds.specs.Opening as Opening;
@@ -17,6 +19,23 @@ use inputs::Lens;
 // The first section that holds no input.
 const EMPTY: usize = area::COMMS;
 
+// What is kept of the `count` records x of party i among n.
+fn keep_all(out: &mut [u8], x: &[u8], n: usize, i: usize, count: usize)
+    requires { ⌜ (n ≤ 8) × (length (now out) ≡ count * recordLen n) ⌝ }
+    requires { ⌜ length (now x) ≡ count * lentLen n ⌝ }
+    ensures { λ _. ⌜ now (out .exit) ≡ keptOf n i count (now (x .entry)) ⌝ }
+{
+    let kept = share::record_len(n);
+    let lent = share::lent_len(n);
+    let mut t = 0;
+    while t < count {
+        let a = t * kept;
+        let e = a + kept;
+        share::keep_record(&mut out[a..e], x, t * lent, n, i);
+        t += 1;
+    }
+}
+
 // x as section s of the work area.
 fn put_section(work: &mut [u8], x: &[u8], f: Frame, s: usize)
     requires { ⌜ (Work f (now work)) × (s < SECTIONS) × (length (now x) ≡ sizeOf f s) ⌝ }
@@ -26,6 +45,18 @@ fn put_section(work: &mut [u8], x: &[u8], f: Frame, s: usize)
     let a = p.0;
     let e = p.1;
     fill::copy(&mut work[a..e], x);
+}
+
+// As section s of the work area what is kept of the `count` records x.
+fn put_records(work: &mut [u8], x: &[u8], f: Frame, s: usize, count: usize)
+    requires { ⌜ (Work f (now work)) × (s < SECTIONS) × (sizeOf f s ≡ count * recordLen (f .n)) ⌝ }
+    requires { ⌜ length (now x) ≡ count * lentLen (f .n) ⌝ }
+    ensures { λ _. ⌜ now (work .exit) ≡ keep f s (keptOf (f .n) (f .i) count (now (x .entry))) (now (work .entry)) ⌝ }
+{
+    let p = area::place(f, s);
+    let a = p.0;
+    let e = p.1;
+    keep_all(&mut work[a..e], x, f.n, f.i, count);
 }
 
 // Zeros from the first section on that is no input.
@@ -54,9 +85,10 @@ fn put_lists(work: &mut [u8], bits: &[u8], alpha: &[u8], beta: &[u8], f: Frame)
     requires { ⌜ (Work f (now work)) × Lists f (length (now bits)) (length (now alpha)) (length (now beta)) ⌝ }
     ensures { λ _. ⌜ now (work .exit) ≡ withLists f (now (bits .entry)) (now (alpha .entry)) (now (beta .entry)) (now (work .entry)) ⌝ }
 {
-    put_section(work, bits, f, area::BITS);
-    put_section(work, alpha, f, area::ALPHA);
-    put_section(work, beta, f, area::BETA);
+    let l = f.l;
+    put_records(work, bits, f, area::BITS, plan::bits_count(l));
+    put_records(work, alpha, f, area::ALPHA, l);
+    put_records(work, beta, f, area::BETA, l);
 }
 
 // The inputs, and zeros behind them.

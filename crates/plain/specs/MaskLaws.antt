@@ -20,7 +20,7 @@ use Rattle.block.specs.Group.{blocks}
 use Rattle.blake3.specs.Tree.{hash}
 use Rattle.message.specs.declared.Kind.the-variants.{Dms}
 use Rattle.message.specs.Format.{itemAt}
-use Rattle.share.specs.Share.{recordOf}
+use Rattle.share.specs.Lent.{lentOf}
 use Rattle.plan.specs.Plan.{leaky, dmLen}
 use Rattle.engine.specs.declared.Frame.{Frame}
 use Rattle.engine.specs.Step.{mask, orElse}
@@ -181,7 +181,7 @@ module _ (f : Frame) (m : ℕ → List ℕ) where
   unfolding Beaver.results Beaver.resultShare Beaver.dOpened Beaver.eOpened Beaver.dTold Beaver.eTold
   results recs perm triples alpha beta =
       cat-ext (f .l) _ _ (λ j lj.
-      ap₂ (λ (p q : Bool). recordOf (f .n) (f .i) (Beaver.finish (Beaver.c f triples j) (Beaver.share f beta j) (Beaver.a f triples j)
+      ap₂ (λ (p q : Bool). lentOf (f .n) (f .i) (Beaver.finish (Beaver.c f triples j) (Beaver.share f beta j) (Beaver.a f triples j)
       (addb (Beaver.d f triples alpha j .bit) p) (addb (Beaver.e f recs perm beta j .bit) q)))
       (others-ext bits (f .i) (f .n) _ _ (λ k l ne. of (λ x. odd (getD x (8 + j * 34) 0)) k l ne))
       (others-ext bits (f .i) (f .n) _ _ (λ k l ne. of (λ x. odd (getD x (8 + j * 34 + 1) 0)) k l ne)))

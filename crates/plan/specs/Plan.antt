@@ -7,7 +7,7 @@ use lib.Dec.{leb, eqb}
 use Rattle.lists.specs.Pick.{pick}
 use Rattle.message.specs.declared.Kind.{Kind}
 use Rattle.message.specs.declared.Kind.the-variants.{Items, Dms, Dvalues, Options}
-use Rattle.share.specs.Record.{recordLen}
+use Rattle.share.specs.Lent.{lentLen}
 use Rattle.engine.specs.Order.{Order, echoIn, roundIn, nextIn}
 
 -- ---- the order of the rounds
@@ -168,10 +168,10 @@ within n l x = pick (inRange n l) x 0
 
 -- the list of bits; alpha, beta and the results; the masks; the pairwise seeds
 unfoldable pub bitsLen : ℕ → ℕ → ℕ
-bitsLen n l = within n l (bitsCount l * recordLen n)
+bitsLen n l = within n l (bitsCount l * lentLen n)
 
 unfoldable pub sharesLen : ℕ → ℕ → ℕ
-sharesLen n l = within n l (l * recordLen n)
+sharesLen n l = within n l (l * lentLen n)
 
 unfoldable pub masksLen : ℕ → ℕ → ℕ
 masksLen n l = within n l (n * leaky l)

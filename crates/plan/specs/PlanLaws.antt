@@ -13,7 +13,7 @@ use Rattle.lists.specs.Pick.{pick}
 use Rattle.lists.specs.All.{allOf, of-all, true-false, and-first, and-second}
 use Rattle.message.specs.declared.Kind.{Kind}
 use Rattle.message.specs.declared.Kind.the-variants.{Items, Dms, Dvalues, Options}
-use Rattle.share.specs.Record.{recordLen}
+use Rattle.share.specs.Lent.{lentLen}
 use Rattle.engine.specs.Area.{mem}
 use Rattle.engine.specs.Order.{echoIn, roundIn, nextIn}
 use Rattle.plan.specs.Plan.{theRounds, echo?, isRound, nextRound, order, writes, bucketSize, leaky, bitsCount, rBlocks, rLen}
@@ -208,11 +208,11 @@ in-range n l r = rw (le-leb 2 n (r .two), le-leb n 8 (r .eight), le-leb 1 l (r .
 
 -- the lengths, where opening takes n and l
 module _ (n l : ℕ) (r : InRange n l) where
-  pub bits-len : bitsLen n l ≡ bitsCount l * recordLen n
+  pub bits-len : bitsLen n l ≡ bitsCount l * lentLen n
   unfolding bitsLen
   bits-len = rw (in-range n l r) refl
 
-  pub shares-len : sharesLen n l ≡ l * recordLen n
+  pub shares-len : sharesLen n l ≡ l * lentLen n
   unfolding sharesLen
   shares-len = rw (in-range n l r) refl
 
@@ -224,7 +224,7 @@ module _ (n l : ℕ) (r : InRange n l) where
   unfolding pairsLen parties?
   pairs-len = rw (le-leb 2 n (r .two), le-leb n 8 (r .eight)) refl
 
-  pub out-len-last : outLen n l 22 ≡ l * recordLen n
+  pub out-len-last : outLen n l 22 ≡ l * lentLen n
   unfolding outLen
   out-len-last = shares-len
 

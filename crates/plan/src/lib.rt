@@ -219,7 +219,7 @@ pub fn bits_len(n: usize, l: usize) -> usize
     ensures { λ r. ⌜ r ≡ bitsLen n l ⌝ }
 {
     if in_range(n, l) {
-        bits_count(l) * share::record_len(n)
+        bits_count(l) * share::lent_len(n)
     } else {
         0
     }
@@ -230,7 +230,7 @@ pub fn shares_len(n: usize, l: usize) -> usize
     ensures { λ r. ⌜ r ≡ sharesLen n l ⌝ }
 {
     if in_range(n, l) {
-        l * share::record_len(n)
+        l * share::lent_len(n)
     } else {
         0
     }

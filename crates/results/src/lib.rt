@@ -2,11 +2,13 @@
 // crates/rounds (Beaver). Shares decide no branch and no index.
 ghost use mathlib.Core.Path.{_≡_};
 ghost use Prim.Native.Nat.{_+_, _-_, _*_, _<_, _≤_};
-ghost use lib.ListN.{length, getD};
+ghost use lib.ListN.{length, getD, drop};
+ghost use Rattle.lists.specs.Over.{cat};
 ghost use Rattle.algebra.specs.Group.{bits, sel, odd};
 ghost use Rattle.algebra.specs.Sum.{neq, others};
-ghost use Rattle.share.specs.Record.{recordLen};
-ghost use Rattle.share.specs.Share.{shareAt, recordOf};
+ghost use Rattle.share.specs.Record.{recordLen, macOff};
+ghost use Rattle.share.specs.Share.{shareAt, entryOf};
+ghost use Rattle.share.specs.Lent.{lentLen, lentOf};
 ghost use Rattle.message.specs.declared.Kind.the-variants.{Items};
 ghost use Rattle.rounds.specs.Area as Area;
 ghost use Rattle.rounds.specs.Mail.{letter, Arrived};
@@ -23,6 +25,9 @@ use faand::ITEM;
 use faand::Places;
 use faand::Records;
 use rounds::Mail;
+use share::ENTRY;
+use share::Entry;
+use share::LABEL;
 
 // The bit at `at` of k's message; 0 for the own number.
 fn bit_told(incoming: &[u8], mail: Mail, f: Frame, at: usize, k: usize) -> bool
@@ -54,18 +59,51 @@ fn told_sum(incoming: &[u8], mail: Mail, f: Frame, at: usize) -> bool
     sum
 }
 
-// c + d·beta + e·a of the records at r.
+// c + d·beta + e·a of party k's entries in the records at r.
+fn finished(work: &[u8], r: Records, k: usize, d: bool, e: bool) -> Entry
+    requires { ⌜ (k < 8) × (r .a + recordLen (k + 1) ≤ length (now work)) ⌝ }
+    requires { ⌜ (r .c + recordLen (k + 1) ≤ length (now work)) × (r .beta + recordLen (k + 1) ≤ length (now work)) ⌝ }
+    ensures { λ x. ⌜ (x .mac .0 ≡ R.finish (shareAt (now (work .entry)) (r .c)) (shareAt (now (work .entry)) (r .beta))
+        (shareAt (now (work .entry)) (r .a)) d e .mac k)
+        × (x .key .0 ≡ R.finish (shareAt (now (work .entry)) (r .c)) (shareAt (now (work .entry)) (r .beta))
+        (shareAt (now (work .entry)) (r .a)) d e .key k) ⌝ }
+{
+    let c = share::entry_at(work, r.c, k);
+    let beta = share::entry_at(work, r.beta, k);
+    let a = share::entry_at(work, r.a, k);
+    c.xor(beta.times(d)).xor(a.times(e))
+}
+
+// Writes all of them, as the entries of party i's record among n, which has no head yet.
+fn put_entries(out: &mut [u8], work: &[u8], r: Records, n: usize, i: usize, d: bool, e: bool)
+    requires { ⌜ (n ≤ 8) × (length (now out) ≡ recordLen n) × (r .a + recordLen n ≤ length (now work)) ⌝ }
+    requires { ⌜ (r .c + recordLen n ≤ length (now work)) × (r .beta + recordLen n ≤ length (now work)) ⌝ }
+    ensures { λ _. ⌜ drop (macOff 0) (now (out .exit)) ≡ cat n (entryOf i (R.finish (shareAt (now (work .entry)) (r .c))
+        (shareAt (now (work .entry)) (r .beta)) (shareAt (now (work .entry)) (r .a)) d e)) ⌝ }
+{
+    let mut k = 0;
+    while k < n {
+        let from = share::mac_off(k);
+        let to = from + ENTRY;
+        share::put_entry_of(&mut out[from..to], i, k, finished(work, r, k, d, e));
+        k += 1;
+    }
+}
+
+// c + d·beta + e·a of the records at r, with a label: each byte of it is written once.
 fn finish(out: &mut [u8], work: &[u8], r: Records, f: Frame, d: bool, e: bool)
-    requires { ⌜ (f .n ≤ 8) × (length (now out) ≡ recordLen (f .n)) × (r .a + recordLen (f .n) ≤ length (now work)) ⌝ }
+    requires { ⌜ (f .n ≤ 8) × (length (now out) ≡ lentLen (f .n)) × (r .a + recordLen (f .n) ≤ length (now work)) × (f .i < f .n) ⌝ }
     requires { ⌜ (r .c + recordLen (f .n) ≤ length (now work)) × (r .beta + recordLen (f .n) ≤ length (now work)) ⌝ }
-    ensures { λ _. ⌜ now (out .exit) ≡ recordOf (f .n) (f .i) (R.finish (shareAt (now (work .entry)) (r .c))
+    ensures { λ _. ⌜ now (out .exit) ≡ lentOf (f .n) (f .i) (R.finish (shareAt (now (work .entry)) (r .c))
         (shareAt (now (work .entry)) (r .beta)) (shareAt (now (work .entry)) (r .a)) d e) ⌝ }
 {
     let n = f.n;
     let i = f.i;
-    share::copy_record(out, work, r.c, n, i);
-    share::add_record(out, work, r.beta, n, i, d);
-    share::add_record(out, work, r.a, n, i, e);
+    put_entries(&mut out[LABEL..], work, r, n, i, d, e);
+    let bit = share::bit_at(work, r.c)
+        ^ (share::bit_at(work, r.beta) & d)
+        ^ (share::bit_at(work, r.a) & e);
+    share::put_lent_head(out, n, i, bit);
 }
 
 // The result of bucket j, where `d_told` and `e_told` are the sums of the others' bits.
@@ -79,7 +117,7 @@ fn put_result(
     e_told: bool,
 )
     requires { ⌜ (Work f (now work)) × (j < f .l) × (Placed f at) ⌝ }
-    requires { ⌜ length (now out) ≡ recordLen (f .n) ⌝ }
+    requires { ⌜ length (now out) ≡ lentLen (f .n) ⌝ }
     ensures { λ _. ⌜ now (out .exit) ≡ resultOf f (now (work .entry)) j «d_told» «e_told» ⌝ }
 {
     let r = faand::bucket(work, at, f, j);
@@ -88,10 +126,10 @@ fn put_result(
     finish(out, work, r, f, d, e);
 }
 
-// The result of every bucket, a record each.
+// The result of every bucket, a record with a label each.
 pub fn results(out: &mut [u8], work: &[u8], incoming: &[u8], mail: Mail, f: Frame)
     requires { ⌜ Work f (now work) ⌝ }
-    requires { ⌜ length (now out) ≡ f .l * recordLen (f .n) ⌝ }
+    requires { ⌜ length (now out) ≡ f .l * lentLen (f .n) ⌝ }
     requires { ⌜ Received (Items 34 2) (f .l) f (now incoming) mail ⌝ }
     ensures { λ _. ⌜ now (out .exit) ≡ R.results f
         (Area.at f Area.BITS (now (work .entry))) (Area.at f Area.PERM (now (work .entry)))
@@ -100,7 +138,7 @@ pub fn results(out: &mut [u8], work: &[u8], incoming: &[u8], mail: Mail, f: Fram
 {
     let l = f.l;
     let at = faand::sections(f);
-    let len = share::record_len(f.n);
+    let len = share::lent_len(f.n);
     let mut j = 0;
     while j < l {
         let i = COUNT + j * ITEM;

@@ -14,7 +14,8 @@ use Rattle.block.specs.declared.Block.{Block}
 use Rattle.block.specs.Block.{blockAt, eqBlock}
 use Rattle.block.specs.Group.{blocks}
 use Rattle.share.specs.Record.{recordLen}
-use Rattle.share.specs.Share.{Share, shareAt, shares, recordOf}
+use Rattle.share.specs.Share.{Share, shareAt, shares}
+use Rattle.share.specs.Lent.{lentOf}
 use Rattle.encode.specs.Encode.{encode, twoBitsTwoBlocks}
 use Rattle.engine.specs.declared.Frame.{Frame}
 use Rattle.engine.specs.Step.{Fault, byParty}
@@ -76,6 +77,6 @@ unfoldable pub resultShare : Frame → List ℕ → List ℕ → List ℕ → Li
 resultShare f recs perm triples alpha beta m j =
     finish (c f triples j) (share f beta j) (a f triples j) (dOpened f triples alpha m j) (eOpened f recs perm beta m j)
 
--- the l result records
+-- the l result records, as they are given back
 unfoldable pub results : Frame → List ℕ → List ℕ → List ℕ → List ℕ → List ℕ → (ℕ → List ℕ) → List ℕ
-results f recs perm triples alpha beta m = cat (f .l) (λ j. recordOf (f .n) (f .i) (resultShare f recs perm triples alpha beta m j))
+results f recs perm triples alpha beta m = cat (f .l) (λ j. lentOf (f .n) (f .i) (resultShare f recs perm triples alpha beta m j))

@@ -8,8 +8,7 @@ use lib.Dec.{ltb, leb, eqb}
 use Rattle.lists.specs.Pick.{pick}
 use Rattle.lists.specs.All.{allOf}
 use Rattle.algebra.specs.Group.{odd}
-use Rattle.share.specs.Record.{recordLen, recordsFault}
-use Rattle.share.specs.Share.{shareAt, recordOf}
+use Rattle.share.specs.Lent.{lentLen, lentAt, lentOf, recordsFault}
 use Rattle.engine.specs.Step.{Reply, Accepted, Refused}
 use Rattle.rounds.specs.Buckets.{Triple}
 use Rattle.rounds.specs.Buckets as Buckets
@@ -36,7 +35,7 @@ abbrev pub outcome : Reply → List ℕ → Outcome
 outcome reply out = record { reply = reply; out = out }
 
 -- ---- what it refuses
--- "then lent bytes": the records in order (1 before 4), then the d bytes
+-- "then lent bytes": the records in order (1, 22, 4), then the d bytes
 unfoldable pub bytesFault : Args → ℕ
 bytesFault a =
     orFault (recordsFault (a .n) (a .i) (a .triples) (3 * a .count))
@@ -49,8 +48,8 @@ reason a =
     pick (leb 2 (a .n) && leb (a .n) 8 && ltb (a .i) (a .n))
     (pick (eqb (a .count) 0) 5
     (pick (leb (a .count) 5)
-    (pick (eqb (length (a .triples)) (3 * a .count * recordLen (a .n)) && eqb (length (a .d)) (a .count - 1))
-    (pick (eqb (length (a .out)) (3 * recordLen (a .n))) (bytesFault a)
+    (pick (eqb (length (a .triples)) (3 * a .count * lentLen (a .n)) && eqb (length (a .d)) (a .count - 1))
+    (pick (eqb (length (a .out)) (3 * lentLen (a .n))) (bytesFault a)
     17)
     6)
     16))
@@ -60,9 +59,9 @@ reason a =
 -- triple t of x1 y1 z1 x2 y2 z2 ..
 unfoldable pub triple : ℕ → List ℕ → ℕ → Triple
 triple n s t = record {
-  tx = shareAt s (3 * t * recordLen n);
-  ty = shareAt s ((3 * t + 1) * recordLen n);
-  tz = shareAt s ((3 * t + 2) * recordLen n);
+  tx = lentAt s (3 * t * lentLen n);
+  ty = lentAt s ((3 * t + 1) * lentLen n);
+  tz = lentAt s ((3 * t + 2) * lentLen n);
 }
 
 -- the triples one by one from the left; the first d is the second triple's
@@ -71,7 +70,7 @@ combined a = Buckets.combine (triple (a .n) (a .triples)) (λ e. odd (getD (a .d
 
 -- party i's records of x, y and z
 unfoldable pub records : ℕ → ℕ → Triple → List ℕ
-records n i g = recordOf n i (g .tx) ++ (recordOf n i (g .ty) ++ recordOf n i (g .tz))
+records n i g = lentOf n i (g .tx) ++ (lentOf n i (g .ty) ++ lentOf n i (g .tz))
 
 unfoldable pub spec : Args → Outcome
 spec a =

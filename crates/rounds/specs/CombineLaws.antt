@@ -10,7 +10,7 @@ use lib.Dec.{ltb, leb, eqb}
 use borrow.Author.Tests.{lt-ltb, le-leb, eq-eqb, ne-eqb, eqb-true, eqb-false, leb-true, ltb-true}
 use Rattle.lists.specs.Pick.{pick, pick-then, pick-else}
 use Rattle.lists.specs.All.{allOf, and-first, and-second}
-use Rattle.share.specs.Record.{recordLen, recordsFault}
+use Rattle.share.specs.Lent.{lentLen, recordsFault}
 use Rattle.engine.specs.Step.{Accepted, Refused}
 use Rattle.rounds.specs.Opening.{orFault}
 use Rattle.rounds.specs.Combine.{Args, Outcome, outcome, reason, bytesFault, records, combined, spec}
@@ -25,29 +25,29 @@ pub record Ranged (a : Args) : Type 0 where
 
 module _ (a : Args) (r : Ranged a) where
   ranged : reason a ≡
-      pick (eqb (length (a .triples)) (3 * a .count * recordLen (a .n)) && eqb (length (a .d)) (a .count - 1))
-      (pick (eqb (length (a .out)) (3 * recordLen (a .n))) (bytesFault a) 17) 6
+      pick (eqb (length (a .triples)) (3 * a .count * lentLen (a .n)) && eqb (length (a .d)) (a .count - 1))
+      (pick (eqb (length (a .out)) (3 * lentLen (a .n))) (bytesFault a) 17) 6
   unfolding reason
   ranged = rw (le-leb 2 (a .n) (r .two), le-leb (a .n) 8 (r .eight), lt-ltb (a .i) (a .n) (r .party), ne-eqb (a .count) 0 (r .some), le-leb (a .count) 5 (r .five))
 
-  pub reason-records : length (a .triples) ≢ 3 * a .count * recordLen (a .n) → reason a ≡ 6
-  reason-records h = ranged ∙ rw (ne-eqb (length (a .triples)) (3 * a .count * recordLen (a .n)) h) refl
+  pub reason-records : length (a .triples) ≢ 3 * a .count * lentLen (a .n) → reason a ≡ 6
+  reason-records h = ranged ∙ rw (ne-eqb (length (a .triples)) (3 * a .count * lentLen (a .n)) h) refl
 
-  module _ (long : length (a .triples) ≡ 3 * a .count * recordLen (a .n)) where
+  module _ (long : length (a .triples) ≡ 3 * a .count * lentLen (a .n)) where
     pub reason-d : length (a .d) ≢ a .count - 1 → reason a ≡ 6
     reason-d h =
-        ranged ∙ rw (eq-eqb (length (a .triples)) (3 * a .count * recordLen (a .n)) long, ne-eqb (length (a .d)) (a .count - 1) h) refl
+        ranged ∙ rw (eq-eqb (length (a .triples)) (3 * a .count * lentLen (a .n)) long, ne-eqb (length (a .d)) (a .count - 1) h) refl
 
     module _ (d : length (a .d) ≡ a .count - 1) where
-      listed : reason a ≡ pick (eqb (length (a .out)) (3 * recordLen (a .n))) (bytesFault a) 17
+      listed : reason a ≡ pick (eqb (length (a .out)) (3 * lentLen (a .n))) (bytesFault a) 17
       listed =
-          ranged ∙ rw (eq-eqb (length (a .triples)) (3 * a .count * recordLen (a .n)) long, eq-eqb (length (a .d)) (a .count - 1) d) refl
+          ranged ∙ rw (eq-eqb (length (a .triples)) (3 * a .count * lentLen (a .n)) long, eq-eqb (length (a .d)) (a .count - 1) d) refl
 
-      pub reason-out : length (a .out) ≢ 3 * recordLen (a .n) → reason a ≡ 17
-      reason-out h = listed ∙ rw (ne-eqb (length (a .out)) (3 * recordLen (a .n)) h) refl
+      pub reason-out : length (a .out) ≢ 3 * lentLen (a .n) → reason a ≡ 17
+      reason-out h = listed ∙ rw (ne-eqb (length (a .out)) (3 * lentLen (a .n)) h) refl
 
-      pub reason-bytes : length (a .out) ≡ 3 * recordLen (a .n) → reason a ≡ bytesFault a
-      reason-bytes h = listed ∙ rw (eq-eqb (length (a .out)) (3 * recordLen (a .n)) h) refl
+      pub reason-bytes : length (a .out) ≡ 3 * lentLen (a .n) → reason a ≡ bytesFault a
+      reason-bytes h = listed ∙ rw (eq-eqb (length (a .out)) (3 * lentLen (a .n)) h) refl
 
 module _ (a : Args) where
   pub bytes-records : (f : ℕ) → f ≡ recordsFault (a .n) (a .i) (a .triples) (3 * a .count) → f ≢ 0 → f ≡ bytesFault a
@@ -70,9 +70,9 @@ module _ (a : Args) where
 -- what a call that isn't refused was given
 pub record Due (a : Args) : Type 0 where
   pub ranged : Ranged a
-  pub triples : length (a .triples) ≡ 3 * a .count * recordLen (a .n)
+  pub triples : length (a .triples) ≡ 3 * a .count * lentLen (a .n)
   pub d : length (a .d) ≡ a .count - 1
-  pub out : length (a .out) ≡ 3 * recordLen (a .n)
+  pub out : length (a .out) ≡ 3 * lentLen (a .n)
   pub bytes : bytesFault a ≡ 0
 
 not-zero : (n : ℕ) → _≡_ {A = ℕ} (suc n) 0 → ⊥
@@ -84,8 +84,8 @@ due-of a h =
     let e1 = pick-then (leb 2 (a .n) && leb (a .n) 8 && ltb (a .i) (a .n)) _ _ _ (not-zero 14) h in
     let e2 = pick-else (eqb (a .count) 0) _ _ _ (not-zero 4) (e1 .1) in
     let e3 = pick-then (leb (a .count) 5) _ _ _ (not-zero 15) (e2 .1) in
-    let e4 = pick-then (eqb (length (a .triples)) (3 * a .count * recordLen (a .n)) && eqb (length (a .d)) (a .count - 1)) _ _ _ (not-zero 5) (e3 .1) in
-    let e5 = pick-then (eqb (length (a .out)) (3 * recordLen (a .n))) _ _ _ (not-zero 16) (e4 .1) in
+    let e4 = pick-then (eqb (length (a .triples)) (3 * a .count * lentLen (a .n)) && eqb (length (a .d)) (a .count - 1)) _ _ _ (not-zero 5) (e3 .1) in
+    let e5 = pick-then (eqb (length (a .out)) (3 * lentLen (a .n))) _ _ _ (not-zero 16) (e4 .1) in
     record {
       ranged = record {
         two = leb-true 2 (a .n) (and-first (leb 2 (a .n)) (leb (a .n) 8) (and-first (leb 2 (a .n) && leb (a .n) 8) (ltb (a .i) (a .n)) (e1 .0)));
@@ -94,8 +94,8 @@ due-of a h =
         some = eqb-false (a .count) 0 (e2 .0);
         five = leb-true (a .count) 5 (e3 .0);
       };
-      triples = eqb-true _ _ (and-first (eqb (length (a .triples)) (3 * a .count * recordLen (a .n))) (eqb (length (a .d)) (a .count - 1)) (e4 .0));
-      d = eqb-true _ _ (and-second (eqb (length (a .triples)) (3 * a .count * recordLen (a .n))) (eqb (length (a .d)) (a .count - 1)) (e4 .0));
+      triples = eqb-true _ _ (and-first (eqb (length (a .triples)) (3 * a .count * lentLen (a .n))) (eqb (length (a .d)) (a .count - 1)) (e4 .0));
+      d = eqb-true _ _ (and-second (eqb (length (a .triples)) (3 * a .count * lentLen (a .n))) (eqb (length (a .d)) (a .count - 1)) (e4 .0));
       out = eqb-true _ _ (e5 .0);
       bytes = e5 .1;
     }

@@ -8,7 +8,7 @@ use Rattle.lists.specs.Pick.{pick}
 use Rattle.lists.specs.All.{allOf}
 use Rattle.lists.specs.Over.{cat}
 use Rattle.algebra.specs.Sum.{neq}
-use Rattle.share.specs.Record.{recordLen, recordsFault}
+use Rattle.share.specs.Lent.{lentLen, keptOf, recordsFault}
 use Rattle.plan.specs.Plan.{leaky, bitsCount, msgLen}
 use Rattle.engine.specs.declared.Frame.{Frame}
 use Rattle.engine.specs.Step.{Accepted, Refused, Outcome, outcome}
@@ -34,7 +34,7 @@ pub record Args : Type 0 where
 -- the share lists are as long as they should, by their lengths
 unfoldable pub listsDue : Frame → ℕ → ℕ → ℕ → Bool
 listsDue f bits alpha beta =
-    eqb bits (bitsCount (f .l) * recordLen (f .n)) && eqb alpha (f .l * recordLen (f .n)) && eqb beta (f .l * recordLen (f .n))
+    eqb bits (bitsCount (f .l) * lentLen (f .n)) && eqb alpha (f .l * lentLen (f .n)) && eqb beta (f .l * lentLen (f .n))
 
 -- and all else that is lent
 unfoldable pub buffersDue : Args → Bool
@@ -53,7 +53,7 @@ masksFault a =
 unfoldable pub orFault : ℕ → ℕ → ℕ
 orFault a b = pick (eqb a 0) b a
 
--- "then lent bytes in order (1 before 4)": bits, alpha, beta, masks
+-- "then lent bytes in order (1 before 4)", with 22 "per record after 1 and before 4" (document 02, order 5): bits, alpha, beta, masks
 unfoldable pub bytesFault : Args → ℕ
 bytesFault a =
     orFault (recordsFault (a .party .n) (a .party .i) (a .bits) (bitsCount (a .party .l)))
@@ -80,6 +80,21 @@ unfoldable pub reason : Args → ℕ
 reason a = orFault (lengthsFault (a .party) (length (a .bits)) (length (a .alpha)) (length (a .beta)) (buffersDue a)) (bytesFault a)
 
 -- ---- what it leaves
+-- the inputs as they are kept: records without their labels
+abbrev pub kept : Args → Args
+kept a = record {
+  party = a .party;
+  delta = a .delta;
+  seed = a .seed;
+  pairs = a .pairs;
+  bits = keptOf (a .party .n) (a .party .i) (bitsCount (a .party .l)) (a .bits);
+  alpha = keptOf (a .party .n) (a .party .i) (a .party .l) (a .alpha);
+  beta = keptOf (a .party .n) (a .party .i) (a .party .l) (a .beta);
+  masks = a .masks;
+  work = a .work;
+  out = a .out;
+}
+
 -- "It keeps the inputs in the work area"; all else is zero
 unfoldable pub section : Args → ℕ → List ℕ
 section a s =
@@ -88,7 +103,7 @@ section a s =
     (replicate (sizeOf (a .party) s) 0)))))))
 
 unfoldable pub area : Args → List ℕ
-area a = cat SECTIONS (section a)
+area a = cat SECTIONS (section (kept a))
 
 -- round 1 is due; the commitment of the seed is written to all
 unfoldable pub spec : Args → Outcome

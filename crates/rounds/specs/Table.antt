@@ -8,7 +8,7 @@ use Rattle.lists.specs.Pick.{pick}
 use Rattle.lists.specs.Rows.{chunk}
 use Rattle.block.specs.declared.Block.{Block}
 use Rattle.block.specs.Block.{blockAt}
-use Rattle.share.specs.Record.{recordLen}
+use Rattle.share.specs.Lent.{lentLen}
 use Rattle.permutation.specs.Permutation.{isPerm}
 use Rattle.message.specs.Format.{formOf}
 use Rattle.plan.specs.Plan.{RNG-COMM, RNG-VER, PAIR-COMM, PAIR-VER, FABITN, FASHARE-COMM, FASHARE-VER, FASHARE-DIBI, HAAND, FLAAND}
@@ -148,6 +148,6 @@ table = record {
   recv = recv;
   send = send;
   echo = echo;
-  resultLen = λ f. f .l * recordLen (f .n);
+  resultLen = λ f. f .l * lentLen (f .n);
   result = λ f w m. Beaver.results f (at f BITS w) (at f PERM w) (at f TRIPLES w) (at f ALPHA w) (at f BETA w) m;
 }

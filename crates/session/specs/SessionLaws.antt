@@ -11,7 +11,7 @@ use lib.Dec.{eqb}
 use borrow.Author.Tests.{lt-leb, eq-eqb, ne-eqb}
 use Rattle.lists.specs.Pick.{pick}
 use Rattle.lists.specs.All.{allOf, of-all, true-false}
-use Rattle.share.specs.Record.{recordLen}
+use Rattle.share.specs.Lent.{lentLen}
 use Rattle.message.specs.declared.Kind.the-variants.{Options, Items}
 use Rattle.plan.specs.Plan.{echo?, nextRound, kindOf, countDue, msgLen}
 use Rattle.plan.specs.PlanLaws.{no-echo}
@@ -78,7 +78,7 @@ module _ (n k : ℕ) (h : k < 22) where
 
 -- ---- lengths and what is lent
 module _ (f : Frame) (k : ℕ) where
-  pub out-last : k ≡ 22 → outLenOf table k f ≡ f .l * recordLen (f .n)
+  pub out-last : k ≡ 22 → outLenOf table k f ≡ f .l * lentLen (f .n)
   unfolding outLenOf
   out-last e = rw (eq-eqb k 22 e) refl
 

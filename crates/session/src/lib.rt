@@ -8,7 +8,7 @@ ghost use Prim.Native.Nat.{ℕ, _*_, _≤_};
 ghost use lib.ListN.{length, replicate};
 ghost use lib.Dec.{eqb};
 ghost use Rattle.lists.specs.Pick.{pick};
-ghost use Rattle.share.specs.Record.{recordLen};
+ghost use Rattle.share.specs.Lent.{lentLen};
 ghost use Rattle.plan.specs.Plan.{echo?};
 ghost use Rattle.engine.specs.Step.{mask, replyOf, outcome, faultOf, roundSpec};
 ghost use Rattle.engine.specs.Plain.{protocolOf, ruleOf, toEcho, outLenOf, lentOf, digests, hashes, checkOf, forEcho, keepOf, writeOf};
@@ -90,7 +90,7 @@ fn keep_received(work: &mut [u8], incoming: &[u8], mail: Mail, f: Frame, k: usiz
 // The last call: the results are written, and the work area is zeroed.
 fn finish(w: &mut [u8], out: &mut [u8], incoming: &[u8], mail: Mail, f: Frame)
     requires { ⌜ Let f 22 (now w) (now incoming) mail ⌝ }
-    requires { ⌜ length (now out) ≡ f .l * recordLen (f .n) ⌝ }
+    requires { ⌜ length (now out) ≡ f .l * lentLen (f .n) ⌝ }
     ensures { λ _. ⌜ (now (w .exit) ≡ replicate (length (now (w .entry))) 0)
         × (now (out .exit) ≡ table .result f (now (w .entry)) (mask f (letter (now (incoming .entry)) mail))) ⌝ }
 {

@@ -1,5 +1,8 @@
 // The boxes of a session: opening, which is called round 0 here, and the round calls, with what came for each.
 ghost use Prim.Native.Nat.{_≤_};
+use crate::table::ALPHA;
+use crate::table::BETA;
+use crate::table::BITS;
 use crate::table::CLEAN;
 use crate::table::DUE;
 use crate::table::NUMBER;
@@ -64,7 +67,7 @@ fn note(t: &mut Table, a: Answer, i: usize, k: usize) {
 // ---- opening
 
 fn opened(t: &Table, n: usize, i: usize, l: usize, work: &mut [u8], out: &mut [u8]) -> Answer {
-    let x = crate::table::part(t, crate::table::room(i), 19008);
+    let x = crate::table::part(t, crate::table::room(i), OUT);
     let shares = plan::shares_len(n, l);
     opening::open(
         n,
@@ -73,9 +76,9 @@ fn opened(t: &Table, n: usize, i: usize, l: usize, work: &mut [u8], out: &mut [u
         crate::table::part(x, 0, 16),
         crate::table::part(x, 16, 32),
         crate::table::part(x, 48, plan::pairs_len(n)),
-        crate::table::part(x, 576, plan::bits_len(n, l)),
-        crate::table::part(x, 176, shares),
-        crate::table::part(x, 376, shares),
+        crate::table::part(x, BITS, plan::bits_len(n, l)),
+        crate::table::part(x, ALPHA, shares),
+        crate::table::part(x, BETA, shares),
         crate::table::part(x, 144, plan::masks_len(n, l)),
         work,
         out,
@@ -103,7 +106,7 @@ pub(crate) fn sent_len(n: usize, l: usize, k: usize) -> usize
 
 // Where the message for box i starts in the table, of box j's, which have len bytes.
 fn letter(i: usize, j: usize, len: usize) -> usize
-    ensures { λ r. ⌜ r ≤ 103218 ⌝ }
+    ensures { λ r. ⌜ r ≤ 121218 ⌝ }
 {
     let sent = crate::table::room(j) + SENT;
     if (i == 0) | ((i == 1) & (j == 0)) {

@@ -1,10 +1,18 @@
-// Honest inputs: those of `oracle gen N L SEED` (oracle/src/session.rs), by the generator SplitMix64. A box's room starts with 19,008 bytes
-// of them: its delta at 0, its seed at 16, pair seeds at 48, masks at 144, alpha at 176, beta at 376, bits at 576.
-ghost use mathlib.Core.Path.{_≡_};
-ghost use Prim.Native.Nat.{_+_, _*_, _<_, _≤_};
+// Honest inputs: those of `oracle gen N L SEED` (oracle/src/session.rs), by the generator SplitMix64. A box's room starts with them: its
+// delta at 0, its seed at 16, pair seeds at 48, masks at 144, then its lists of records.
+ghost use Prim.Native.Nat.{_+_, _<_, _≤_};
+ghost use lib.ListN.{length};
+ghost use Rattle.share.specs.Lent.{LENT-MOST};
+use crate::table::ALPHA;
+use crate::table::BETA;
+use crate::table::BITS;
+use crate::table::BITS_LEN;
 use crate::table::ORDER;
+use crate::table::SHARES_LEN;
 use crate::table::STRINGS;
 use crate::table::Table;
+use share::LABEL;
+use share::LENT_HEAD;
 use std::num::wrapping_add_u64;
 
 // ---- the generator
@@ -49,7 +57,7 @@ fn start(n: usize, l: usize, seed: u64) -> u64
 
 // Fills from the state x on, eight bytes to a word, and gives the state after it.
 fn fill(t: &mut Table, from: usize, len: usize, x: u64) -> u64
-    requires { ⌜ from + len ≤ 107068 ⌝ }
+    requires { ⌜ from + len ≤ 125068 ⌝ }
 {
     let mut y = x;
     let mut w = 0;
@@ -79,7 +87,7 @@ fn deltas(t: &mut Table, n: usize, x: u64) -> u64 {
 }
 
 fn to_bits(t: &mut Table, from: usize, len: usize)
-    requires { ⌜ from + len ≤ 107068 ⌝ }
+    requires { ⌜ from + len ≤ 125068 ⌝ }
 {
     let mut q = 0;
     while q < len {
@@ -90,7 +98,7 @@ fn to_bits(t: &mut Table, from: usize, len: usize)
 
 // The seeds and masks of the box whose room starts at `at`.
 fn seeds(t: &mut Table, at: usize, pairs: usize, masks: usize, x: u64) -> u64
-    requires { ⌜ (at ≤ 68812) × (pairs ≤ 96) × (masks ≤ 32) ⌝ }
+    requires { ⌜ (at ≤ 80812) × (pairs ≤ 96) × (masks ≤ 32) ⌝ }
 {
     let a = fill(t, at + 16, 32, x);
     let b = fill(t, at + 48, pairs, a);
@@ -115,7 +123,7 @@ fn seeds_of_all(t: &mut Table, n: usize, l: usize, x: u64) -> u64 {
 
 // 16 bytes: the sum of those at a and b.
 fn put_sum(t: &mut Table, to: usize, a: usize, b: usize)
-    requires { ⌜ (to + 16 ≤ 107068) × (a + 16 ≤ 107068) × (b + 16 ≤ 107068) ⌝ }
+    requires { ⌜ (to + 16 ≤ 125068) × (a + 16 ≤ 125068) × (b + 16 ≤ 125068) ⌝ }
 {
     let mut q = 0;
     while q < 16 {
@@ -124,32 +132,39 @@ fn put_sum(t: &mut Table, to: usize, a: usize, b: usize)
     }
 }
 
-// The bytes of a record among n boxes: the bit, and an entry for each.
+// The bytes of a record among n boxes; where the MAC for k starts in it, and the key of k. No record is longer than LENT-MOST.
 pub(crate) fn record_len(n: usize) -> usize
     requires { ⌜ n ≤ 3 ⌝ }
-    ensures { λ r. ⌜ r ≡ 32 * n + 1 ⌝ }
+    ensures { λ r. ⌜ (1 ≤ r) × (r ≤ LENT-MOST) ⌝ }
 {
-    32 * n + 1
+    share::lent_len(n)
 }
 
-// Where the MAC for k starts in a record, and the key of k.
 pub(crate) fn mac_off(k: usize) -> usize
     requires { ⌜ k < 3 ⌝ }
-    ensures { λ r. ⌜ r ≡ 32 * k + 1 ⌝ }
+    ensures { λ r. ⌜ r + 16 ≤ LENT-MOST ⌝ }
 {
-    record_len(k)
+    share::mac_off(k) + LABEL
 }
 
 pub(crate) fn key_off(k: usize) -> usize
     requires { ⌜ k < 3 ⌝ }
-    ensures { λ r. ⌜ r ≡ 32 * k + 17 ⌝ }
+    ensures { λ r. ⌜ r + 16 ≤ LENT-MOST ⌝ }
 {
-    mac_off(k) + 16
+    share::key_off(k) + LABEL
+}
+
+// The head of box j's record, which starts at `at`.
+fn put_head(s: &mut [u8], at: usize, n: usize, j: usize, bit: bool)
+    requires { ⌜ (at + LENT-MOST ≤ length (now s)) × (n ≤ 3) × (j < n) ⌝ }
+{
+    let e = at + LENT_HEAD;
+    share::put_lent_head(&mut s[at..e], n, j, bit);
 }
 
 // The key that box k holds of box j's bit, and j's MAC for k, another box; their records start at `at`.
-fn pair(t: &mut Table, at: usize, bit: u8, j: usize, k: usize, x: u64) -> u64
-    requires { ⌜ (j < 3) × (k < 3) × (at ≤ 19008) ⌝ }
+fn pair(t: &mut Table, at: usize, bit: bool, j: usize, k: usize, x: u64) -> u64
+    requires { ⌜ (j < 3) × (k < 3) × (at ≤ 25008) ⌝ }
 {
     if j == k {
         return x;
@@ -158,7 +173,7 @@ fn pair(t: &mut Table, at: usize, bit: u8, j: usize, k: usize, x: u64) -> u64
     let key = delta + at + key_off(j);
     let mac = crate::table::room(j) + at + mac_off(k);
     let y = fill(t, key, 16, x);
-    if bit == 1 {
+    if bit {
         put_sum(t, mac, key, delta);
     } else {
         crate::table::copy(t, mac, key, 16);
@@ -166,11 +181,11 @@ fn pair(t: &mut Table, at: usize, bit: u8, j: usize, k: usize, x: u64) -> u64
     y
 }
 
-// Box j's bit, with its MACs and the others' keys.
-fn pairs(t: &mut Table, at: usize, bit: u8, j: usize, n: usize, x: u64) -> u64
-    requires { ⌜ (at ≤ 19008) × (j < n) × (n ≤ 3) ⌝ }
+// The head of box j's record, its MACs and the others' keys of its bit.
+fn pairs(t: &mut Table, at: usize, bit: bool, j: usize, n: usize, x: u64) -> u64
+    requires { ⌜ (at ≤ 25008) × (j < n) × (n ≤ 3) ⌝ }
 {
-    crate::table::put(t, crate::table::room(j) + at, bit);
+    put_head(t, crate::table::room(j) + at, n, j, bit);
     let mut y = x;
     let mut k = 0;
     while k < n {
@@ -182,13 +197,13 @@ fn pairs(t: &mut Table, at: usize, bit: u8, j: usize, n: usize, x: u64) -> u64
 
 // The records at one position, of all boxes.
 fn position(t: &mut Table, at: usize, n: usize, x: u64) -> u64
-    requires { ⌜ (at ≤ 19008) × (n ≤ 3) ⌝ }
+    requires { ⌜ (at ≤ 25008) × (n ≤ 3) ⌝ }
 {
     let mut y = next(x);
     let mut bits = word(y);
     let mut j = 0;
     while j < n {
-        y = pairs(t, at, low_byte(bits) % 2, j, n, y);
+        y = pairs(t, at, low_byte(bits) % 2 == 1, j, n, y);
         bits = bits / 2;
         j += 1;
     }
@@ -197,7 +212,7 @@ fn position(t: &mut Table, at: usize, n: usize, x: u64) -> u64
 
 // The records from `from` up to `end`.
 fn shares(t: &mut Table, from: usize, end: usize, n: usize, x: u64) -> u64
-    requires { ⌜ (from ≤ 19008) × (end ≤ 19008) × (n ≤ 3) ⌝ }
+    requires { ⌜ (from ≤ 25008) × (end ≤ 25008) × (n ≤ 3) ⌝ }
 {
     let size = record_len(n);
     let mut y = x;
@@ -212,11 +227,11 @@ fn shares(t: &mut Table, from: usize, end: usize, n: usize, x: u64) -> u64
 fn lists(t: &mut Table, n: usize, l: usize, x: u64) -> u64
     requires { ⌜ n ≤ 3 ⌝ }
 {
-    let len = crate::table::least(plan::shares_len(n, l), 200);
-    let bits = crate::table::least(plan::bits_len(n, l), 18432);
-    let y = shares(t, 576, 576 + bits, n, x);
-    let z = shares(t, 176, 176 + len, n, y);
-    shares(t, 376, 376 + len, n, z)
+    let len = crate::table::least(plan::shares_len(n, l), SHARES_LEN);
+    let bits = crate::table::least(plan::bits_len(n, l), BITS_LEN);
+    let y = shares(t, BITS, BITS + bits, n, x);
+    let z = shares(t, ALPHA, ALPHA + len, n, y);
+    shares(t, BETA, BETA + len, n, z)
 }
 
 // ---- the permutation

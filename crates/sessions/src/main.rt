@@ -5,6 +5,8 @@
 ghost use Prim.Native.Nat.{_*_, _≤_};
 use boxes::Play;
 use boxes::Works;
+use table::SHARES_LEN;
+use table::TABLE_LEN;
 use table::Table;
 
 mod boxes;
@@ -46,7 +48,7 @@ fn finish(t: &mut Table, works: &mut Works, p: Play, sum: usize)
 {
     let n = p.n;
     let l = p.l;
-    report::results(t, n, table::least(plan::shares_len(n, l), 200));
+    report::results(t, n, table::least(plan::shares_len(n, l), SHARES_LEN));
     report::left(t, n, sum);
     report::ends(t, n);
     report::say(b"a call for round 22 behind it\n", [0, 0, 0, 0]);
@@ -58,7 +60,7 @@ fn finish(t: &mut Table, works: &mut Works, p: Play, sum: usize)
 fn run(p: Play)
     requires { ⌜ (p .n ≤ 3) × (p .l ≤ 2) ⌝ }
 {
-    let mut t = [0u8; 107068];
+    let mut t = [0u8; TABLE_LEN];
     let mut works = [0xa5u8; 130200];
     deal::inputs(&mut t, p.n, p.l);
     boxes::call_all(&mut t, &mut works, p, 0);

@@ -1,5 +1,7 @@
 // What is printed of a session, and the checks on its results. A box's results, as its inputs, are records.
 ghost use Prim.Native.Nat.{_+_, _*_, _<_, _≤_};
+use crate::table::ALPHA;
+use crate::table::BETA;
 use crate::table::CLEAN;
 use crate::table::NUMBER;
 use crate::table::OUT;
@@ -73,7 +75,7 @@ fn digest(s: &[u8]) {
 
 // The digests of len bytes at `place` of each room.
 fn digests(t: &Table, place: usize, n: usize, len: usize)
-    requires { ⌜ place ≤ 34405 ⌝ }
+    requires { ⌜ place ≤ 40405 ⌝ }
 {
     let mut i = 0;
     while i < n {
@@ -94,7 +96,7 @@ pub(crate) fn round(t: &Table, n: usize, len: usize, k: usize) {
 
 // Whether 16 bytes are the sum of those at `key`, and those at `delta` where the bit is 1.
 fn is_mac(t: &Table, mac: usize, key: usize, delta: usize, bit: u8) -> bool
-    requires { ⌜ (mac + 16 ≤ 107068) × (key + 16 ≤ 107068) × (delta + 16 ≤ 107068) ⌝ }
+    requires { ⌜ (mac + 16 ≤ 125068) × (key + 16 ≤ 125068) × (delta + 16 ≤ 125068) ⌝ }
 {
     let mut good = true;
     let mut q = 0;
@@ -108,7 +110,7 @@ fn is_mac(t: &Table, mac: usize, key: usize, delta: usize, bit: u8) -> bool
 
 // Whether box j's MAC for k is k's key of j, plus k's delta where j's bit is 1; their records start at `at`.
 fn mac_holds(t: &Table, at: usize, j: usize, k: usize) -> bool
-    requires { ⌜ (j < 3) × (k < 3) × (at ≤ 26704) ⌝ }
+    requires { ⌜ (j < 3) × (k < 3) × (at ≤ 32704) ⌝ }
 {
     let a = crate::table::room(j) + at;
     let b = crate::table::room(k);
@@ -119,7 +121,7 @@ fn mac_holds(t: &Table, at: usize, j: usize, k: usize) -> bool
 
 // At one position, for each box and each other.
 fn macs_hold(t: &Table, at: usize, n: usize) -> bool
-    requires { ⌜ at ≤ 26704 ⌝ }
+    requires { ⌜ at ≤ 32704 ⌝ }
 {
     let mut good = true;
     let mut q = 0;
@@ -136,7 +138,7 @@ fn macs_hold(t: &Table, at: usize, n: usize) -> bool
 
 // The XOR of the boxes' bytes at `at`.
 fn joint(t: &Table, at: usize, n: usize) -> u8
-    requires { ⌜ at ≤ 34405 ⌝ }
+    requires { ⌜ at ≤ 40405 ⌝ }
 {
     let mut sum = 0;
     let mut i = 0;
@@ -157,10 +159,10 @@ fn right(good: bool) {
 
 // One position of the results.
 fn result(t: &Table, at: usize, n: usize)
-    requires { ⌜ (n ≤ 3) × (at ≤ 200) ⌝ }
+    requires { ⌜ (n ≤ 3) × (at ≤ 256) ⌝ }
 {
-    let alpha = joint(t, 176 + at, n);
-    let beta = joint(t, 376 + at, n);
+    let alpha = joint(t, ALPHA + at, n);
+    let beta = joint(t, BETA + at, n);
     let bit = joint(t, OUT + at, n);
     text(b"the MAC rule ");
     right(macs_hold(t, OUT + at, n));
@@ -174,7 +176,7 @@ fn result(t: &Table, at: usize, n: usize)
 
 // All of them, len bytes.
 fn positions(t: &Table, n: usize, len: usize)
-    requires { ⌜ (n ≤ 3) × (len ≤ 200) ⌝ }
+    requires { ⌜ (n ≤ 3) × (len ≤ 256) ⌝ }
 {
     let size = crate::deal::record_len(n);
     let mut at = 0;
@@ -185,7 +187,7 @@ fn positions(t: &Table, n: usize, len: usize)
 }
 
 pub(crate) fn results(t: &Table, n: usize, len: usize)
-    requires { ⌜ (n ≤ 3) × (len ≤ 200) ⌝ }
+    requires { ⌜ (n ≤ 3) × (len ≤ 256) ⌝ }
 {
     text(b"results");
     digests(t, OUT, n, len);

@@ -2,40 +2,52 @@
 // then r and the permutation. A room has the box's inputs, what it wrote, what it sent last, and its log; n is at most 3 and l at most 2.
 ghost use Prim.Native.Nat.{_+_, _≤_};
 
-pub type Table = [u8; 107068];
+pub type Table = [u8; TABLE_LEN];
 
-// Where the parts of a room start.
-pub const OUT: usize = 19008;
+pub const TABLE_LEN: usize = 125068;
 
-pub const SENT: usize = 26704;
+// Where the parts of a room start: of the inputs (deal.rt) the lists of records, behind them what was written and sent.
+pub const ALPHA: usize = 176;
+
+pub const BETA: usize = 432;
+
+pub const BITS: usize = 688;
+
+pub const OUT: usize = 25008;
+
+pub const SENT: usize = 32704;
 
 // The round that is due; of a refusal its number, party and round; whether the last call left zeros in the work area, and also the outgoing
 // buffer alone.
-pub const DUE: usize = 34400;
+pub const DUE: usize = 40400;
 
-pub const NUMBER: usize = 34401;
+pub const NUMBER: usize = 40401;
 
-pub const PARTY: usize = 34402;
+pub const PARTY: usize = 40402;
 
-pub const ROUND: usize = 34403;
+pub const ROUND: usize = 40403;
 
-pub const ZERO: usize = 34404;
+pub const ZERO: usize = 40404;
 
-pub const CLEAN: usize = 34405;
+pub const CLEAN: usize = 40405;
 
 // Behind the rooms.
-pub const STRINGS: usize = 103218;
+pub const STRINGS: usize = 121218;
 
-pub const ORDER: usize = 107058;
+pub const ORDER: usize = 125058;
 
 // What there is room for.
+pub const SHARES_LEN: usize = 256;
+
+pub const BITS_LEN: usize = 24320;
+
 pub const OUT_LEN: usize = 7696;
 
 // Where the room of box i starts.
 pub(crate) fn room(i: usize) -> usize
-    ensures { λ r. ⌜ r ≤ 68812 ⌝ }
+    ensures { λ r. ⌜ r ≤ 80812 ⌝ }
 {
-    if i < 3 { 34406 * i } else { 0 }
+    if i < 3 { 40406 * i } else { 0 }
 }
 
 pub(crate) fn least(a: usize, b: usize) -> usize
@@ -45,18 +57,18 @@ pub(crate) fn least(a: usize, b: usize) -> usize
 }
 
 pub(crate) fn get(t: &Table, at: usize) -> u8 {
-    if at < 107068 { t[at] } else { 0 }
+    if at < TABLE_LEN { t[at] } else { 0 }
 }
 
 pub(crate) fn put(t: &mut Table, at: usize, b: u8) {
-    if at < 107068 {
+    if at < TABLE_LEN {
         t[at] = b;
     }
 }
 
 // A number of box i's log.
 pub(crate) fn noted(t: &Table, i: usize, place: usize) -> usize
-    requires { ⌜ place ≤ 34405 ⌝ }
+    requires { ⌜ place ≤ 40405 ⌝ }
 {
     get(t, room(i) + place) as usize
 }
@@ -74,7 +86,7 @@ pub(crate) fn part(s: &[u8], at: usize, len: usize) -> &[u8] {
 }
 
 pub(crate) fn copy(t: &mut Table, to: usize, from: usize, len: usize)
-    requires { ⌜ (to + len ≤ 107068) × (from + len ≤ 107068) ⌝ }
+    requires { ⌜ (to + len ≤ 125068) × (from + len ≤ 125068) ⌝ }
 {
     let mut q = 0;
     while q < len {
@@ -84,7 +96,7 @@ pub(crate) fn copy(t: &mut Table, to: usize, from: usize, len: usize)
 }
 
 pub(crate) fn store(t: &mut Table, to: usize, s: &[u8])
-    requires { ⌜ to ≤ 107068 ⌝ }
+    requires { ⌜ to ≤ 125068 ⌝ }
 {
     let mut q = 0;
     while q < s.len() {

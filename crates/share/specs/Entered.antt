@@ -43,13 +43,6 @@ module _ {g : ℕ → List ℕ} {n k : ℕ} {l d : List ℕ} (f : Entered g n k 
 
   -- the part from a to e is entry k
   module _ (a e : ℕ) (start : a ≡ macOff k) (end : e ≡ a + ENTRY) where
-    -- as it is lent, it is still the old one
-    pub entered-part : take (e - a) (drop a d) ≡ take ENTRY (drop (macOff k) l)
-    entered-part =
-        ap₂ (λ m o. take m (drop o d)) (let w : e - a ≡ ENTRY = omega arith in w) start
-        ∙ ap (λ (s : List ℕ). take ENTRY (drop (macOff k) s)) (f .here)
-        ∙ ap (take ENTRY) (drop-at (take (macOff 0) l ++ cat k g) (drop (macOff k) l) (macOff k) (done k))
-
     pub entered-turn : (x : List ℕ) → k < n → x ≡ g k → Entered g n (k + 1) l (putMid a (e - a) d x)
     unfolding cat
     entered-turn x h hx =
@@ -68,10 +61,10 @@ module _ {g : ℕ → List ℕ} {n k : ℕ} {l d : List ℕ} (f : Entered g n k 
         }
 
   -- after the last turn, with the head
-  pub entered-head : (b : Bool) → k ≡ n → headOf b ++ drop (macOff 0) d ≡ headOf b ++ cat n g
-  entered-head b e =
+  pub entered-head : (h : List ℕ) → k ≡ n → h ++ drop (macOff 0) d ≡ h ++ cat n g
+  entered-head h e =
       let o : List ℕ = take (macOff 0) l in
-      ap (λ (s : List ℕ). headOf b ++ s)
+      ap (λ (s : List ℕ). h ++ s)
       (ap (drop (macOff 0)) (f .here ∙ over-full (o ++ cat k g) l (macOff k) (omega (arith, f .whole, record-ends n, ap macOff e)))
       ∙ drop-at o (cat k g) (macOff 0) (length-take-le (macOff 0) l (omega (arith, f .whole, head-in n))) ∙ ap (λ m. cat m g) e)
 

@@ -1,5 +1,6 @@
 -- Where things lie in a share record (document 01, "The call"): "A share record has 1 + 32n bytes: the bit, then for each party k 16 bytes
--- MAC and 16 bytes key". A head and an entry for each party. This file alone knows how long a head is, and with it a record: what the
+-- MAC and 16 bytes key". Since document 02, order 5, that is how a box keeps it; how it is lent and given back: Lent.antt. A head and an entry
+-- for each party. This file alone knows how long a head is, and with it a record: what the
 -- others may know of it are the laws below.
 use mathlib.Core.Path.{_≡_, refl}
 use mathlib.Core.Bool.{Bool}
@@ -78,6 +79,10 @@ record-some n = omega arith
 pub bit-first : (b : Bool) (r : List ℕ) → getD (headOf b ++ r) 0 0 ≡ num b
 unfolding headOf
 bit-first b r = refl
+
+pub bit-alone : macOff 0 ≡ 1
+unfolding macOff
+bit-alone = refl
 
 pub bytes-head : (b : Bool) → num b < 256 → Bytes (headOf b)
 unfolding headOf

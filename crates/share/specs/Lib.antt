@@ -4,4 +4,6 @@ pub mod RecordLaws
 pub mod Share
 pub mod ShareLaws
 pub mod Entered
+pub mod Lent
+pub mod LentLaws
 pub mod Parties

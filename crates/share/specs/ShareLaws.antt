@@ -1,5 +1,5 @@
 -- Laws about shares and the records that hold them.
-use mathlib.Core.Path.{_≡_, refl, sym, ap, ap₂, _∙_, subst}
+use mathlib.Core.Path.{_≡_, refl, sym, ap, ap₂, _∙_}
 use mathlib.Core.Bool.{Bool, true, false}
 use mathlib.Core.Logic.{_≢_}
 use mathlib.Core.List.{List, [], _++_, append-nil}
@@ -7,7 +7,7 @@ use Prim.Native.Nat.{ℕ, zero, suc, _+_, _*_, _<_, _≤_}
 use native.Mathlib.Nat.{le-refl}
 use native.Mathlib.Omega.{arith}
 use lib.ListN.{length, take, drop, replicate, length-append}
-use lib.Seq.{take-at, drop-at, drop-drop, take-add, getD-take, getD-drop}
+use lib.Seq.{drop-at, drop-drop, getD-take, getD-drop}
 use Rattle.lists.specs.Pick.{pick}
 use Rattle.lists.specs.Over.{cat, length-cat}
 use Rattle.lists.specs.Sect.{get}
@@ -17,14 +17,14 @@ use Rattle.algebra.specs.Group.{XorGroup, bits, addb, sel, odd, num, odd-num}
 use Rattle.algebra.specs.Sum.{sum, sum-ext, neq, neq-own, neq-true, Same, same, apart, apart?}
 use Rattle.algebra.specs.Bucket.{bucketX, bucketZ}
 use Rattle.block.specs.declared.Block.{Block}
-use Rattle.block.specs.Block.{blockAt, bytesOf, le8, zeroOf}
+use Rattle.block.specs.Block.{wordAt, blockAt, bytesOf, le8, zeroOf}
 use Rattle.block.specs.Group.{blocks}
 use Rattle.block.specs.Trip.{Small, small-xor, small-nil, length-bytesOf, bytes-bytesOf, block-bytesOf, block-at, block-drop, block-take}
-use Rattle.block.specs.Trip.{block-get, bytesOf-at}
+use Rattle.block.specs.Trip.{block-get}
 use Rattle.share.specs.Layout.{ENTRY, headOf, head-end, mac-behind, key-behind, record-ends, entry-within, record-some, bit-first}
 use Rattle.share.specs.Layout.{bytes-head}
 use Rattle.share.specs.Record.{recordLen, macOff, keyOff, bitAt, macAt, keyAt}
-use Rattle.share.specs.RecordLaws.{Valid, bit-part, mac-part, key-part, small-mac, small-key}
+use Rattle.share.specs.RecordLaws.{bit-part, mac-part, key-part, small-mac, small-key}
 use Rattle.share.specs.Share.{Share, shareAt, shares, entryBytes, entryOf, recordOf}
 
 -- ---- a bit times a share, part by part
@@ -299,6 +299,14 @@ module _ (n i : ℕ) (x : Share) (s : List ℕ) (at : ℕ) (here : take (recordL
       (entry-other i k (x .mac k) (x .key k) ne ∙ ap (λ (l : List ℕ). bytesOf (x .mac k) ++ l) (sym (append-nil (bytesOf (x .key k)))))
       ∙ block-at (bytesOf (x .mac k)) (x .key k) [] 16 (length-bytesOf (x .mac k)) sm
 
+  -- the own entry is zero
+  pub own-here : i < n → (macAt s at i ≡ blocks .nil) × (keyAt s at i ≡ blocks .nil)
+  unfolding entryOf blockAt wordAt blocks zeroOf
+  own-here l = (
+    mac-entry i l ∙ ap (λ (r : List ℕ). blockAt r 0) (entry-own i i (x .mac i) (x .key i) refl),
+    key-entry i l ∙ ap (λ (r : List ℕ). blockAt r 16) (entry-own i i (x .mac i) (x .key i) refl),
+  )
+
   -- and is read as it was written
   pub read-here : SmallShare n x → Agree n i (shareAt s at) x
   unfolding shareAt
@@ -308,48 +316,8 @@ module _ (n i : ℕ) (x : Share) (s : List ℕ) (at : ℕ) (here : take (recordL
     key = λ k l ne. key-here k l ne (sm .key k l);
   }
 
--- a record behind p, with more behind it
-pub record-behind : (n i : ℕ) (x : Share) (p rest : List ℕ) (at : ℕ) → length p ≡ at
-    → take (recordLen n) (drop at (p ++ (recordOf n i x ++ rest))) ≡ recordOf n i x
-record-behind n i x p rest at h =
-    ap (take (recordLen n)) (drop-at p (recordOf n i x ++ rest) at h) ∙ take-at (recordOf n i x) rest (recordLen n) (length-recordOf n i x)
-
 -- record t of a list of records
 pub record-row : (n i count : ℕ) (f : ℕ → Share) (t : ℕ) → t < count
     → take (recordLen n) (drop (t * recordLen n) (cat count (λ j. recordOf n i (f j)))) ≡ recordOf n i (f t)
 unfolding chunk
 record-row n i count f t h = chunk-cat (recordLen n) count (λ j. recordOf n i (f j)) (λ j l. length-recordOf n i (f j)) t h
-
-read-front : (n i : ℕ) (x : Share) (rest : List ℕ) → SmallShare n x → Agree n i (shareAt (recordOf n i x ++ rest) 0) x
-read-front n i x rest = read-here n i x (recordOf n i x ++ rest) 0 (record-behind n i x [] rest 0 refl)
-
--- a record that is all there is: what is added to it is added to x
-pub record-add : (n i : ℕ) (x y : Share) → SmallShare n x
-    → recordOf n i (shares .op (shareAt (recordOf n i x) 0) y) ≡ recordOf n i (shares .op x y)
-record-add n i x y sm =
-    agree-record n i (shares .op (shareAt (recordOf n i x) 0) y) (shares .op x y)
-    (agree-op n i (shareAt (recordOf n i x) 0) y x y
-    (subst (λ (l : List ℕ). Agree n i (shareAt l 0) x) (append-nil (recordOf n i x)) (read-front n i x [] sm)) (agree-refl n i y))
-
--- ---- read, then written: a record that passes the check is copied byte for byte
-module _ (n i : ℕ) (s : List ℕ) (at : ℕ) (h : Bytes s) (v : Valid i s at) (fits : at + recordLen n ≤ length s) where
-  pair-at : (k : ℕ) → k < n → bytesOf (macAt s at k) ++ bytesOf (keyAt s at k) ≡ take ENTRY (drop (at + macOff k) s)
-  unfolding macAt keyAt
-  pair-at k l =
-      ap₂ _++_ (bytesOf-at s h (at + macOff k) (omega (arith, entry-within n k l)))
-      (bytesOf-at s h (at + keyOff k) (omega (arith, key-behind k, entry-within n k l))
-      ∙ ap (take 16)
-      (ap (λ a. drop a s) (let e : at + keyOff k ≡ (at + macOff k) + 16 = omega (arith, key-behind k) in e) ∙ sym (drop-drop 16 (at + macOff k) s)))
-      ∙ sym (take-add 16 16 (drop (at + macOff k) s))
-
-  entry-at : (k : ℕ) → k < n → entryOf i (shareAt s at) k ≡ take ENTRY (drop (at + macOff k) s)
-  unfolding entryOf entryBytes shareAt
-  entry-at k l = go (neq i k) (apart? i k)
-    where
-      go : (b : Bool) → Same i k b
-          → pick b (bytesOf (macAt s at k) ++ bytesOf (keyAt s at k)) (replicate ENTRY 0) ≡ take ENTRY (drop (at + macOff k) s)
-      go true e = pair-at k l
-      go false (same e) =
-          sym zero-pair
-          ∙ ap₂ (λ (m y : Block). bytesOf m ++ bytesOf y) (sym (v .mac) ∙ ap (macAt s at) e) (sym (v .key) ∙ ap (keyAt s at) e)
-          ∙ pair-at k l

@@ -10,6 +10,7 @@ ghost use Rattle.block.specs.Group.{blocks};
 ghost use Rattle.share.specs.Layout.{ENTRY, headOf};
 ghost use Rattle.share.specs.Record.{recordLen, macOff, keyOff, bitAt, macAt, keyAt};
 ghost use Rattle.share.specs.Share.{shareAt, shares, entryBytes, recordOf};
+ghost use Rattle.share.specs.Lent.{LABEL, lentLen, lentHead, lentAt};
 use block::Block;
 
 // The global key of one party, which authenticates the others' bits to it.
@@ -191,7 +192,7 @@ pub fn put_entry(out: &mut [u8], x: Entry)
 }
 
 // Writes the entry of party `of` in a record of party i: zero where it is the own one.
-fn put_entry_of(out: &mut [u8], i: usize, of: usize, x: Entry)
+pub fn put_entry_of(out: &mut [u8], i: usize, of: usize, x: Entry)
     requires { ⌜ length (now out) ≡ ENTRY ⌝ }
     ensures { λ _. ⌜ now (out .exit) ≡ entryBytes i of (x .mac .0) (x .key .0) ⌝ }
 {
@@ -207,52 +208,48 @@ pub fn put_head(out: &mut [u8], bit: bool)
     out[0] = block::bit_byte(bit);
 }
 
-// Writes party i's record among n parties: the share in the record at `at` of s.
-pub fn copy_record(out: &mut [u8], s: &[u8], at: usize, n: usize, i: usize)
-    requires { ⌜ (n ≤ 8) × (length (now out) ≡ recordLen n) ⌝ }
-    requires { ⌜ at + recordLen n ≤ length (now s) ⌝ }
-    ensures { λ _. ⌜ now (out .exit) ≡ recordOf n i (shareAt (now (s .entry)) at) ⌝ }
+// ---- records with a label
+
+// The bytes of a label, and of the head that has it: the bit and the label.
+pub const LABEL: usize = 31;
+
+pub const LENT_HEAD: usize = 32;
+
+// The bytes of a record among n parties as it is lent and given back.
+pub fn lent_len(n: usize) -> usize
+    requires { ⌜ n ≤ 8 ⌝ }
+    ensures { λ r. ⌜ r ≡ lentLen n ⌝ }
 {
+    LENT_HEAD + ENTRY * n
+}
+
+// Writes the head of party i's record among n parties: the bit, n, the own number, zeros.
+pub fn put_lent_head(out: &mut [u8], n: usize, i: usize, bit: bool)
+    requires { ⌜ (1 + LABEL ≤ length (now out)) × (n ≤ 8) × (i < n) ⌝ }
+    ensures { λ _. ⌜ now (out .exit) ≡ lentHead n i bit ++ drop (1 + LABEL) (now (out .entry)) ⌝ }
+{
+    block::store(&mut out[0..16], Block::zero());
+    block::store(&mut out[16..LENT_HEAD], Block::zero());
+    out[0] = block::bit_byte(bit);
+    out[1] = n as u8;
+    out[2] = i as u8;
+}
+
+// Writes what is kept of the record at `at` of s: party i's record among n parties, without the label.
+pub fn keep_record(out: &mut [u8], s: &[u8], at: usize, n: usize, i: usize)
+    requires { ⌜ (n ≤ 8) × (length (now out) ≡ recordLen n) ⌝ }
+    requires { ⌜ at + lentLen n ≤ length (now s) ⌝ }
+    ensures { λ _. ⌜ now (out .exit) ≡ recordOf n i (lentAt (now (s .entry)) at) ⌝ }
+{
+    let entries = at + LABEL;
     let mut k = 0;
     while k < n {
         let a = mac_off(k);
         let e = a + ENTRY;
-        put_entry_of(&mut out[a..e], i, k, entry_at(s, at, k));
+        put_entry_of(&mut out[a..e], i, k, entry_at(s, entries, k));
         k += 1;
     }
     put_head(out, bit_at(s, at));
-}
-
-// Adds d times the entry of party `of` in the record at `at` of s: d decides no branch.
-fn add_entry(out: &mut [u8], s: &[u8], at: usize, i: usize, of: usize, d: bool)
-    requires { ⌜ (length (now out) ≡ ENTRY) × (of < 8) ⌝ }
-    requires { ⌜ at + recordLen (of + 1) ≤ length (now s) ⌝ }
-    ensures { λ _. ⌜ now (out .exit) ≡ entryBytes i of
-        (blocks .op (blockAt (now (out .entry)) 0) (sel blocks d (macAt (now (s .entry)) at of)))
-        (blocks .op (blockAt (now (out .entry)) 16) (sel blocks d (keyAt (now (s .entry)) at of))) ⌝ }
-{
-    let x = entry_at(s, at, of).times(d);
-    let mac = Mac(block::load(out, 0));
-    let key = Key(block::load(out, 16));
-    put_entry_of(out, i, of, Entry { mac: mac, key: key }.xor(x));
-}
-
-// Adds d times the record at `at` of s to party i's record `out` among n parties.
-pub fn add_record(out: &mut [u8], s: &[u8], at: usize, n: usize, i: usize, d: bool)
-    requires { ⌜ (n ≤ 8) × (length (now out) ≡ recordLen n) ⌝ }
-    requires { ⌜ at + recordLen n ≤ length (now s) ⌝ }
-    ensures { λ _. ⌜ now (out .exit) ≡ recordOf n i
-        (shares .op (shareAt (now (out .entry)) 0) (sel shares d (shareAt (now (s .entry)) at))) ⌝ }
-{
-    let bit = bit_at(out, 0) ^ (bit_at(s, at) & d);
-    let mut k = 0;
-    while k < n {
-        let a = mac_off(k);
-        let e = a + ENTRY;
-        add_entry(&mut out[a..e], s, at, i, k, d);
-        k += 1;
-    }
-    put_head(out, bit);
 }
 
 // ---- the sum of two records, part by part: the record at `a` of s and the one at `b` of t

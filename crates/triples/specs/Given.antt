@@ -8,7 +8,7 @@ use lib.ListN.{length, getD}
 use Rattle.lists.specs.Over.{tab, length-tab, getD-tab, in-chunks}
 use Rattle.lists.specs.Rows.{chunk, length-chunk}
 use Rattle.lists.specs.Sect.{get}
-use Rattle.share.specs.Record.{recordLen}
+use Rattle.share.specs.Layout.{recordLen, record-some}
 use Rattle.plan.specs.Plan.{leaky, bitsCount, bucketSize}
 use Rattle.plan.specs.PlanLaws.{bucket-low}
 use Rattle.engine.specs.declared.Frame.{Frame}
@@ -33,9 +33,10 @@ pub record Bucketed (f : Frame) (recs es ts d : List ℕ) : Type 0 where
 
 module _ {f : Frame} {recs es ts d : List ℕ} (h : Bucketed f recs es ts d) where
   -- each r lies 2·l·b records behind its x
-  pub bucket-in : Ranged f → BucketIn (f .n) recs ts (2 * leaky (f .l)) d
+  pub bucket-in : Ranged f → BucketIn (f .n) (recordLen (f .n)) recs ts (2 * leaky (f .l)) d
   bucket-in g = record {
     few = g .range .eight;
+    step = record-some (f .n);
     count = h .count;
     inside = λ e l.
         let t : ℕ = getD ts e 0 in

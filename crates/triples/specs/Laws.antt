@@ -42,22 +42,25 @@ module _ (f : Frame) (delta : Block) (recs zs es ts : List ℕ) (d : ℕ → Boo
   abbrev told : ℕ → Bool
   told e = odd (getD es (k * leaky (f .l) + getD ts e 0) 0)
 
-  same-r : (e : ℕ) → zAmong (f .n) recs ts (2 * leaky (f .l)) e ≡ rs e
+  same-r : (e : ℕ) → zAmong (recordLen (f .n)) recs ts (2 * leaky (f .l)) e ≡ rs e
   unfolding zAmong r
   same-r e =
       ap (λ a. shareAt recs (a * recordLen (f .n)))
       (let q : getD ts e 0 + 2 * leaky (f .l) ≡ 2 * leaky (f .l) + getD ts e 0 = omega arith in q)
 
-  as-r : bucketZ shares (xAmong (f .n) recs ts) (zAmong (f .n) recs ts (2 * leaky (f .l))) d c ≡ bucketZ shares xs rs d c
+  as-r : bucketZ shares (xAmong (recordLen (f .n)) recs ts) (zAmong (recordLen (f .n)) recs ts (2 * leaky (f .l))) d c
+      ≡ bucketZ shares xs rs d c
   unfolding xAmong x
-  as-r = z-ext shares xs xs c (λ e l. refl) (zAmong (f .n) recs ts (2 * leaky (f .l))) rs d d (λ e l. same-r e) (λ e l. refl)
+  as-r = z-ext shares xs xs c (λ e l. refl) (zAmong (recordLen (f .n)) recs ts (2 * leaky (f .l))) rs d d (λ e l. same-r e) (λ e l. refl)
 
-  pub z-mac : (m : Block) → m ≡ bucketZ shares (xAmong (f .n) recs ts) (zAmong (f .n) recs ts (2 * leaky (f .l))) d c .mac k
+  pub z-mac : (m : Block)
+      → m ≡ bucketZ shares (xAmong (recordLen (f .n)) recs ts) (zAmong (recordLen (f .n)) recs ts (2 * leaky (f .l))) d c .mac k
       → m ≡ bucketZ shares (λ e. x f recs (getD ts e 0)) (λ e. zShare f delta recs zs es (getD ts e 0)) d c .mac k
   unfolding zShare
   z-mac m e = e ∙ ap (λ (s : Share). s .mac k) as-r ∙ mac-bucket-z xs c rs d k ∙ sym (mac-bucket-z xs c z d k)
 
-  pub z-key : (m : Block) (b : Bool) → m ≡ bucketZ shares (xAmong (f .n) recs ts) (zAmong (f .n) recs ts (2 * leaky (f .l))) d c .key k
+  pub z-key : (m : Block) (b : Bool)
+      → m ≡ bucketZ shares (xAmong (recordLen (f .n)) recs ts) (zAmong (recordLen (f .n)) recs ts (2 * leaky (f .l))) d c .key k
       → b ≡ sum bits (suc c) (λ e. odd (getD es (k * leaky (f .l) + getD ts e 0) 0))
       → blocks .op m (sel blocks b delta)
       ≡ bucketZ shares (λ e. x f recs (getD ts e 0)) (λ e. zShare f delta recs zs es (getD ts e 0)) d c .key k
@@ -103,20 +106,22 @@ module _ (f : Frame) (delta : Block) (w : List ℕ) (j : ℕ) (ts ds : List ℕ)
 
   -- from the sections as they were lent
   module _ (recs : List ℕ) (hr : recs ≡ at f BITS w) where
-    pub bit-x : (b : Bool) → b ≡ bucketX bits (λ e. xAmong (f .n) recs ts e .bit) (length ds) → b ≡ tripleAt f delta w j .tx .bit
+    pub bit-x : (b : Bool) → b ≡ bucketX bits (λ e. xAmong (recordLen (f .n)) recs ts e .bit) (length ds)
+        → b ≡ tripleAt f delta w j .tx .bit
     unfolding xAmong x
     bit-x b h =
-        h ∙ (λ k. bucketX bits (λ e. xAmong (f .n) (hr k) ts e .bit) (long k)) ∙ sym (bit-bucket-x (λ e. xAt (getD ts e 0)) (later f))
+        h ∙ (λ k. bucketX bits (λ e. xAmong (recordLen (f .n)) (hr k) ts e .bit) (long k))
+        ∙ sym (bit-bucket-x (λ e. xAt (getD ts e 0)) (later f))
         ∙ ap (λ (s : Share). s .bit) (sym triple-x)
 
     pub bit-z : (zs : List ℕ) (b : Bool) → zs ≡ at f ZS w
-        → b ≡ bucketZ bits (λ e. xAmong (f .n) recs ts e .bit) (λ e. odd (getD zs ((getD ts e 0 + 0) * 17) 0)) (λ e. odd (getD ds e 0))
-        (length ds)
+        → b ≡ bucketZ bits (λ e. xAmong (recordLen (f .n)) recs ts e .bit) (λ e. odd (getD zs ((getD ts e 0 + 0) * 17) 0))
+        (λ e. odd (getD ds e 0)) (length ds)
         → b ≡ tripleAt f delta w j .tz .bit
     unfolding xAmong x zShare Haand.zAt
     bit-z zs b hz h =
         h
-        ∙ (λ k. bucketZ bits (λ e. xAmong (f .n) (hr k) ts e .bit) (λ e. odd (getD (hz k) (add-zero (getD ts e 0) k * 17) 0))
+        ∙ (λ k. bucketZ bits (λ e. xAmong (recordLen (f .n)) (hr k) ts e .bit) (λ e. odd (getD (hz k) (add-zero (getD ts e 0) k * 17) 0))
         (λ e. odd (getD ds e 0)) (long k))
         ∙ sym (bit-bucket-z (λ e. xAt (getD ts e 0)) (later f) (λ e. zAt (getD ts e 0)) (λ e. odd (getD ds e 0)))
         ∙ ap (λ (s : Share). s .bit) (sym triple-z)

@@ -63,7 +63,7 @@ fn party(recs: &[u8], es: &[u8], ts: &[usize], d: &[u8], delta: Delta, f: Frame,
         return bucket_sum::nothing();
     }
     let count = plan::leaky(f.l);
-    let s = bucket_sum::sum_entries(recs, ts, 2 * count, d, n, k);
+    let s = bucket_sum::sum_entries(recs, ts, 2 * count, share::record_len(n), d, n, k);
     let told = e_sum(es, ts, k * count);
     let x = s.x;
     let r = s.z;
@@ -148,7 +148,7 @@ fn row_bits(work: &[u8], at: Places, ts: &[usize], f: Frame, j: usize) -> Bits
     let recs = area::lent(work, at.recs);
     let zs = area::lent(work, at.zs);
     let d = ds(work, at, f, j);
-    bucket_sum::sum_bits(recs, ts, d, f.n, zs, 0, area::Z_LEN)
+    bucket_sum::sum_bits(recs, ts, d, share::record_len(f.n), zs, 0, area::Z_LEN)
 }
 
 // Row j of TRIPLES, which starts at `row`: the records a and c of bucket j.

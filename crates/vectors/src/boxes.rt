@@ -1,7 +1,11 @@
 // The boxes of a session: opening and the round calls, with what comes for each.
 ghost use Prim.Native.Nat.{_<_, _≤_};
 use crate::record::Play;
+use crate::table::ALPHA;
+use crate::table::BETA;
+use crate::table::BITS;
 use crate::table::INPUTS;
+use crate::table::INPUTS_LEN;
 use crate::table::OUT_LEN;
 use crate::table::REFUSED;
 use crate::table::STRINGS;
@@ -143,7 +147,7 @@ fn answered(a: Answer, n: usize, i: usize, l: usize) -> Reply {
 }
 
 fn opened(t: &Table, n: usize, i: usize, l: usize, work: &mut [u8], out: &mut [u8]) -> Answer {
-    let x = crate::table::part(t, INPUTS, 76000);
+    let x = crate::table::part(t, INPUTS, INPUTS_LEN);
     let shares = plan::shares_len(n, l);
     opening::open(
         n,
@@ -152,9 +156,9 @@ fn opened(t: &Table, n: usize, i: usize, l: usize, work: &mut [u8], out: &mut [u
         crate::table::part(x, 0, 16),
         crate::table::part(x, 16, 32),
         crate::table::part(x, 48, plan::pairs_len(n)),
-        crate::table::part(x, 5000, plan::bits_len(n, l)),
-        crate::table::part(x, 1000, shares),
-        crate::table::part(x, 3000, shares),
+        crate::table::part(x, BITS, plan::bits_len(n, l)),
+        crate::table::part(x, ALPHA, shares),
+        crate::table::part(x, BETA, shares),
         crate::table::part(x, 400, plan::masks_len(n, l)),
         work,
         out,

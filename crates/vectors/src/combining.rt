@@ -11,6 +11,9 @@ use crate::table::UNCOMBINED;
 // Where the d bytes lie; the triples lie where a box's inputs do.
 const DS: usize = 80000;
 
+// The most that combining writes: three records among eight boxes.
+const RESULT_LEN: usize = 864;
+
 fn put_ds(t: &mut Table, seed: u64, i: usize, count: usize)
     requires { ⌜ count ≤ 255 ⌝ }
 {
@@ -58,8 +61,11 @@ pub(crate) fn replay(t: &mut Table, at: usize)
         UNCOMBINED
     };
     crate::table::count(t, place, 1);
-    let mut out = [MARK; 771];
-    let size = crate::table::least(crate::table::product(3, crate::record::record_len(n)), 771);
+    let mut out = [MARK; RESULT_LEN];
+    let size = crate::table::least(
+        crate::table::product(3, crate::record::record_len(n)),
+        RESULT_LEN,
+    );
     let bad = differs(t, w, at + 16, &mut out[0..size]);
     crate::report::note(t, i, 0, bad);
 }

@@ -11,6 +11,7 @@ use table::DAMAGED;
 use table::DUE;
 use table::HONEST;
 use table::LIST;
+use table::TABLE_LEN;
 use table::Table;
 use turns::Works;
 
@@ -21,10 +22,10 @@ mod report;
 mod table;
 mod turns;
 
-// The lists' marks, NZVECT02 and NZCOMB02, low byte first.
-const SESSIONS: u64 = 0x3230544345565a4e;
+// The lists' marks, NZVECT03 and NZCOMB03, low byte first.
+const SESSIONS: u64 = 0x3330544345565a4e;
 
-const COMBININGS: u64 = 0x3230424d4f435a4e;
+const COMBININGS: u64 = 0x3330424d4f435a4e;
 
 // Reads a list into the table, from `from` on. Answers where it ends.
 fn read(t: &mut [u8], from: usize, name: &[u8]) -> usize {
@@ -98,7 +99,7 @@ fn combinings(t: &mut Table) {
 }
 
 fn main() {
-    let mut t = [0u8; 1446032];
+    let mut t = [0u8; TABLE_LEN];
     sessions(&mut t);
     combinings(&mut t);
     report::report(&t);

@@ -1,10 +1,14 @@
 // A session as its record has it, and the values that are drawn from its seed (docs/VECTORS.md).
 ghost use Prim.Native.Nat.{_≤_};
+use crate::table::ALPHA;
+use crate::table::BETA;
+use crate::table::BITS;
 use crate::table::INPUTS;
 use crate::table::STRINGS;
 use crate::table::Table;
 use blake3::Digest;
 use block::Block;
+use share::LABEL;
 
 // How many boxes, results and leaky ANDs; the seed; and where rules, permutation, hashes and ends start.
 pub struct Play {
@@ -61,24 +65,20 @@ pub(crate) fn strings(t: &mut Table, seed: u64) {
     }
 }
 
-// The bytes of a record among n boxes: the bit, and an entry for each.
+// The bytes of a record among n boxes.
 pub(crate) fn record_len(n: usize) -> usize {
-    crate::table::sum(1, crate::table::product(32, n))
+    share::lent_len(crate::table::least(n, 8))
 }
 
-// Where the MAC for k starts in it; its key of k lies 16 bytes behind.
-fn mac_off(k: usize) -> usize {
-    record_len(k)
-}
-
-// j's entry for k in its record q, which starts at `at`; with its own entry, which is zero, the bit. Kind 8: an entry is drawn whole.
-fn entry(t: &mut Table, at: usize, seed: u64, kind: u64, j: usize, k: usize, q: usize) {
+// j's entry for k in its record q among n boxes, which starts at `at`; with its own entry, which is zero, the head. Kind 8: an entry is
+// drawn whole.
+fn entry(t: &mut Table, at: usize, seed: u64, kind: u64, n: usize, j: usize, k: usize, q: usize) {
     let bit = draw(seed, kind, j, j, q).bit();
     let d = draw(seed, kind, j, k, q);
     let mut mac = Block(0, 0);
     let mut key = Block(0, 0);
     if j == k {
-        crate::table::put(t, at, block::bit_byte(bit));
+        crate::table::put_head(t, at, n, j, bit);
     } else if kind == 8 {
         mac = d.block();
         key = d.second();
@@ -86,9 +86,10 @@ fn entry(t: &mut Table, at: usize, seed: u64, kind: u64, j: usize, k: usize, q: 
         mac = d.block().xor(draw(seed, 0, k, 0, 0).block().const_mul(bit));
         key = draw(seed, kind, k, j, q).block();
     }
-    let e = crate::table::sum(at, mac_off(k));
-    crate::table::put_block(t, e, mac);
-    crate::table::put_block(t, crate::table::sum(e, 16), key);
+    let e = crate::table::least(k, 7);
+    let base = crate::table::sum(at, LABEL);
+    crate::table::put_block(t, crate::table::sum(base, share::mac_off(e)), mac);
+    crate::table::put_block(t, crate::table::sum(base, share::key_off(e)), key);
 }
 
 // `count` records of n entries.
@@ -109,7 +110,7 @@ pub(crate) fn records(
     let mut q = 0;
     while q < entries {
         let at = crate::table::sum(from, crate::table::product(q / n, size));
-        entry(t, at, seed, kind, j, q % n, q / n);
+        entry(t, at, seed, kind, n, j, q % n, q / n);
         q += 1;
     }
 }
@@ -148,8 +149,8 @@ pub(crate) fn inputs(t: &mut Table, p: Play, j: usize) {
     let l = p.l;
     seeds(t, seed, j);
     masks(t, seed, j, n, p.leaky);
-    records(t, INPUTS + 1000, seed, 5, n, j, l);
-    records(t, INPUTS + 3000, seed, 6, n, j, l);
+    records(t, INPUTS + ALPHA, seed, 5, n, j, l);
+    records(t, INPUTS + BETA, seed, 6, n, j, l);
     let bits = crate::table::sum(crate::table::product(3, p.leaky), 160);
-    records(t, INPUTS + 5000, seed, 4, n, j, bits);
+    records(t, INPUTS + BITS, seed, 4, n, j, bits);
 }

@@ -3,9 +3,12 @@
 ghost use Prim.Native.Nat.{_<_, _≤_};
 use blake3::Digest;
 use block::Block;
+use share::LENT_HEAD;
 use std::num::wrapping_add_u64;
 
-pub type Table = [u8; 1446032];
+pub type Table = [u8; TABLE_LEN];
+
+pub const TABLE_LEN: usize = 1452032;
 
 // Counts, a Block each: what was compared, and ends by their number.
 pub const DIFFERENCES: usize = 0;
@@ -29,17 +32,26 @@ pub const DUE: usize = 4256;
 
 pub const REFUSED: usize = 4264;
 
-// r, and the inputs of one box: delta at 0, seed at 16, pair seeds at 48, masks at 400, alpha at 1000, beta at 3000, bits at 5000.
+// r, and the inputs of one box: delta at 0, seed at 16, pair seeds at 48, masks at 400, then its lists of records.
 pub const STRINGS: usize = 4272;
 
 pub const INPUTS: usize = 10032;
 
+pub const INPUTS_LEN: usize = 82000;
+
+// Where the lists start among the inputs.
+pub const ALPHA: usize = 1000;
+
+pub const BETA: usize = 3200;
+
+pub const BITS: usize = 5400;
+
 // What boxes wrote, OUT_LEN bytes each, here for one call and there for the next; and the list that is replayed, 800,000 bytes.
-pub const OUT: usize = 86032;
+pub const OUT: usize = 92032;
 
-pub const OTHER_OUT: usize = 366032;
+pub const OTHER_OUT: usize = 372032;
 
-pub const LIST: usize = 646032;
+pub const LIST: usize = 652032;
 
 // What there is room for.
 pub const OUT_LEN: usize = 35000;
@@ -90,12 +102,12 @@ pub(crate) fn small(x: usize) -> u8 {
 // ---- reading
 
 pub(crate) fn get(t: &Table, at: usize) -> u8 {
-    if at < 1446032 { t[at] } else { 0 }
+    if at < TABLE_LEN { t[at] } else { 0 }
 }
 
 // Eight bytes.
 pub(crate) fn word(t: &Table, at: usize) -> u64 {
-    if at < 1446024 {
+    if at < TABLE_LEN - 8 {
         block::load64(t, at)
     } else {
         0
@@ -133,7 +145,11 @@ pub(crate) fn only(s: &[u8], b: u8) -> bool {
 // Whether the hash of s stands at `at`; whether there are 32 zeros.
 pub(crate) fn stands(t: &Table, at: usize, s: &[u8]) -> bool {
     let d = blake3::digest_of(s);
-    if at < 1446000 { d.is(t, at) } else { false }
+    if at < TABLE_LEN - 32 {
+        d.is(t, at)
+    } else {
+        false
+    }
 }
 
 pub(crate) fn none(t: &Table, at: usize) -> bool {
@@ -143,7 +159,7 @@ pub(crate) fn none(t: &Table, at: usize) -> bool {
 // ---- writing
 
 pub(crate) fn put(t: &mut Table, at: usize, b: u8) {
-    if at < 1446032 {
+    if at < TABLE_LEN {
         t[at] = b;
     }
 }
@@ -168,6 +184,24 @@ pub(crate) fn put_digest(s: &mut [u8], at: usize, d: Digest) {
     }
     let e = at + 32;
     d.store(&mut s[at..e]);
+}
+
+// The head of box j's record among n; none where there is no such box.
+pub(crate) fn put_head(s: &mut [u8], at: usize, n: usize, j: usize, bit: bool) {
+    if 8 < n {
+        return;
+    }
+    if n <= j {
+        return;
+    }
+    if s.len() < LENT_HEAD {
+        return;
+    }
+    if s.len() - LENT_HEAD < at {
+        return;
+    }
+    let e = at + LENT_HEAD;
+    share::put_lent_head(&mut s[at..e], n, j, bit);
 }
 
 pub(crate) fn store(t: &mut Table, to: usize, s: &[u8])

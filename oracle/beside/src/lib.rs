@@ -5,21 +5,18 @@ mod ffi;
 use std::collections::BTreeMap;
 
 use oracle::{
-    ENTRY, Party, Session, SplitMix, cpu_time,
+    BIT_AT, ENTRY, HEAD, N_AT, Party, Session, Share, SplitMix, cpu_time,
     damage::{message_len, rounds},
-    mac_at, record_len,
+    kept, kept_len, labelled, mac_at, put_label, record_len, shares,
 };
 
 /// How our session ended for one party.
 #[derive(Clone, Debug, PartialEq, Eq)]
 pub enum End {
+    /// The l result records.
     Done(Vec<u8>),
     /// The round is that of the call, 0 for opening.
-    Refused {
-        number: u8,
-        round: u8,
-        party: usize,
-    },
+    Refused { number: u8, round: u8, party: usize },
 }
 
 /// What our boxes did.
@@ -60,6 +57,35 @@ impl Care {
 
 /// The round whose call is lent r.
 const R_DUE: u8 = 5;
+
+/// Where records of ours hold other shares than these, by value; their heads are left to `wrong_heads`.
+pub fn other_shares(records: &[u8], due: &[Share], n: usize) -> Vec<String> {
+    let (len, due_len) = (records.len(), due.len() * record_len(n));
+    if len != due_len {
+        return vec![format!("{len} bytes of records and not {due_len}")];
+    }
+    let places = shares(records, n).into_iter().zip(due).enumerate();
+    let other = places.filter(|(_, (share, due))| share != *due);
+    other
+        .map(|(t, (share, due))| {
+            let entry = |k: usize| share.mac(k) != due.mac(k) || share.key(k) != due.key(k);
+            match (0..n).find(|k| entry(*k)) {
+                Some(k) => format!("share {t} is another: entry {k}"),
+                None => format!("share {t} is another: its bit"),
+            }
+        })
+        .collect()
+}
+
+/// Where the head of a record of ours is not as due, whatever share it holds: a bit byte above 1, or another
+/// label than party i's.
+pub fn wrong_heads(records: &[u8], n: usize, i: usize) -> Vec<String> {
+    let all = records.chunks_exact(record_len(n)).enumerate();
+    let wrong = all.filter(|(_, record)| record[BIT_AT] > 1 || !labelled(record, n, i));
+    wrong
+        .map(|(t, record)| format!("wrong head of record {t}: {:?}", &record[..HEAD]))
+        .collect()
+}
 
 /// A number of the answer, and the party above it.
 fn answer(a: u64) -> (u8, usize) {
@@ -159,7 +185,7 @@ impl Host<'_> {
 
 /// The bytes of the sections of docs/WORK_AREA.md up to the pairwise seeds: start and length.
 fn section(s: &Session, number: usize) -> std::ops::Range<usize> {
-    let (n, l, lb, record) = (s.n, s.l, s.l * s.b(), record_len(s.n));
+    let (n, l, lb, record) = (s.n, s.l, s.l * s.b(), kept_len(s.n));
     let lens = [
         16,
         32,
@@ -284,12 +310,15 @@ fn spoil_opening(g: &mut SplitMix, s: &Session, i: usize) -> Wrong {
         number: 17,
     };
     // the inputs may be damaged already
-    for list in [&mut w.lent.bits, &mut w.lent.alpha, &mut w.lent.beta] {
+    for list in w.lent.lists_mut() {
         for record in list.chunks_exact_mut(record) {
+            record[BIT_AT] &= 1;
+            put_label(record, n, i);
             record[mac_at(i)..][..ENTRY].fill(0);
         }
     }
-    match g.below(11) {
+    let which = g.below(3);
+    match g.below(13) {
         0 => {
             w.n = [0, 1, 9, usize::MAX][g.below(4)];
             w.number = 15;
@@ -303,9 +332,7 @@ fn spoil_opening(g: &mut SplitMix, s: &Session, i: usize) -> Wrong {
             w.number = 16;
         }
         3 => {
-            let p = &mut w.lent;
-            let list = [&mut p.bits, &mut p.alpha, &mut p.beta];
-            let list = list.into_iter().nth(g.below(3)).unwrap();
+            let list = &mut w.lent.lists_mut()[which];
             match g.below(2) {
                 0 => _ = list.pop(),
                 _ => list.extend(vec![0; record]),
@@ -319,12 +346,11 @@ fn spoil_opening(g: &mut SplitMix, s: &Session, i: usize) -> Wrong {
         6 => w.work = [-1, 1][g.below(2)],
         7 => w.out = [-1, 1][g.below(2)],
         8 => {
-            let p = &mut w.lent;
-            let list = [&mut p.bits, &mut p.alpha, &mut p.beta];
-            let list = list.into_iter().nth(g.below(3)).unwrap();
+            let list = &mut w.lent.lists_mut()[which];
             let at = record * g.below(list.len() / record);
-            list[at] = 2 + g.below(254) as u8;
-            // and the own entry, which comes after
+            list[at + BIT_AT] = 2 + g.below(254) as u8;
+            // and label and own entry, which come after
+            list[at + N_AT] = 0;
             list[at + mac_at(i)] = 1;
             w.number = 1;
         }
@@ -333,11 +359,26 @@ fn spoil_opening(g: &mut SplitMix, s: &Session, i: usize) -> Wrong {
             w.lent.masks[other * lb + g.below(lb)] = 2 + g.below(254) as u8;
             w.number = 1;
         }
+        10 => {
+            let list = &mut w.lent.lists_mut()[which];
+            let at = record * g.below(list.len() / record);
+            list[at + N_AT + g.below(HEAD - N_AT)] ^= 1 + g.below(255) as u8;
+            // and the own entry and a mask, which come after
+            list[at + mac_at(i)] = 1;
+            w.lent.masks[other * l * s.b()] = 2;
+            w.number = 22;
+        }
+        // another number than all records say
+        11 => {
+            w.i = other;
+            w.number = 22;
+        }
         _ => {
             let at = record * g.below(s.bits_count()) + mac_at(i) + g.below(ENTRY);
             w.lent.bits[at] = 1 + g.below(255) as u8;
-            // a later record's bit comes after
-            w.lent.beta[0] = 2;
+            // a later record's bit and label come after
+            w.lent.beta[BIT_AT] = 2;
+            w.lent.alpha[N_AT] = 0;
             w.number = 4;
         }
     }
@@ -411,7 +452,7 @@ pub fn run(
             let mut session = vec![7; [4, 4, 4, 3, 5, 0][g.below(6)]];
             let a = ffi::open(&mut session, w.n, w.i, w.l, &w.lent, &mut work, &mut out);
             let number = match w.number {
-                1 | 4 if session.len() != 4 => 17,
+                1 | 22 | 4 if session.len() != 4 => 17,
                 number => number,
             };
             let due = (number, w.i);
@@ -441,16 +482,17 @@ pub fn run(
         }
         if care == Care::All {
             let p = &s.parties[i];
-            let kept: [&[u8]; 7] = [
+            let [bits, alpha, beta] = [&p.bits, &p.alpha, &p.beta].map(|list| kept(list, s.n));
+            let inputs: [&[u8]; 7] = [
                 &p.delta,
                 &p.joint_seed,
                 &p.pair_seeds,
                 &p.masks,
-                &p.bits,
-                &p.alpha,
-                &p.beta,
+                &bits,
+                &alpha,
+                &beta,
             ];
-            for (number, list) in kept.iter().enumerate() {
+            for (number, list) in inputs.iter().enumerate() {
                 if &h.work[section(s, number)] != *list {
                     broken.push(format!("party {i}: section {number} is not what was lent"));
                 }

@@ -3,7 +3,7 @@
 use std::{collections::BTreeMap, env, fs, process::exit};
 
 use oracle::{
-    End, Outcome, Session, SplitMix, damage, honest, round_name,
+    End, Outcome, Session, SplitMix, damage, honest, records, round_name,
     rules::{Rule, apply},
     run,
 };
@@ -107,9 +107,9 @@ fn print(s: &Session, o: &Outcome) {
     }
     for (i, end) in o.ends.iter().enumerate() {
         match end {
-            End::Done(records) => println!(
+            End::Done(shares) => println!(
                 "party {i}: done, results {}",
-                blake3::hash(records).to_hex()
+                blake3::hash(&records(shares, i)).to_hex()
             ),
             End::Refused {
                 number,
@@ -139,10 +139,10 @@ fn transcript(o: &Outcome) -> Vec<u8> {
             out.extend(bytes);
         }
     }
-    for end in &o.ends {
+    for (i, end) in o.ends.iter().enumerate() {
         out.extend(ended(end));
-        if let End::Done(records) = end {
-            out.extend(records);
+        if let End::Done(shares) = end {
+            out.extend(records(shares, i));
         }
     }
     out
@@ -170,10 +170,10 @@ fn vector(s: &Session, o: &Outcome, rules: &str) -> Vec<u8> {
         out.extend((m.sent.len() as u32).to_le_bytes());
         out.extend(blake3::hash(&m.sent).as_bytes());
     }
-    for end in &o.ends {
+    for (i, end) in o.ends.iter().enumerate() {
         out.extend(ended(end));
         match end {
-            End::Done(records) => out.extend(blake3::hash(records).as_bytes()),
+            End::Done(shares) => out.extend(blake3::hash(&records(shares, i)).as_bytes()),
             _ => out.extend([0; 32]),
         }
     }

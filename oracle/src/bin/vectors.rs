@@ -3,13 +3,13 @@
 use std::{collections::BTreeMap, env, fs, process::exit};
 
 use oracle::{
-    End, Session, combine,
+    ENTRY, End, Session, blank, combine,
     damage::{commit, message_len, rounds, third_at},
     draw, drawn_bit,
     expect::{Expectation, Expected, expect},
-    honest, record_len,
+    honest, mac_at, records,
     rules::{Change, Rule, apply},
-    run,
+    run, shares,
 };
 
 fn main() {
@@ -311,9 +311,9 @@ fn session(s: &Session, rules: &[Rule], e: &Expectation) -> Vec<u8> {
             }
         }
     }
-    for end in &e.ends {
+    for (i, end) in e.ends.iter().enumerate() {
         match end {
-            Expected::Done(results) => out.extend(blake3::hash(results).as_bytes()),
+            Expected::Done(shares) => out.extend(blake3::hash(&records(shares, i)).as_bytes()),
             _ => out.extend([0; 32]),
         }
     }
@@ -358,7 +358,7 @@ fn sessions() -> (usize, usize, Vec<u8>) {
     let beside = list.len();
     list.extend(tails().into_iter().map(plain));
     list.extend(unopened().into_iter().map(odd));
-    let mut out = b"NZVECT02".to_vec();
+    let mut out = b"NZVECT03".to_vec();
     out.extend((list.len() as u32).to_le_bytes());
     out.extend([0; 4]);
     let mut ends: BTreeMap<(u8, u8), usize> = BTreeMap::new();
@@ -395,7 +395,7 @@ fn sessions() -> (usize, usize, Vec<u8>) {
 }
 
 fn combinings() -> (usize, Vec<u8>) {
-    let mut out = b"NZCOMB02".to_vec();
+    let mut out = b"NZCOMB03".to_vec();
     let mut list = vec![];
     for n in 2..=8 {
         for count in 0..=5 {
@@ -408,22 +408,19 @@ fn combinings() -> (usize, Vec<u8>) {
         let seed = index as u64 + 1;
         let mut triples = vec![];
         for q in 0..3 * count {
-            triples.push(drawn_bit(draw(seed, 8, i, i, q)));
-            for k in 0..n {
-                triples.extend(if k == i {
-                    [0; 32]
-                } else {
-                    draw(seed, 8, i, k, q)
-                });
+            let mut record = blank(n, i, drawn_bit(draw(seed, 8, i, i, q)));
+            for k in (0..n).filter(|k| *k != i) {
+                record[mac_at(k)..][..ENTRY].copy_from_slice(&draw(seed, 8, i, k, q));
             }
+            triples.extend(record);
         }
         let d: Vec<u8> = (1..count)
             .map(|m| drawn_bit(draw(seed, 9, i, 0, m)))
             .collect();
-        let (number, hash) = match combine(n, i, &triples, &d) {
-            Ok(records) => {
-                assert_eq!(records.len(), 3 * record_len(n));
-                (0, blake3::hash(&records).into())
+        let (number, hash) = match combine(n, i, &shares(&triples, n), &d) {
+            Ok(xyz) => {
+                assert_eq!(xyz.len(), 3);
+                (0, blake3::hash(&records(&xyz, i)).into())
             }
             Err(End::Refused { number, .. }) => (number, [0; 32]),
             Err(end) => panic!("{end:?}"),

@@ -1,38 +1,35 @@
 -- The loop's invariant: x and z have the first e records of the bucket.
-use Rattle.lists.specs.Kit.{_≡_, ap, ap₂, subst, _∙_, List, ℕ, suc, _+_, _-_, _*_, _<_, _≤_, arith, length, getD, now, needs}
+use Rattle.lists.specs.Kit.{_≡_, ap₂, subst, _∙_, List, ℕ, suc, _+_, _-_, _*_, _<_, _≤_, arith, length, getD, now, needs}
 use Rattle.algebra.specs.Group.{XorGroup, odd}
 use Rattle.algebra.specs.Bucket.{bucketX, bucketZ}
 use Rattle.block.specs.Group.{blocks}
 use Rattle.share.specs.Layout.{record-within}
-use Rattle.share.specs.Record.{recordLen, macAt, keyAt}
+use Rattle.share.specs.Record.{recordLen}
 use Rattle.share.specs.Share.{shareAt, shares}
 use Rattle.bucket_sum.specs.declared.Sums.{Sums}
-use Rattle.bucket_sum.specs.Sums.{xAmong, zAmong, Summed, z-fits, x-fits, no-wrap, summed-first, summed-turn}
+use Rattle.bucket_sum.specs.Sums.{xAmong, zAmong, Summed, x-fits, no-wrap, summed-first, summed-turn}
 use Rattle.bucket_sum.proofs.sum_entries.Statement.{statement}
 use Rattle.bucket_sum.proofs.sum_entries.Tie as tie
 
 -- the sums over the first c + 1
 abbrev Sofar : ℕ → List ℕ → List ℕ → ℕ → List ℕ → ℕ → ℕ → Sums → Type 0
-Sofar n s ts behind d k c r =
-    Summed k (bucketX shares (xAmong n s ts) c) (bucketZ shares (xAmong n s ts) (zAmong n s ts behind) (λ i. odd (getD d i 0)) c) r
+Sofar len s ts behind d k c r =
+    Summed k (bucketX shares (xAmong len s ts) c) (bucketZ shares (xAmong len s ts) (zAmong len s ts behind) (λ i. odd (getD d i 0)) c) r
 
 abbrev Inv-loop : tie.InvT-loop
-Inv-loop s ts behind d n k len first x₀ z₀ e₀ x z e =
-    (1 ≤ e) × (e ≤ length ts) × Sofar n s ts behind d k (e - 1) (record { x = x; z = z })
+Inv-loop s ts behind len d n k first x₀ z₀ e₀ x z e =
+    (1 ≤ e) × (e ≤ length ts) × Sofar len s ts behind d k (e - 1) (record { x = x; z = z })
 
 abbrev μ-loop : tie.MeasureT-loop
-μ-loop s ts behind d n k len first x₀ z₀ e₀ x z e = length ts - e
+μ-loop s ts behind len d n k first x₀ z₀ e₀ x z e = length ts - e
 
 -- ---- of a call
 module _ (c : tie.After-shared-slice-known4 Inv-loop μ-loop) where
   abbrev s : tie.Start Inv-loop μ-loop
-  s = c .before .before .before .before .before
+  s = c .before .before .before .before
 
   abbrev len : ℕ
-  len = c .before .record-len .result
-
-  long : len ≡ recordLen (s .args .n)
-  long = c .before .record-len .ensures
+  len = s .args .len
 
   some : 0 < length (now (s .args .ts))
   some = omega (arith, s .pre .0 .count)
@@ -49,13 +46,13 @@ module _ (c : tie.After-shared-slice-known4 Inv-loop μ-loop) where
     t = getD (now (s .args .ts)) e 0
 
     x-in : t * len + recordLen (s .args .n) ≤ length (now (s .args .s))
-    x-in = x-fits (s .pre .0) e len l long
+    x-in = x-fits (s .pre .0) e l
 
     z-in : (t + s .args .behind) * len + recordLen (s .args .n) ≤ length (now (s .args .s))
-    z-in = z-fits (s .pre .0) e len l long
+    z-in = s .pre .0 .inside e l
 
     small : t + s .args .behind ≤ length (now (s .args .s))
-    small = no-wrap (s .pre .0) e len l long
+    small = no-wrap (s .pre .0) e l
 
 shared-slice-read-first : tie.Need-shared-slice-read-first Inv-loop μ-loop
 shared-slice-read-first c = some c
@@ -84,12 +81,8 @@ loop-holds c =
     let z = c .entry-at2 .ensures in (
       omega arith,
       omega (arith, some g),
-      summed-first (a .k) (xAmong (a .n) (now (a .s)) (now (a .ts))) (zAmong (a .n) (now (a .s)) (now (a .ts)) (a .behind)) _ _ (record {
-        x-mac = x .0 ∙ ap (λ m. macAt (now (a .s)) (t g 0 (some g) * m) (a .k)) (long g);
-        x-key = x .1 ∙ ap (λ m. keyAt (now (a .s)) (t g 0 (some g) * m) (a .k)) (long g);
-        z-mac = z .0 ∙ ap (λ m. macAt (now (a .s)) ((t g 0 (some g) + a .behind) * m) (a .k)) (long g);
-        z-key = z .1 ∙ ap (λ m. keyAt (now (a .s)) ((t g 0 (some g) + a .behind) * m) (a .k)) (long g);
-      }),
+      summed-first (a .k) (xAmong (a .len) (now (a .s)) (now (a .ts))) (zAmong (a .len) (now (a .s)) (now (a .ts)) (a .behind)) _ _
+          (record { x-mac = x .0; x-key = x .1; z-mac = z .0; z-key = z .1 }),
     )
 
 -- ---- in a turn
@@ -158,19 +151,18 @@ loop-again c =
     let a = s (g i) .args in
     let p : suc (e i - 1) ≡ e i = omega (arith, first-done i) in
     let q : suc (e i - 1) ≡ e i + 1 - 1 = omega (arith, first-done i) in
-    let at : ℕ = t (g i) (e i) (next i) in
     let now-have : Sums = record { x = x2 .xor .result; z = c .xor3 .result } in (
       omega arith,
       omega (arith, next i),
-      subst (λ m. Sofar (a .n) (now (a .s)) (now (a .ts)) (a .behind) (now (a .d)) (a .k) m now-have) q
-          (summed-turn (a .k) (xAmong (a .n) (now (a .s)) (now (a .ts))) (zAmong (a .n) (now (a .s)) (now (a .ts)) (a .behind))
+      subst (λ m. Sofar (a .len) (now (a .s)) (now (a .ts)) (a .behind) (now (a .d)) (a .k) m now-have) q
+          (summed-turn (a .k) (xAmong (a .len) (now (a .s)) (now (a .ts))) (zAmong (a .len) (now (a .s)) (now (a .ts)) (a .behind))
           (λ j. odd (getD (now (a .d)) j 0)) (e i - 1) (e i) p (record { x = l .x; z = l .z }) now-have
           (b .bit .result) (n3 .entry-at3 .result .mac .0) (n3 .entry-at3 .result .key .0) (n4 .entry-at4 .result .mac .0)
           (n4 .entry-at4 .result .key .0) (l .inv .2)
-          (n3 .entry-at3 .ensures .0 ∙ ap (λ m. macAt (now (a .s)) (at * m) (a .k)) (long (g i)))
-          (n3 .entry-at3 .ensures .1 ∙ ap (λ m. keyAt (now (a .s)) (at * m) (a .k)) (long (g i)))
-          (n4 .entry-at4 .ensures .0 ∙ ap (λ m. macAt (now (a .s)) ((at + a .behind) * m) (a .k)) (long (g i)))
-          (n4 .entry-at4 .ensures .1 ∙ ap (λ m. keyAt (now (a .s)) ((at + a .behind) * m) (a .k)) (long (g i)))
+          (n3 .entry-at3 .ensures .0)
+          (n3 .entry-at3 .ensures .1)
+          (n4 .entry-at4 .ensures .0)
+          (n4 .entry-at4 .ensures .1)
           (b .bit .ensures) (x2 .xor .ensures .0) (x2 .xor .ensures .1)
           (c .xor3 .ensures .0 ∙ ap₂ (blocks .op) (z2 .xor2 .ensures .0) (c .before .times .ensures .0))
           (c .xor3 .ensures .1 ∙ ap₂ (blocks .op) (z2 .xor2 .ensures .1) (c .before .times .ensures .1))),
@@ -179,14 +171,14 @@ loop-again c =
 returns : tie.Need-returns Inv-loop μ-loop
 returns c =
     let l = c .before .loop in
-    let a = c .before .before .before .before .before .before .before .before .before .args in
-    let pre = c .before .before .before .before .before .before .before .before .before .pre in
-    subst (λ m. Sofar (a .n) (now (a .s)) (now (a .ts)) (a .behind) (now (a .d)) (a .k) m (record { x = l .x; z = l .z }))
+    let a = c .before .before .before .before .before .before .before .before .args in
+    let pre = c .before .before .before .before .before .before .before .before .pre in
+    subst (λ m. Sofar (a .len) (now (a .s)) (now (a .ts)) (a .behind) (now (a .d)) (a .k) m (record { x = l .x; z = l .z }))
     (let q : l .e - 1 ≡ length (now (a .d)) = omega (arith, c .loop-test .left, l .inv .1, pre .0 .count) in q) (l .inv .2)
 
 pub sum-entries-spec : {M : Type 1} → statement M
 sum-entries-spec =
-    tie.close (tie.spec Inv-loop μ-loop (λ c κs. c .before .before .before .pre .0 .few) shared-slice-read-first mul-entry-at
-    entry-at-requires add-entry-at mul-entry-at-2 entry-at-requires-2 loop-holds (λ c. search needs) shared-slice-read-t mul-entry-at-3 entry-at-requires-3 add-entry-at-2
+    tie.close (tie.spec Inv-loop μ-loop shared-slice-read-first mul-entry-at entry-at-requires add-entry-at mul-entry-at-2
+    entry-at-requires-2 loop-holds (λ c. search needs) shared-slice-read-t mul-entry-at-3 entry-at-requires-3 add-entry-at-2
     mul-entry-at-4 entry-at-requires-4 (λ c κs. search needs) (λ c κs. search needs) sub-bit bit-requires (λ c κs. search needs)
     (λ c κs. search needs) add-e (λ c. search needs) loop-again returns)

@@ -1,6 +1,6 @@
 use Rattle.lists.specs.Kit.{_≡_, sym, ap, _∙_, List, ℕ, _+_, _-_, _*_, _≤_, arith, length, getD, now, needs}
 use Rattle.algebra.specs.Group.{odd}
-use Rattle.share.specs.Record.{recordLen}
+use Rattle.share.specs.Lent.{lentLen}
 use Rattle.engine.specs.Step.{Accepted, Refused, replyOf}
 use Rattle.rounds.specs.Buckets as B
 use Rattle.rounds.specs.Combine as C
@@ -35,8 +35,10 @@ module _ (c : tie.Else1) where
 combine-all-requires : tie.Need-combine-all-requires
 combine-all-requires c κs =
     let d = due (c .before) in
-    let a = g (c .before) in
-    ((d .ranged .eight, d .out, omega (arith, d .d, d .ranged .five)), d .triples ∙ ap (λ k. 3 * k * recordLen (a .n)) (sym (more (c .before))))
+    let a = g (c .before) in (
+      (d .ranged .eight, d .out, omega (arith, d .d, d .ranged .five), d .ranged .party),
+      d .triples ∙ ap (λ k. 3 * k * lentLen (a .n)) (sym (more (c .before))),
+    )
 
 returns-2 : tie.Need-returns-2
 unfolding C.combined replyOf

@@ -3,7 +3,8 @@ use native.Mathlib.Nat.{mul-le-mul-right}
 use lib.Dec.{leb}
 use Rattle.lists.specs.Pick.{pick, tests}
 use Rattle.lists.specs.All.{allOf}
-use Rattle.share.specs.Layout.{recordLen, record-most}
+use Rattle.share.specs.Lent.{lentLen}
+use Rattle.share.specs.LentLaws.{lent-most}
 use Rattle.rounds.specs.Combine as C
 use Rattle.rounds.specs.CombineLaws.{Ranged, reason-records, reason-d, reason-out, reason-bytes, bytes-records, bytes-d}
 use Rattle.combine.proofs.reason.Statement.{statement}
@@ -30,7 +31,7 @@ unfolding C.reason
 returns-5 c = search (arith, tests)
 
 -- behind the tests of n, i and the count
-module _ (c : tie.After-record-len) where
+module _ (c : tie.After-lent-len) where
   abbrev s : tie.Start
   s = c .before .before .before .before .before .before .before .before .before
 
@@ -40,19 +41,19 @@ module _ (c : tie.After-record-len) where
   ranged : Ranged given
   ranged = record { two = omega arith; eight = omega arith; party = omega arith; some = c .before .before .if4 .left; five = omega arith }
 
-  long : 3 * s .args .count * c .record-len .result ≡ 3 * s .args .count * recordLen (s .args .n)
-  long = ap (λ l. 3 * s .args .count * l) (c .record-len .ensures)
+  long : 3 * s .args .count * c .lent-len .result ≡ 3 * s .args .count * lentLen (s .args .n)
+  long = ap (λ l. 3 * s .args .count * l) (c .lent-len .ensures)
 
-  whole : 3 * c .record-len .result ≡ 3 * recordLen (s .args .n)
-  whole = ap (λ l. 3 * l) (c .record-len .ensures)
+  whole : 3 * c .lent-len .result ≡ 3 * lentLen (s .args .n)
+  whole = ap (λ l. 3 * l) (c .lent-len .ensures)
 
 mul-if6-2 : tie.Need-mul-if6-2
 mul-if6-2 c =
     omega (
       arith,
-      mul-le-mul-right (c .record-len .result) (let e : 3 * s c .args .count ≤ 15 = omega arith in e),
-      c .record-len .ensures,
-      record-most (s c .args .n) (ranged c .eight),
+      mul-le-mul-right (c .lent-len .result) (let e : 3 * s c .args .count ≤ 15 = omega arith in e),
+      c .lent-len .ensures,
+      lent-most (s c .args .n) (ranged c .eight),
     )
 
 returns-6 : tie.Need-returns-6
@@ -66,7 +67,7 @@ returns-7 c =
 mul-if8 : tie.Need-mul-if8
 mul-if8 c =
     let r = c .before .before in
-    omega (arith, r .record-len .ensures, record-most (s r .args .n) (ranged r .eight))
+    omega (arith, r .lent-len .ensures, lent-most (s r .args .n) (ranged r .eight))
 
 returns-8 : tie.Need-returns-8
 returns-8 c =
@@ -75,7 +76,7 @@ returns-8 c =
 
 -- behind the tests of the lengths
 module _ (c : tie.Else8) where
-  abbrev r : tie.After-record-len
+  abbrev r : tie.After-lent-len
   r = c .before .before .before
 
   found : C.reason (given r) ≡ C.bytesFault (given r)

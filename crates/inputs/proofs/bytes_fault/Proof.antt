@@ -1,24 +1,20 @@
 use Rattle.lists.specs.Kit.{refl, ap, _*_, arith, needs}
-use Rattle.share.specs.Record.{recordLen}
-use Rattle.rounds.specs.Area.{sizes, sizeOf}
+use Rattle.share.specs.Lent.{lentLen}
 use Rattle.inputs.specs.Given.{bytesOf}
 use Rattle.inputs.proofs.bytes_fault.Statement.{statement}
 use Rattle.inputs.proofs.bytes_fault.Tie as tie
 
 check-records-requires : tie.Need-check-records-requires
-unfolding sizeOf sizes
 check-records-requires c κs =
     let s = c .before .before .before .before .before in (
       (s .pre .0 .range .eight, s .pre .0 .own),
-      omega (arith, s .pre .1 .bits, ap (λ k. k * recordLen (s .args .f .n)) (c .bits-count .ensures)),
+      omega (arith, s .pre .1 .bits, ap (λ k. k * lentLen (s .args .f .n)) (c .bits-count .ensures)),
     )
 
 check-records-requires-2 : tie.Need-check-records-requires-2
-unfolding sizeOf sizes
 check-records-requires-2 c κs = search needs
 
 check-records-requires-3 : tie.Need-check-records-requires-3
-unfolding sizeOf sizes
 check-records-requires-3 c κs = search needs
 
 returns : tie.Need-returns

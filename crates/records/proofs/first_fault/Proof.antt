@@ -1,8 +1,7 @@
 use Rattle.lists.specs.Kit.{_≡_, sym, ap, _∙_, _+_, _-_, _*_, _≤_, arith, length, now, needs}
 use Rattle.lists.specs.Over.{in-record}
-use Rattle.share.specs.Layout.{record-within}
-use Rattle.share.specs.Record.{recordLen, recordFault, recordsFault}
-use Rattle.share.specs.RecordLaws.{faults-zero, faults-turn, faults-stay}
+use Rattle.share.specs.Lent.{lentLen, recordFault, recordsFault}
+use Rattle.share.specs.LentLaws.{faults-zero, faults-turn, faults-stay}
 use Rattle.records.proofs.first_fault.Statement.{statement}
 use Rattle.records.proofs.first_fault.Tie as tie
 
@@ -17,27 +16,27 @@ loop-holds c = (search needs, faults-zero _ _ _)
 
 -- the start of record t
 at : (c : tie.In-loop Inv-loop μ-loop)
-    → c .before .loop .t * c .before .before .record-len .result ≡ c .before .loop .t * recordLen
+    → c .before .loop .t * c .before .before .lent-len .result ≡ c .before .loop .t * lentLen
     (c .before .before .before .before .args .n)
-at c = ap (λ l. c .before .loop .t * l) (c .before .before .record-len .ensures)
+at c = ap (λ l. c .before .loop .t * l) (c .before .before .lent-len .ensures)
 
--- record t lies within, up to the own entry
+-- record t lies within
 inside : (c : tie.In-loop Inv-loop μ-loop) → let a = c .before .before .before .before .args in
-    c .before .loop .t * c .before .before .record-len .result + recordLen (a .i + 1) ≤ length (now (a .s))
+    c .before .loop .t * c .before .before .lent-len .result + lentLen (a .n) ≤ length (now (a .s))
 inside c =
     let a = c .before .before .before .before in
     omega (
       arith,
       at c,
-      in-record (c .before .loop .t) (a .args .count) (recordLen (a .args .n)) 0 (recordLen (a .args .i + 1))
-          (length (now (a .args .s))) (c .loop-test .taken) (omega (arith, record-within (a .args .n) (a .args .i) (a .pre .0 .1))) (a .pre .1),
+      in-record (c .before .loop .t) (a .args .count) (lentLen (a .args .n)) 0 (lentLen (a .args .n))
+          (length (now (a .args .s))) (c .loop-test .taken) (omega arith) (a .pre .1),
     )
 
 mul-record-fault : tie.Need-mul-record-fault Inv-loop μ-loop
 mul-record-fault c = omega (arith, inside c)
 
 record-fault-requires : tie.Need-record-fault-requires Inv-loop μ-loop
-record-fault-requires c κs = (omega arith, inside c)
+record-fault-requires c κs = let a = c .before .before .before .before in (a .pre .0 .0, a .pre .0 .1, inside c)
 
 -- what the call found is the list's fault up to record t
 found : (c : tie.After-record-fault Inv-loop μ-loop) → let a = c .before .before .before .before .before .args in
@@ -45,7 +44,7 @@ found : (c : tie.After-record-fault Inv-loop μ-loop) → let a = c .before .bef
 found c =
     let a = c .before .before .before .before .before .args in
     faults-turn (a .n) (a .i) (now (a .s)) (c .before .before .loop .t) (c .before .before .loop .inv .1)
-    ∙ ap (recordFault (a .i) (now (a .s))) (sym (at (c .before))) ∙ sym (c .record-fault .ensures)
+    ∙ ap (recordFault (a .n) (a .i) (now (a .s))) (sym (at (c .before))) ∙ sym (c .record-fault .ensures)
 
 returns : tie.Need-returns Inv-loop μ-loop
 returns c =

@@ -9,7 +9,7 @@ finish-requires c κs =
     let p = c .before .before .before in
     let s = p .before .before .before in
     let r = p .bucket .ensures in
-    ((s .pre .0 .0 .ranges .range .eight, s .pre .1, r .a-in), (r .c-in, r .beta-in))
+    ((s .pre .0 .0 .ranges .range .eight, s .pre .1, r .a-in, s .pre .0 .0 .ranges .own), (r .c-in, r .beta-in))
 
 returns : tie.Need-returns
 returns c =

@@ -2,7 +2,7 @@
 use Rattle.lists.specs.Kit.{_≡_, sym, ap, _∙_, List, ℕ, _+_, _-_, _*_, _≤_, arith, length, now, needs}
 use Rattle.lists.specs.Over.{Written, in-chunks}
 use Rattle.lists.specs.Rows.{even-zero, even-turn, even-end}
-use Rattle.share.specs.Record.{recordLen}
+use Rattle.share.specs.Lent.{lentLen}
 use Rattle.rounds.specs.Area.{at}
 use Rattle.rounds.specs.Loops.{lent-part}
 use Rattle.rounds.specs.Mail.{letter}
@@ -18,7 +18,7 @@ Inv-loop out₀ work incoming mail f l at len j₀ out j = (j ≤ f .l) × Writt
 abbrev μ-loop : tie.MeasureT-loop
 μ-loop out₀ work incoming mail f l at len j₀ out j = f .l - j
 
-module _ (c : tie.After-record-len Inv-loop μ-loop) where
+module _ (c : tie.After-lent-len Inv-loop μ-loop) where
   abbrev s : tie.Start Inv-loop μ-loop
   s = c .before .before .before .before .before
 
@@ -29,17 +29,17 @@ module _ (c : tie.After-record-len Inv-loop μ-loop) where
   g = result (s .args .f) w (letter (now (s .args .incoming)) (s .args .mail))
 
   abbrev len : ℕ
-  len = c .record-len .result
+  len = c .lent-len .result
 
   whole : length (now (s .args .out)) ≡ s .args .f .l * len
-  whole = s .pre .1 .0 ∙ ap (λ m. s .args .f .l * m) (sym (c .record-len .ensures))
+  whole = s .pre .1 .0 ∙ ap (λ m. s .args .f .l * m) (sym (c .lent-len .ensures))
 
 loop-holds : tie.Need-loop-holds Inv-loop μ-loop
 loop-holds c = (omega arith, even-zero (g c) (len c) (now (s c .args .out)))
 
 -- ---- in a turn
 module _ (c : tie.In-loop Inv-loop μ-loop) where
-  abbrev r : tie.After-record-len Inv-loop μ-loop
+  abbrev r : tie.After-lent-len Inv-loop μ-loop
   r = c .before .before
 
   inside : 8 + c .before .loop .j * 34 + 34 ≤ told (s r .args .f)
@@ -57,7 +57,7 @@ put-result-requires c κs =
     let i = c .before .before .before in
     let p = r i in (
       (s p .pre .0, i .loop-test .taken, p .before .sections .ensures),
-      lent-part (i .before .loop .j * len p) (len p) (recordLen (s p .args .f .n)) (i .before .loop .out) (p .record-len .ensures)
+      lent-part (i .before .loop .j * len p) (len p) (lentLen (s p .args .f .n)) (i .before .loop .out) (p .lent-len .ensures)
           (part-in i),
     )
 

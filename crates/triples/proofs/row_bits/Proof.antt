@@ -1,8 +1,11 @@
-use Rattle.lists.specs.Kit.{_≡_, refl, sym, ap, _∙_, List, ℕ, _+_, arith, length, now}
+use Rattle.lists.specs.Kit.{_≡_, refl, sym, ap, subst, _∙_, List, ℕ, _+_, _*_, arith, length, getD, now}
+use Rattle.algebra.specs.Group.{bits, odd}
+use Rattle.algebra.specs.Bucket.{bucketX, bucketZ}
+use Rattle.share.specs.Layout.{record-some}
 use Rattle.engine.specs.declared.Frame.{Frame}
 use Rattle.rounds.specs.Area.{BITS, ZS, ES, at}
 use Rattle.rounds.specs.Buckets.{later}
-use Rattle.bucket_sum.specs.Sums.{x-bits}
+use Rattle.bucket_sum.specs.Sums.{xAmong, Within, x-bits}
 use Rattle.area.specs.GivenLaws.{place-at, place-fits}
 use Rattle.triples.specs.Given.{Bucketed, bucket-in, number-count, number-entry, bucket-is, z-within, length-ds}
 use Rattle.triples.specs.Laws.{bit-x, bit-z}
@@ -31,24 +34,38 @@ module _ (c : tie.After-ds) where
 
 sum-bits-requires : tie.Need-sum-bits-requires
 sum-bits-requires c κs =
-    let a = s c .args in
-    let h = s c .pre .0 .0 in
-    let n = s c .pre .1 in
-    let b : Bucketed (f c) (now (c .before .before .lent .result)) (at (f c) ES (w c)) (now (a .ts)) (now (c .ds .result)) =
-    bucket-is (a .j) h (recs-are c) refl n (long c) in (
-      (h .ranges .range .eight, number-count (f c) (w c) (a .j) (now (a .ts)) n ∙ ap (λ m. m + 1) (sym (long c))),
-      (x-bits (bucket-in b (h .ranges)), z-within (a .j) h (zs-are c) n, omega arith),
+    let e = c .before in
+    let a = s e .args in
+    let h = s e .pre .0 .0 in
+    let n = s e .pre .1 in
+    let recs : List ℕ = now (e .before .before .lent .result) in
+    let b : Bucketed (f e) recs (at (f e) ES (w e)) (now (a .ts)) (now (e .ds .result)) =
+    bucket-is (a .j) h (recs-are e) refl n (long e) in (
+      number-count (f e) (w e) (a .j) (now (a .ts)) n ∙ ap (λ m. m + 1) (sym (long e)),
+      (
+        subst (λ m. Within recs (now (a .ts)) 0 m 1) (sym (c .record-len .ensures)) (x-bits (bucket-in b (h .ranges))),
+        z-within (a .j) h (zs-are e) n,
+        omega (arith, c .record-len .ensures, record-some (f e .n)),
+        omega arith,
+      ),
     )
 
 returns : tie.Need-returns
 returns c delta =
-    let d = c .before in
+    let d = c .before .before in
     let a = s d .args in
-    let ht = number-entry (f d) (w d) (a .j) (now (a .ts)) (s d .pre .1) in (
+    let recs : List ℕ = now (d .before .before .lent .result) in
+    let ht = number-entry (f d) (w d) (a .j) (now (a .ts)) (s d .pre .1) in
+    let v = c .sum-bits .ensures in
+    let len = c .before .record-len .ensures in (
       bit-x (f d) delta (w d) (a .j) (now (a .ts)) (now (d .ds .result)) ht (d .ds .ensures) (long d)
-          (now (d .before .before .lent .result)) (recs-are d) (c .sum-bits .result .x) (c .sum-bits .ensures .0),
+          recs (recs-are d) (c .sum-bits .result .x)
+          (v .0 ∙ ap (λ m. bucketX bits (λ e. xAmong m recs (now (a .ts)) e .bit) (length (now (d .ds .result)))) len),
       bit-z (f d) delta (w d) (a .j) (now (a .ts)) (now (d .ds .result)) ht (d .ds .ensures) (long d)
-          (now (d .before .before .lent .result)) (recs-are d) (now (d .before .lent2 .result)) (c .sum-bits .result .z) (zs-are d) (c .sum-bits .ensures .1),
+          recs (recs-are d) (now (d .before .lent2 .result)) (c .sum-bits .result .z) (zs-are d)
+          (v .1 ∙ ap (λ m. bucketZ bits (λ e. xAmong m recs (now (a .ts)) e .bit)
+          (λ e. odd (getD (now (d .before .lent2 .result)) ((getD (now (a .ts)) e 0 + 0) * 17) 0))
+          (λ e. odd (getD (now (d .ds .result)) e 0)) (length (now (d .ds .result)))) len),
     )
 
 pub row-bits-spec : {M : Type 1} → statement M
@@ -56,4 +73,5 @@ row-bits-spec =
     tie.close (tie.spec
     (λ c κs. let s = c .before .before in place-fits (s .pre .0 .0) BITS _ _ (omega arith) (s .pre .0 .2 .recs))
     (λ c κs. let s = c .before .before .before in place-fits (s .pre .0 .0) ZS _ _ (omega arith) (s .pre .0 .2 .zs))
-    (λ c κs. let s = c .before .before .before .before in s .pre .0) sum-bits-requires returns)
+    (λ c κs. let s = c .before .before .before .before in s .pre .0)
+    (λ c κs. let s = c .before .before .before .before .before in s .pre .0 .0 .ranges .range .eight) sum-bits-requires returns)

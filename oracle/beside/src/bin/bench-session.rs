@@ -2,7 +2,7 @@
 
 use std::env;
 
-use beside::{Care, End};
+use beside::{Care, End, other_shares, wrong_heads};
 use oracle::{End as Rust, Session, SplitMix, honest, run};
 
 fn main() {
@@ -30,11 +30,12 @@ fn main() {
                 let u = beside::run(s, &mut honest, Care::Time, &mut SplitMix(1), None);
                 let v = beside::run(s, &mut honest, Care::TimeFresh, &mut SplitMix(1), None);
                 if turn == 0 {
-                    for (mine, theirs) in u.ends.iter().zip(&o.ends) {
+                    for (i, (mine, theirs)) in u.ends.iter().zip(&o.ends).enumerate() {
                         let (End::Done(mine), Rust::Done(theirs)) = (mine, theirs) else {
                             panic!("somebody refused: {mine:?}")
                         };
-                        assert!(mine == theirs, "other results");
+                        assert!(other_shares(mine, theirs, n).is_empty(), "other results");
+                        assert!(wrong_heads(mine, n, i).is_empty(), "wrong heads");
                     }
                 }
                 rust.extend(o.nanoseconds);

@@ -3,7 +3,7 @@
 use std::env;
 
 use beside::Care;
-use oracle::{Session, SplitMix, Sums, cpu_time, honest, key_at, mac_at, record_len};
+use oracle::{BIT_AT, Session, SplitMix, Sums, cpu_time, honest, key_at, mac_at, record_len};
 
 /// The call for this round makes `fabitn`, the next.
 const MAKES_FABITN: u8 = 5;
@@ -13,7 +13,7 @@ const MESSAGE: usize = 8 + 120 * 17;
 /// What party 0 sums, as the Rust has it: its bits and, for each other party, the MACs and then the keys.
 fn lists(s: &Session) -> Vec<Sums> {
     let records = || s.parties[0].bits.chunks_exact(record_len(s.n));
-    let bits: Vec<u8> = records().map(|record| record[0]).collect();
+    let bits: Vec<u8> = records().map(|record| record[BIT_AT]).collect();
     (1..s.n)
         .flat_map(|k| [mac_at(k), key_at(k)])
         .map(|at| {

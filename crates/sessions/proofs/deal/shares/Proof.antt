@@ -1,14 +1,15 @@
 -- `sessions::deal::shares` is safe and ends.
 use Prim.Native.Nat.{_-_, _≤_}
 use borrow.Author.Needs.{needs}
+use Rattle.share.specs.Lent.{LENT-MOST}
 use Rattle.sessions.proofs.deal.shares.Statement.{statement}
 use Rattle.sessions.proofs.deal.shares.Tie as tie
 
 abbrev Inv-loop : tie.InvT-loop
-Inv-loop t₀ from end n x size y₀ at₀ t y at = (at ≤ 19200) × (1 ≤ size)
+Inv-loop t₀ from end n x size y₀ at₀ t y at = (at ≤ 25300) × (1 ≤ size) × (size ≤ LENT-MOST)
 
 abbrev μ-loop : tie.MeasureT-loop
-μ-loop t₀ from end n x size y₀ at₀ t y at = 19200 - at
+μ-loop t₀ from end n x size y₀ at₀ t y at = 25300 - at
 
 pub shares-spec : {M : Type 1} → statement M
 shares-spec =
