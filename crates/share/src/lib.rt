@@ -196,8 +196,11 @@ pub fn put_entry_of(out: &mut [u8], i: usize, of: usize, x: Entry)
     requires { ⌜ length (now out) ≡ ENTRY ⌝ }
     ensures { λ _. ⌜ now (out .exit) ≡ entryBytes i of (x .mac .0) (x .key .0) ⌝ }
 {
-    let other = i != of;
-    put_entry(out, x.times(other));
+    if i == of {
+        put_entry(out, Entry::zero());
+    } else {
+        put_entry(out, x);
+    }
 }
 
 // Writes the head of a record: the bit.

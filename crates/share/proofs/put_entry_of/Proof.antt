@@ -1,19 +1,23 @@
-use Rattle.lists.specs.Kit.{ap₂, _∙_, _++_, needs}
-use Rattle.algebra.specs.Sum.{neq}
+use Rattle.lists.specs.Kit.{_≡_, sym, ap₂, _∙_, _++_, needs}
 use Rattle.block.specs.declared.Block.{Block}
 use Rattle.block.specs.Block.{bytesOf}
-use Rattle.share.proofs.Laws.{own-entry}
+use Rattle.share.specs.ShareLaws.{entry-own, entry-other, zero-pair}
 use Rattle.share.proofs.put_entry_of.Statement.{statement}
 use Rattle.share.proofs.put_entry_of.Tie as tie
 
 returns : tie.Need-returns
-unfolding neq
 returns c =
+    let p = c .before .before in
+    let z = p .before in
+    let a = c .before .before .before .before .before .before .before .args in
+    p .put-entry .ensures ∙ ap₂ (λ (m y : Block). bytesOf m ++ bytesOf y) (z .zero .ensures .0) (z .zero .ensures .1) ∙ zero-pair
+    ∙ sym (entry-own (a .i) (a .of) (a .x .mac .0) (a .x .key .0) (z .before .before .if1 .taken))
+
+returns-2 : tie.Need-returns-2
+returns-2 c =
+    let p = c .before .before in
     let a = c .before .before .before .before .before .before .args in
-    let t = c .before .before .before .times .ensures in
-    c .before .before .put-entry .ensures
-    ∙ ap₂ (λ (m k : Block). bytesOf m ++ bytesOf k) (t .0) (t .1)
-    ∙ own-entry (a .i) (a .of) (a .x .mac .0) (a .x .key .0)
+    p .put-entry2 .ensures ∙ sym (entry-other (a .i) (a .of) (a .x .mac .0) (a .x .key .0) (p .before .before .if1 .left))
 
 pub put-entry-of-spec : {M : Type 1} → statement M
-put-entry-of-spec = tie.close (tie.spec (λ c κs. search needs) (λ c κs. search needs) (λ c. search needs) returns)
+put-entry-of-spec = tie.close (tie.spec (λ c κs. search needs) (λ c κs. search needs) (λ c κs. search needs) (λ c. search needs) returns (λ c. search needs) returns-2)
