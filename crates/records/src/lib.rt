@@ -9,7 +9,7 @@ ghost use Rattle.lists.specs.All.{allOf};
 ghost use Rattle.share.specs.Record.{ownZero};
 ghost use Rattle.share.specs.Lent as L;
 ghost use Rattle.share.specs.Lent.{LABEL, lentLen, recordFault, recordsFault};
-ghost use Rattle.records.specs.Seen.{ored, anded, sameFrom};
+ghost use Rattle.records.specs.Seen.{ored};
 use block::Block;
 use share::ENTRY;
 use share::LABEL;
@@ -56,46 +56,33 @@ fn record_fault(s: &[u8], at: usize, n: usize, i: usize) -> u8
     if own_zero(s, at, i) { 0 } else { 4 }
 }
 
-// ORs the bytes of s from `at` on into e, byte by byte: the compiler takes sixteen at a time.
-fn or_into(e: &mut [u8], s: &[u8], at: usize)
-    requires { ⌜ at + length (now e) ≤ length (now s) ⌝ }
-    ensures { λ _. ⌜ now (e .exit) ≡ ored (now (e .entry)) (now (s .entry)) at ⌝ }
+// ORs into e what of s, from `at` on, differs from the bytes that are due, byte by byte: the compiler takes sixteen at a time.
+fn or_apart(e: &mut [u8], s: &[u8], at: usize, due: &[u8])
+    requires { ⌜ (length (now due) ≡ length (now e)) × (at + length (now e) ≤ length (now s)) ⌝ }
+    ensures { λ _. ⌜ now (e .exit) ≡ ored (now (e .entry)) (now (s .entry)) at (now (due .entry)) ⌝ }
 {
     let mut k = 0;
     while k < e.len() {
-        e[k] = e[k] | s[at + k];
+        e[k] = e[k] | (s[at + k] ^ due[k]);
         k += 1;
     }
 }
 
-// ANDs them.
-fn and_into(e: &mut [u8], s: &[u8], at: usize)
-    requires { ⌜ at + length (now e) ≤ length (now s) ⌝ }
-    ensures { λ _. ⌜ now (e .exit) ≡ anded (now (e .entry)) (now (s .entry)) at ⌝ }
-{
-    let mut k = 0;
-    while k < e.len() {
-        e[k] = e[k] & s[at + k];
-        k += 1;
-    }
-}
-
-// Whether two lists are the same from `from` on: all of it is looked at.
-fn same(a: &[u8], b: &[u8], from: usize) -> bool
-    requires { ⌜ length (now b) ≡ length (now a) ⌝ }
-    ensures { λ r. ⌜ r ≡ sameFrom (now (a .entry)) (now (b .entry)) from ⌝ }
+// Whether all bytes from `from` on are zero.
+fn zeros(s: &[u8], from: usize) -> bool
+    ensures { λ r. ⌜ r ≡ allOf (length (now (s .entry)) - from) (λ k. eqb (getD (now (s .entry)) (from + k) 0) 0) ⌝ }
 {
     let mut good = true;
     let mut k = from;
-    while k < a.len() {
-        good = good & (a[k] == b[k]);
+    while k < s.len() {
+        good = good & (s[k] == 0);
         k += 1;
     }
     good
 }
 
-// Whether no record has a fault, by the OR and the AND of all heads, which are both the label that is due only where each is, and the OR of
-// the own entries: nothing is decided before all are seen.
+// Whether no record has a fault, by the OR of the heads, where they differ from what is due, and of the own entries: nothing is decided
+// before all are seen.
 fn none_faulty(s: &[u8], n: usize, i: usize, count: usize) -> bool
     requires { ⌜ (n ≤ 8) × (i < n) ⌝ }
     requires { ⌜ count * lentLen n ≤ length (now s) ⌝ }
@@ -103,21 +90,19 @@ fn none_faulty(s: &[u8], n: usize, i: usize, count: usize) -> bool
 {
     let len = share::lent_len(n);
     let own = LABEL + share::mac_off(i);
-    let mut any = [0u8; LENT_HEAD];
-    let mut all = [255u8; LENT_HEAD];
+    let mut due = [0u8; LENT_HEAD];
+    share::put_lent_head(&mut due, n, i, false);
+    let none = [0u8; ENTRY];
+    let mut heads = [0u8; LENT_HEAD];
     let mut e = [0u8; ENTRY];
     let mut t = 0;
     while t < count {
         let at = t * len;
-        or_into(&mut any, s, at);
-        and_into(&mut all, s, at);
-        or_into(&mut e, s, at + own);
+        or_apart(&mut heads, s, at, &due);
+        or_apart(&mut e, s, at + own, &none);
         t += 1;
     }
-    let mut due = [0u8; LENT_HEAD];
-    share::put_lent_head(&mut due, n, i, false);
-    let none = [0u8; ENTRY];
-    (any[0] <= 1) & same(&any, &due, 1) & same(&all, &due, 1) & same(&e, &none, 0)
+    (heads[0] <= 1) & zeros(&heads, 1) & zeros(&e, 0)
 }
 
 // The first fault of party i's `count` records among n parties, record by record, else 0.
