@@ -52,7 +52,9 @@ pub fn put_label(record: &mut [u8], n: usize, i: usize) {
 /// Records as a box keeps them: bit and entries, without the label.
 pub fn kept(records: &[u8], n: usize) -> Vec<u8> {
     let records = records.chunks_exact(record_len(n));
-    records.flat_map(|record| std::iter::once(record[BIT_AT]).chain(record[HEAD..].iter().copied())).collect()
+    records
+        .flat_map(|record| std::iter::once(record[BIT_AT]).chain(record[HEAD..].iter().copied()))
+        .collect()
 }
 
 /// The bytes of such a record.
