@@ -17,8 +17,8 @@ extern "C" {
 /* A session: four numbers n, i, l and the round that is due, 0 once it is done or ended. The host keeps them between calls and changes none. */
 #define NUZSDIKE_SESSION 4
 
-/* An answer: 0 accepted; else the number of docs/REFUSALS.md, 1 to 22, in the low byte, and above it the party that it names. A round call whose session has
- * another length than 4 answers 20 and names no party: nobody gave one. */
+/* An answer: 0 accepted; else the number of docs/REFUSALS.md, 1 to 22, in the low byte, and above it the party that it names; 18 is reserved and no longer
+ * occurs. A round call whose session has another length than 4 answers 20 and names no party: nobody gave one. */
 #define NUZSDIKE_CODE(answer) ((unsigned)((answer) & 0xff))
 #define NUZSDIKE_PARTY(answer) ((uint64_t)(answer) >> 8)
 #define NUZSDIKE_NO_PARTY ((uint64_t)1 << 32)
@@ -43,14 +43,13 @@ uint64_t nuzsdike_open(uint32_t *session, size_t session_len, uint32_t n, uint32
 
 /* The call for a round, with the messages of the others: party k's lies in incoming from starts[k] on, lens[k] bytes and not one more (bytes after a
  * message's value are 21, and end the session); missing[k] other than 0 says that there is none. starts, lens and missing have n entries, the own one
- * is ignored. r and perm are empty but for the calls that nuzsdike_r_len and nuzsdike_perm_len tell. There r is all strings, nuzsdike_r_len bytes, or a
- * seed, NUZSDIKE_R_SEED bytes, from which the library draws them; whichever form a box is lent, the strings have to be the same at all boxes. Any other
- * length is 17, and so is a seed in another call. out: the messages of the next round, or the results after the last. */
+ * is ignored. r is empty but for the call that nuzsdike_r_len tells. There it is all strings, nuzsdike_r_len bytes, or a seed, NUZSDIKE_R_SEED bytes,
+ * from which the library draws them; whichever form a box is lent, the strings have to be the same at all boxes. Any other length is 17, and so is a
+ * seed in another call. out: the messages of the next round, or the results after the last. */
 uint64_t nuzsdike_round(uint32_t *session, size_t session_len, uint32_t round,
                         const uint8_t *incoming, size_t incoming_len, const size_t *starts, size_t starts_len,
                         const size_t *lens, size_t lens_len, const uint8_t *missing, size_t missing_len,
-                        const uint8_t *r, size_t r_len, const uint32_t *perm, size_t perm_len,
-                        uint8_t *work, size_t work_len, uint8_t *out, size_t out_len);
+                        const uint8_t *r, size_t r_len, uint8_t *work, size_t work_len, uint8_t *out, size_t out_len);
 
 /* Combines `count` triples of party i's records x, y, z (at most 5) into one, by count - 1 bytes d; a call by itself. */
 uint64_t nuzsdike_combine(uint32_t n, uint32_t i, uint32_t count, const uint8_t *triples, size_t triples_len,
@@ -65,13 +64,13 @@ size_t nuzsdike_shares_len(uint32_t n, uint32_t l);                  /* bytes of
 size_t nuzsdike_masks_len(uint32_t n, uint32_t l);                   /* bytes of the masks */
 size_t nuzsdike_pairs_len(uint32_t n);                               /* bytes of the pairwise seeds */
 size_t nuzsdike_r_len(uint32_t n, uint32_t l, uint32_t round);       /* bytes of r, lent with the call for that round; or a seed in its place */
-size_t nuzsdike_perm_len(uint32_t n, uint32_t l, uint32_t round);    /* numbers of the permutation, lent with that call */
 size_t nuzsdike_record_len(uint32_t n);                              /* bytes of a share record */
 uint32_t nuzsdike_bucket_size(uint32_t l);                           /* leaky ANDs for each AND */
 
 /* Where the tossed seeds start in the work area of a live session, 0 where opening would refuse n or l. The joint seed, 32 bytes and the same for all,
- * is there once the call for round 3 was accepted: take the seed of r from it (its first 16 bytes will do), and draw the permutation. The pairwise seeds,
- * nuzsdike_pairs_len(n) bytes by party, once the call for round 5 was. */
+ * is there once the call for round 3 was accepted: take the seed of r from it (its first 16 bytes will do). The library draws the permutation from it by
+ * itself (ChaCha20 of RFC 8439), in the call that writes `dvalue`. The pairwise seeds, nuzsdike_pairs_len(n) bytes by party, are there once the call for
+ * round 5 was accepted. */
 size_t nuzsdike_joint_seed_at(uint32_t n, uint32_t l);
 size_t nuzsdike_pairwise_seeds_at(uint32_t n, uint32_t l);
 

@@ -2,9 +2,11 @@
  * Round 5, which makes `fabitn`, beside the same sums in plain C, to which its messages are held. r is lent as strings, and as the seed that they are
  * drawn from, in turn.
  *   rounds N L TIMES [strings | seed]: the least of TIMES sessions for each call, in microseconds */
+#define _GNU_SOURCE
 #include <stdio.h>
 #include <stdlib.h>
 #include <string.h>
+#include <sys/mman.h>
 #include <time.h>
 #include "../../host/examples-c/record.h"
 #include "aes.h"
@@ -20,8 +22,13 @@ static uint64_t word(void) {
     state ^= state >> 12, state ^= state << 25, state ^= state >> 27;
     return state * 2685821657736338717u;
 }
+/* Large buffers in huge pages, as INTEGRATION asks of hosts: with LARGE_PAGES=0 in the environment in small ones. */
+enum { HUGE = 1 << 21 };
 static uint8_t *buffer(size_t len) {
-    uint8_t *p = malloc(len + 1);
+    const char *wanted = getenv("LARGE_PAGES");
+    void *p = 0;
+    if (len < HUGE || (wanted && *wanted == '0')) p = malloc(len + 1);
+    else if (posix_memalign(&p, HUGE, len + 1) || madvise(p, len + 1, MADV_HUGEPAGE)) p = 0;
     if (!p) exit((fputs("rounds: out of memory\n", stderr), 1));
     memset(p, 1, len + 1);
     return p;
@@ -35,6 +42,15 @@ static double now(void) {
     struct timespec t;
     clock_gettime(CLOCK_PROCESS_CPUTIME_ID, &t);
     return t.tv_sec * 1e6 + t.tv_nsec / 1e3;
+}
+
+/* With OTHER_MEMORY in the environment other memory is touched before each call, so that what a call needs is in no cache, as in a box that waits for its lines. */
+enum { OTHER = 400 << 20, LINE = 64 };
+static void touch_other(void) {
+    static uint8_t *other;
+    if (!getenv("OTHER_MEMORY")) return;
+    if (!other) other = buffer(OTHER);
+    for (size_t k = 0; k < OTHER; k += LINE) other[k]++;
 }
 
 static uint32_t n, l;
@@ -65,7 +81,7 @@ static int usage(void) {
 int main(int argc, char **argv) {
     if (argc != 4 && argc != 5) return usage();
     n = (uint32_t)strtoul(argv[1], 0, 10), l = (uint32_t)strtoul(argv[2], 0, 10);
-    size_t times = strtoul(argv[3], 0, 10), work_len = nuzsdike_work_len(n, l), most = nuzsdike_shares_len(n, l), r_len = 0, perm_len = 0;
+    size_t times = strtoul(argv[3], 0, 10), work_len = nuzsdike_work_len(n, l), most = nuzsdike_shares_len(n, l), r_len = 0;
     size_t first = 0, last = FORMS - 1;
     if (argc == 5) {
         while (first < FORMS && strcmp(argv[4], form_name[first])) first++;
@@ -75,7 +91,6 @@ int main(int argc, char **argv) {
     for (uint32_t k = 0; k <= LAST; k++) {
         if (nuzsdike_out_len(n, l, k) > most) most = nuzsdike_out_len(n, l, k);
         if (nuzsdike_r_len(n, l, k)) r_len = nuzsdike_r_len(n, l, k);
-        if (nuzsdike_perm_len(n, l, k)) perm_len = nuzsdike_perm_len(n, l, k);
     }
     size_t shares = nuzsdike_shares_len(n, l), bits_len = nuzsdike_bits_len(n, l), masks_len = nuzsdike_masks_len(n, l), pairs_len = nuzsdike_pairs_len(n);
     for (size_t i = 0; i < n; i++) {
@@ -87,11 +102,6 @@ int main(int argc, char **argv) {
     deal(bits, count), deal(alpha, l), deal(beta, l);
     uint8_t *r_seed = drawn(NUZSDIKE_R_SEED, 255), *r = buffer(r_len);
     aes_draw(r_seed, r, r_len / 16);
-    uint32_t *perm = malloc(4 * perm_len + 4);
-    for (size_t t = 0; t < perm_len; t++) {
-        size_t k = word() % (t + 1);
-        perm[t] = perm[k], perm[k] = (uint32_t)t;
-    }
     double least[FORMS][LAST + 1], plain = 1e18;
     for (size_t form = 0; form < FORMS; form++)
         for (size_t k = 0; k <= LAST; k++) least[form][k] = 1e18;
@@ -99,6 +109,7 @@ int main(int argc, char **argv) {
         size_t form = first + turn % (last - first + 1);
         uint32_t session[MOST][NUZSDIKE_SESSION];
         for (uint32_t i = 0; i < n; i++) {
+            touch_other();
             double t = now();
             uint64_t a = nuzsdike_open(session[i], NUZSDIKE_SESSION, n, i, l, delta[i], 16, seed[i], 32, pairs[i], pairs_len, bits[i], bits_len, alpha[i], shares, beta[i], shares,
                                        masks[i], masks_len, work[i], work_len, out[i], nuzsdike_out_len(n, l, 0));
@@ -117,9 +128,10 @@ int main(int argc, char **argv) {
                     starts[j] = j * len, lens[j] = len;
                     if (j != i) memcpy(in + j * len, sent[j] + (i < j ? i : i - 1) * len, len);
                 }
+                touch_other();
                 double t = now();
-                uint64_t a = nuzsdike_round(session[i], NUZSDIKE_SESSION, k, in, n * len, starts, n, lens, n, missing, n, lent, lent_len, perm, nuzsdike_perm_len(n, l, k),
-                                            work[i], work_len, out[i], nuzsdike_out_len(n, l, k));
+                uint64_t a = nuzsdike_round(session[i], NUZSDIKE_SESSION, k, in, n * len, starts, n, lens, n, missing, n, lent, lent_len, work[i], work_len, out[i],
+                                            nuzsdike_out_len(n, l, k));
                 t = now() - t;
                 if (a) return fprintf(stderr, "round %u refused: %u\n", k, NUZSDIKE_CODE(a)), 1;
                 if (!i && t < least[form][k]) least[form][k] = t;

@@ -1,6 +1,6 @@
 /* Two boxes in one process, on the C interface alone: what a host has to do, with a dealer in place of oblivious transfer and memory in place
- * of a network. The two sessions share nothing but the messages; each box takes the seed of r, and draws the permutation, both public, from the tossed
- * joint seed. The library draws r itself.
+ * of a network. The two sessions share nothing but the messages; each box takes the seed of r, which is public, from the tossed joint seed. The library
+ * draws r from it, and the permutation from the joint seed.
  *
  *   cc -O2 -Iinclude -o two host/examples-c/two.c target/staticlib/libnuzsdike.a && ./two [L]
  */
@@ -16,7 +16,7 @@ enum { N = 2 };
 /* What a box brings along, and what it has during a session. */
 struct box {
     uint8_t delta[16], seed[32], *pairs, *bits, *alpha, *beta, *masks; /* secret, fresh for each session */
-    uint32_t session[NUZSDIKE_SESSION], *perm;
+    uint32_t session[NUZSDIKE_SESSION];
     uint8_t *work, *out, *in, r[NUZSDIKE_R_SEED]; /* in: the other's message, copied as a network would */
 };
 
@@ -49,18 +49,6 @@ static void deal(struct box *box, uint8_t *list[N], size_t count) {
         }
 }
 
-/* The seed of r and the permutation from the joint seed. For the permutation a box takes a cipher keyed with all of it. */
-static void draw(struct box *p, uint32_t l, size_t perm_len) {
-    const uint8_t *joint_seed = p->work + nuzsdike_joint_seed_at(N, l);
-    memcpy(p->r, joint_seed, sizeof p->r);
-    memcpy(&state, joint_seed, sizeof state);
-    for (size_t t = 0; t < perm_len; t++) { /* a shuffle, inside out */
-        size_t k = ((size_t)byte() << 16 | (size_t)byte() << 8 | byte()) % (t + 1);
-        p->perm[t] = p->perm[k];
-        p->perm[k] = (uint32_t)t;
-    }
-}
-
 static void refused(uint64_t answer, uint32_t box, uint32_t round) {
     char name[17] = {0};
     for (size_t k = 0; k < 16; k++) name[k] = (char)nuzsdike_round_name(round, k);
@@ -82,11 +70,9 @@ int main(int argc, char **argv) {
     struct box box[N];
     uint8_t *bits[N], *alpha[N], *beta[N];
     size_t bits_len = nuzsdike_bits_len(N, l), shares_len = nuzsdike_shares_len(N, l), masks_len = nuzsdike_masks_len(N, l);
-    size_t most = nuzsdike_out_len(N, l, 0), perm_len = 0; /* most: the longest message, or the results */
-    for (uint32_t k = 1; k; k = nuzsdike_next_round(N, k)) {
+    size_t most = nuzsdike_out_len(N, l, 0); /* the longest message, or the results */
+    for (uint32_t k = 1; k; k = nuzsdike_next_round(N, k))
         if (nuzsdike_out_len(N, l, k) > most) most = nuzsdike_out_len(N, l, k);
-        perm_len += nuzsdike_perm_len(N, l, k);
-    }
 
     for (size_t i = 0; i < N; i++) {
         struct box *p = &box[i];
@@ -101,7 +87,6 @@ int main(int argc, char **argv) {
         p->work = buffer(work_len);
         p->out = buffer(most);
         p->in = buffer(most);
-        p->perm = (uint32_t *)buffer(4 * perm_len);
     }
     deal(box, bits, bits_len / record);
     deal(box, alpha, l);
@@ -119,12 +104,12 @@ int main(int argc, char **argv) {
         for (size_t i = 0; i < N; i++) memcpy(box[1 - i].in, box[i].out, len); /* the network */
         for (uint32_t i = 0; i < N; i++) {
             size_t r_len = nuzsdike_r_len(N, l, round) ? NUZSDIKE_R_SEED : 0; /* a seed in the place of so many bytes */
-            if (r_len) draw(&box[i], l, perm_len); /* round 3 was accepted: the joint seed is there */
+            /* round 3 was accepted: the joint seed is there */
+            if (r_len) memcpy(box[i].r, box[i].work + nuzsdike_joint_seed_at(N, l), r_len);
             size_t starts[N] = {0}, lens[N] = {len, len}; /* one incoming message; the own entry is ignored */
             uint8_t missing[N] = {0};
             uint64_t answer = nuzsdike_round(box[i].session, NUZSDIKE_SESSION, round, box[i].in, len, starts, N, lens, N, missing, N, box[i].r, r_len,
-                                             box[i].perm, nuzsdike_perm_len(N, l, round), box[i].work, work_len, box[i].out,
-                                             nuzsdike_out_len(N, l, round));
+                                             box[i].work, work_len, box[i].out, nuzsdike_out_len(N, l, round));
             if (answer) refused(answer, i, round);
         }
     }

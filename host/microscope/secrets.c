@@ -8,9 +8,10 @@
  * Before N, `strings` lends r as strings; else it is a seed, from which the library draws.
  *
  * Secret: delta, the seeds of the tosses, the bits, MACs and keys of share records, and the masks. Public: n, i, l, and so records' labels;
- * r in either form (bytes of a seed are indices of AES' tables, and may be), the permutation, and what is on the line. So what a call wrote
- * to the outgoing buffer is declared defined before it is carried over; the results stay undefined but for their labels, and are looked at
- * by nobody.
+ * r in either form (bytes of a seed are indices of AES' tables, and may be), and what is on the line. So what a call wrote to the outgoing
+ * buffer is declared defined before it is carried over; the results stay undefined but for their labels, and are looked at by nobody. The
+ * joint seed is public too, once a box has accepted round 3: all boxes opened their seeds there and know it. In the work area it is declared
+ * defined then, and so are the words that the library draws from it and the permutation: these may decide jumps and addresses.
  */
 #include <stdio.h>
 #include <stdlib.h>
@@ -20,7 +21,7 @@
 #include "../examples-c/record.h"
 #include "nuzsdike.h"
 
-enum { MOST = 8 };
+enum { MOST = 8, TOSSED = 3, JOINT_SEED = 32 }; /* the round whose call tosses the joint seed, and its bytes */
 
 static uint64_t state = 1;
 static uint8_t byte(void) {
@@ -111,12 +112,10 @@ int main(int argc, char **argv) {
         return 2;
     }
     size_t bits_len = nuzsdike_bits_len(n, l), shares_len = nuzsdike_shares_len(n, l), masks_len = nuzsdike_masks_len(n, l);
-    size_t pairs_len = nuzsdike_pairs_len(n), r_len = 0, perm_len = 0;
-    for (uint32_t k = 1; k; k = nuzsdike_next_round(n, k)) r_len += nuzsdike_r_len(n, l, k), perm_len += nuzsdike_perm_len(n, l, k);
+    size_t pairs_len = nuzsdike_pairs_len(n), r_len = 0;
+    for (uint32_t k = 1; k; k = nuzsdike_next_round(n, k)) r_len += nuzsdike_r_len(n, l, k);
     uint8_t *r = random_bytes(r_len), *delta[MOST], *seed[MOST], *pairs[MOST], *masks[MOST], *bits[MOST], *alpha[MOST], *beta[MOST], *work[MOST], *out[MOST];
-    uint32_t *perm = (uint32_t *)buffer(4 * perm_len);
     uint32_t session[MOST][NUZSDIKE_SESSION];
-    for (size_t t = 0; t < perm_len; t++) perm[t] = (uint32_t)(perm_len - 1 - t);
     for (size_t i = 0; i < n; i++) {
         delta[i] = random_bytes(16), seed[i] = random_bytes(32), pairs[i] = random_bytes(pairs_len), masks[i] = random_bytes(masks_len);
         for (size_t k = 0; k < masks_len; k++) masks[i][k] &= 1;
@@ -157,9 +156,10 @@ int main(int argc, char **argv) {
             if (lent && !strings) lent = NUZSDIKE_R_SEED;
             VALGRIND_PRINTF("CALL round %u\n", round);
             uint64_t answer = nuzsdike_round(session[i], NUZSDIKE_SESSION, round, incoming[i], n * len, starts, n, lens, n, missing, n, r,
-                                             lent, perm, nuzsdike_perm_len(n, l, round), work[i], work_len, next[i], out_len);
+                                             lent, work[i], work_len, next[i], out_len);
             VALGRIND_PRINTF("CALL none\n");
             show(&answer, sizeof answer), show(session[i], sizeof session[i]);
+            if (round == TOSSED && !answer) show(work[i] + nuzsdike_joint_seed_at(n, l), JOINT_SEED);
             if (answer) printf("round %u: box %u refuses %u, naming %llu\n", round, i, NUZSDIKE_CODE(answer), (unsigned long long)NUZSDIKE_PARTY(answer)), refused = 1;
         }
         if (refused) return flip ? 0 : 1;

@@ -1,7 +1,7 @@
 //! A dealer: honest inputs for demos and tests, in the place of oblivious transfer.
 //!
 //! It knows every box's secrets, and its generator is no cryptographic one. A deployment makes delta, seeds and masks from its own
-//! randomness, the share records by oblivious transfer with the other boxes, and the permutation from the tossed joint seed, as the boxes do r.
+//! randomness, and the share records by oblivious transfer with the other boxes.
 
 use std::io::{self, Write};
 
@@ -23,10 +23,6 @@ impl Generator {
         z ^ z >> 31
     }
 
-    pub fn below(&mut self, bound: usize) -> usize {
-        ((u128::from(self.word()) * bound as u128) >> 64) as usize
-    }
-
     pub fn fill(&mut self, bytes: &mut [u8]) {
         for chunk in bytes.chunks_mut(8) {
             chunk.copy_from_slice(&self.word().to_le_bytes()[..chunk.len()]);
@@ -46,9 +42,8 @@ impl Generator {
     }
 }
 
-/// Deals a session: to each box its inputs, in the format of files.rs, and to all of them what they have in common. It writes as it goes and
-/// holds no more than a record in memory.
-pub fn deal<W: Write>(plan: Plan, seed: u64, boxes: &mut [W], common: &mut impl Write) -> io::Result<()> {
+/// Deals a session: to each box its inputs, in the format of files.rs. It writes as it goes and holds no more than a record in memory.
+pub fn deal<W: Write>(plan: Plan, seed: u64, boxes: &mut [W]) -> io::Result<()> {
     let Plan { n, l } = plan;
     assert!(boxes.len() == n && plan.work_len() != 0, "no session has {n} boxes and {l} ANDs");
     // n and l enter too, so that no two sizes share their values.
@@ -66,15 +61,6 @@ pub fn deal<W: Write>(plan: Plan, seed: u64, boxes: &mut [W], common: &mut impl 
     }
     for count in [plan.bits_len() / record_len(n), l, l] {
         deal_shares(&mut g, &deltas, count, boxes)?;
-    }
-
-    files::Header { kind: files::Kind::Common, n, i: 0, l, id }.write(common)?;
-    let mut perm: Vec<u32> = (0..plan.perm_total() as u32).collect();
-    for t in (1..perm.len()).rev() {
-        perm.swap(t, g.below(t + 1));
-    }
-    for entry in perm {
-        common.write_all(&entry.to_le_bytes())?;
     }
     Ok(())
 }
@@ -103,13 +89,11 @@ fn deal_shares<W: Write>(g: &mut Generator, deltas: &[[u8; 16]], count: usize, b
     Ok(())
 }
 
-/// A deal in memory, for tests: the boxes' inputs, and what they have in common.
-pub fn deal_in_memory(plan: Plan, seed: u64) -> (Vec<Inputs>, files::Common) {
+/// A deal in memory, for tests: the boxes' inputs.
+pub fn deal_in_memory(plan: Plan, seed: u64) -> Vec<Inputs> {
     let mut boxes = vec![vec![]; plan.n];
-    let mut common = vec![];
-    deal(plan, seed, &mut boxes, &mut common).expect("memory takes all");
-    let inputs = boxes.iter().map(|bytes| files::read_inputs(&mut &bytes[..]).expect("as written").1).collect();
-    (inputs, files::read_common(&mut &common[..]).expect("as written").1)
+    deal(plan, seed, &mut boxes).expect("memory takes all");
+    boxes.iter().map(|bytes| files::read_inputs(&mut &bytes[..]).expect("as written").1).collect()
 }
 
 #[cfg(test)]
@@ -126,7 +110,7 @@ mod tests {
     fn dealt_shares_keep_the_mac_rule() {
         for n in [2, 3, 8] {
             let plan = Plan::new(n, 4);
-            let (boxes, _) = deal_in_memory(plan, 7);
+            let boxes = deal_in_memory(plan, 7);
             type List = fn(&Inputs) -> &Vec<u8>;
             for list in [(|b| &b.bits) as List, |b| &b.alpha, |b| &b.beta] {
                 let len = record_len(n);
@@ -153,17 +137,8 @@ mod tests {
     #[test]
     fn a_seed_fixes_the_deal_and_another_changes_it() {
         let plan = Plan::new(3, 2);
-        let deal = |seed| deal_in_memory(plan, seed).0.remove(1).bits.clone();
+        let deal = |seed| deal_in_memory(plan, seed).remove(1).bits.clone();
         assert!(deal(1) == deal(1));
         assert!(deal(1) != deal(2));
-    }
-
-    #[test]
-    fn the_permutation_is_one() {
-        let (_, common) = deal_in_memory(Plan::new(2, 50), 3);
-        let mut sorted = common.perm.clone();
-        sorted.sort();
-        assert!(sorted != common.perm);
-        assert!(sorted.iter().enumerate().all(|(t, entry)| t == *entry as usize));
     }
 }

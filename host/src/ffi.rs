@@ -53,8 +53,6 @@ unsafe extern "C" {
         missing_len: usize,
         r: *const u8,
         r_len: usize,
-        perm: *const u32,
-        perm_len: usize,
         work: *mut u8,
         work_len: usize,
         out: *mut u8,
@@ -81,7 +79,6 @@ unsafe extern "C" {
     pub fn nuzsdike_masks_len(n: u32, l: u32) -> usize;
     pub fn nuzsdike_pairs_len(n: u32) -> usize;
     pub fn nuzsdike_r_len(n: u32, l: u32, round: u32) -> usize;
-    pub fn nuzsdike_perm_len(n: u32, l: u32, round: u32) -> usize;
     pub fn nuzsdike_record_len(n: u32) -> usize;
     pub fn nuzsdike_bucket_size(l: u32) -> u32;
     pub fn nuzsdike_joint_seed_at(n: u32, l: u32) -> usize;

@@ -1,7 +1,7 @@
-//! Files of the demo: a box's inputs, what all boxes have in common, and results. A deployment keeps its inputs elsewhere.
+//! Files of the demo: a box's inputs, and its results. A deployment keeps its inputs elsewhere.
 //!
 //! A file is a header (16 bytes of kind, then n, i and l as 8 bytes each, low byte first, then 16 bytes that name the deal) and the lists one
-//! after another, as long as the library says: delta, seed, pairs, masks, bits, alpha, beta; the permutation; the results.
+//! after another, as long as the library says: delta, seed, pairs, masks, bits, alpha, beta; or the results.
 
 use std::{
     fs::{self, File, OpenOptions},
@@ -15,7 +15,6 @@ use crate::{Inputs, Plan};
 #[derive(Clone, Copy, Debug, PartialEq, Eq)]
 pub enum Kind {
     Inputs,
-    Common,
     Results,
 }
 
@@ -23,7 +22,6 @@ impl Kind {
     fn magic(self) -> &'static [u8; 16] {
         match self {
             Kind::Inputs => b"nuzsdike inputs\n",
-            Kind::Common => b"nuzsdike common\n",
             Kind::Results => b"nuzsdike result\n",
         }
     }
@@ -33,7 +31,6 @@ impl Kind {
 pub struct Header {
     pub kind: Kind,
     pub n: usize,
-    /// 0 where all boxes have the file.
     pub i: usize,
     pub l: usize,
     pub id: [u8; 16],
@@ -64,11 +61,6 @@ impl Header {
     pub fn plan(&self) -> Plan {
         Plan::new(self.n, self.l)
     }
-}
-
-/// What all boxes have in common and do not toss: lent with the call that asks for it.
-pub struct Common {
-    pub perm: Vec<u32>,
 }
 
 fn bad(why: String) -> io::Error {
@@ -104,14 +96,6 @@ pub fn read_inputs(file: &mut impl Read) -> io::Result<(Header, Inputs)> {
     let (alpha, beta) = (list(file, plan.shares_len())?, list(file, plan.shares_len())?);
     end(file)?;
     Ok((header, Inputs { delta, seed, pairs, bits, alpha, beta, masks }))
-}
-
-pub fn read_common(file: &mut impl Read) -> io::Result<(Header, Common)> {
-    let header = Header::read(file, Kind::Common)?;
-    let perm = list(file, 4 * header.plan().perm_total())?;
-    let perm = perm.chunks_exact(4).map(|entry| u32::from_le_bytes(entry.try_into().unwrap())).collect();
-    end(file)?;
-    Ok((header, Common { perm }))
 }
 
 pub fn read_results(file: &mut impl Read) -> io::Result<(Header, Vec<u8>)> {

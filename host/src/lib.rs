@@ -9,7 +9,7 @@
 //!     // send outgoing.to(k) to every other box k; gather the others' messages of the round that is due
 //!     let mut mail = Mail::new(plan, i, session.due());
 //!     ...
-//!     match session.round(&mail, lent)? {
+//!     match session.round(&mail, r)? {
 //!         Step::Send(next) => outgoing = next,
 //!         Step::Done(results) => break,
 //!     }
@@ -130,11 +130,6 @@ impl Plan {
         unsafe { ffi::nuzsdike_r_len(ffi::number(self.n), ffi::number(self.l), ffi::number(round)) }
     }
 
-    /// The numbers of the permutation to lend with the call for a round.
-    pub fn perm_len(self, round: usize) -> usize {
-        unsafe { ffi::nuzsdike_perm_len(ffi::number(self.n), ffi::number(self.l), ffi::number(round)) }
-    }
-
     /// How many leaky ANDs make one AND.
     pub fn bucket_size(self) -> usize {
         unsafe { ffi::nuzsdike_bucket_size(ffi::number(self.l)) as usize }
@@ -162,11 +157,6 @@ impl Plan {
     /// All of r, whichever call it is lent with.
     pub fn r_total(self) -> usize {
         self.rounds().into_iter().map(|round| self.r_len(round)).sum()
-    }
-
-    /// The whole permutation, l times the bucket size.
-    pub fn perm_total(self) -> usize {
-        self.rounds().into_iter().map(|round| self.perm_len(round)).sum()
     }
 
     /// The bytes of the messages that a box sends in a session, and receives.
@@ -314,14 +304,6 @@ pub enum Form {
     Strings,
 }
 
-/// What is lent with some calls, the same at every box; both are public. Empty unless `Plan::r_len` and `Plan::perm_len` ask for them.
-/// r is a seed or the strings that it draws.
-#[derive(Clone, Copy, Default)]
-pub struct Lent<'a> {
-    pub r: &'a [u8],
-    pub perm: &'a [u32],
-}
-
 /// What an accepted round call gives.
 pub enum Step {
     /// The messages of the next round.
@@ -341,7 +323,7 @@ pub struct Session {
 impl Session {
     /// Opens a session for box i, and gives the messages of round 1. The inputs are copied to the work area and may be dropped.
     pub fn open(plan: Plan, i: usize, inputs: &Inputs) -> Result<(Session, Outgoing), Refusal> {
-        let mut session = Session { plan, i, state: [0; ffi::SESSION], work: vec![0; plan.work_len()] };
+        let mut session = Session { plan, i, state: [0; ffi::SESSION], work: sys::work_area(plan.work_len()) };
         let outgoing = session.open_again(plan, i, inputs)?;
         Ok((session, outgoing))
     }
@@ -385,8 +367,9 @@ impl Session {
         Ok(Outgoing { round: self.due(), n: plan.n, i, bytes })
     }
 
-    /// The call for the round of `mail`. Where it is refused the session may be over (`Refusal::over`), or as it was before.
-    pub fn round(&mut self, mail: &Mail, lent: Lent) -> Result<Step, Refusal> {
+    /// The call for the round of `mail`. r is empty unless `Plan::r_len` asks for it; then it is a seed or the strings that it draws, the same at
+    /// every box, and public. Where the call is refused the session may be over (`Refusal::over`), or as it was before.
+    pub fn round(&mut self, mail: &Mail, r: &[u8]) -> Result<Step, Refusal> {
         let round = mail.round;
         let mut bytes = vec![0; self.plan.out_len(round)];
         // Sound: as in `open`.
@@ -403,10 +386,8 @@ impl Session {
                 mail.lens.len(),
                 mail.missing.as_ptr(),
                 mail.missing.len(),
-                lent.r.as_ptr(),
-                lent.r.len(),
-                lent.perm.as_ptr(),
-                lent.perm.len(),
+                r.as_ptr(),
+                r.len(),
                 self.work.as_mut_ptr(),
                 self.work.len(),
                 bytes.as_mut_ptr(),
@@ -436,7 +417,8 @@ impl Session {
         self.i
     }
 
-    /// The joint seed, the same at every box, once round 3 was accepted: the seed of r and the permutation are to be taken from it.
+    /// The joint seed, the same at every box, once round 3 was accepted: the seed of r is to be taken from it. The library draws the permutation
+    /// from it by itself.
     pub fn joint_seed(&self) -> &[u8] {
         &self.work[self.plan.joint_seed_at()..][..32]
     }

@@ -24,7 +24,7 @@ const REASONS: [(&str, &str); 22] = [
     ("BadParty", "n is not from 2 to 8, or i is not below n"),
     ("TooMany", "l is above 300,000, or a bucket above 5"),
     ("BadBuffer", "a lent buffer has another length than is due"),
-    ("NotAPermutation", "the list lent is no permutation"),
+    ("NotAPermutation", "reserved, and no longer occurs: no permutation is lent"),
     ("NotDue", "another round is due"),
     ("SessionOver", "the session is done or ended"),
     ("BytesAfterValue", "a message has bytes after its value"),

@@ -1,4 +1,4 @@
-//! What the standard library has no call for: waiting for several lines at once, and a process's CPU time and memory. Linux.
+//! What the standard library has no call for: waiting for several lines at once, huge pages, and a process's CPU time and memory. Linux.
 
 use std::{
     fs,
@@ -23,11 +23,25 @@ struct Timespec {
 extern "C" {
     fn poll(fds: *mut PollFd, count: u64, timeout: i32) -> i32;
     fn clock_gettime(clock: i32, time: *mut Timespec) -> i32;
+    fn madvise(start: *mut u8, len: usize, advice: i32) -> i32;
 }
 
 const IN: i16 = 1;
 const OUT: i16 = 4;
 const CLOCK_PROCESS_CPUTIME_ID: i32 = 2;
+const MADV_HUGEPAGE: i32 = 14;
+const HUGE_PAGE: usize = 1 << 21;
+
+/// Zeros for a work area, in huge pages as far as they fit: a large session takes its records from all over it (docs/INTEGRATION.md). It is advice: where
+/// the system doesn't take it the pages are small ones.
+pub fn work_area(len: usize) -> Vec<u8> {
+    let mut bytes = vec![0; len];
+    let skipped = bytes.as_ptr().align_offset(HUGE_PAGE);
+    if let Some(rest) = bytes.get_mut(skipped..) {
+        unsafe { madvise(rest.as_mut_ptr(), rest.len() / HUGE_PAGE * HUGE_PAGE, MADV_HUGEPAGE) };
+    }
+    bytes
+}
 
 /// What to wait for, and what came.
 #[derive(Clone, Copy)]

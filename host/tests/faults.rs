@@ -473,8 +473,6 @@ fn two_boxes_at_one_address() {
         .args(["--listen", &address.to_string(), "--peers", "-"])
         .arg("--inputs")
         .arg(deal.inputs(0))
-        .arg("--common")
-        .arg(deal.common())
         .arg("--results")
         .arg(deal.folder.join("none"))
         .output()

@@ -3,7 +3,7 @@
 
 mod raw;
 
-use nuzsdike_host::{dealer, files::Common, Plan};
+use nuzsdike_host::{dealer, Plan};
 use raw::{ffi, split, Answer, State, MARK};
 
 /// A message for a box, or none.
@@ -12,19 +12,18 @@ type Letter = Option<Vec<u8>>;
 /// All boxes of a session, before the calls for a round.
 struct Boxes {
     plan: Plan,
-    common: Common,
     states: Vec<State>,
 }
 
 impl Boxes {
     fn new(n: usize, l: usize, seed: u64) -> Self {
         let plan = Plan::new(n, l);
-        let (inputs, common) = dealer::deal_in_memory(plan, seed);
+        let inputs = dealer::deal_in_memory(plan, seed);
         let mut states = vec![State::new(plan); n];
         for (i, state) in states.iter_mut().enumerate() {
             assert_eq!(state.open(plan, i, &inputs[i]), (0, 0));
         }
-        Boxes { plan, common, states }
+        Boxes { plan, states }
     }
 
     fn due(state: &State) -> usize {
@@ -58,7 +57,6 @@ impl Boxes {
         // Sound: takes numbers.
         let joint_seed = unsafe { ffi::nuzsdike_joint_seed_at(ffi::number(self.plan.n), ffi::number(self.plan.l)) };
         let r = if self.plan.r_len(round) != 0 { state.work[joint_seed..][..ffi::R_SEED].to_vec() } else { vec![] };
-        let perm = if self.plan.perm_len(round) != 0 { &self.common.perm[..] } else { &[] };
         state.out = vec![MARK; self.plan.out_len(round)];
         // Sound: pointers and counts are those of slices that outlive the call, and what is written overlaps nothing.
         split(unsafe {
@@ -76,8 +74,6 @@ impl Boxes {
                 missing.len(),
                 r.as_ptr(),
                 r.len(),
-                perm.as_ptr(),
-                perm.len(),
                 state.work.as_mut_ptr(),
                 state.work.len(),
                 state.out.as_mut_ptr(),

@@ -19,7 +19,7 @@ const CHOICES: [&[List]; 4] = [&LISTS, &[LISTS[0]], &[LISTS[1]], &[LISTS[2]]];
 const FAULTS: [u8; 3] = [1, 22, 4];
 
 fn deal(plan: Plan) -> Vec<Inputs> {
-    dealer::deal_in_memory(plan, 80).0
+    dealer::deal_in_memory(plan, 80)
 }
 
 /// Box i's inputs, changed.

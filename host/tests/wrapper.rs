@@ -1,18 +1,18 @@
 //! The wrapper: lengths, sessions in memory, and each refusal that a host can bring about.
 
+mod drawn;
+
+use drawn::drawn;
 use nuzsdike_host::{
     check::{self, Checked, Outputs},
-    combine, dealer,
-    files::Common,
-    key_at, mac_at, record_head, record_len, round_name, round_title, Call, Form, Inputs, Lent, Mail, Outgoing, Plan, Reason, Refusal,
-    Session, Step, R_SEED,
+    combine, dealer, key_at, mac_at, record_head, record_len, round_name, round_title, Call, Form, Inputs, Mail, Outgoing, Plan, Reason,
+    Refusal, Session, Step,
 };
 
 /// All boxes of a session in memory, in step.
 struct Run {
     plan: Plan,
     inputs: Vec<Inputs>,
-    common: Common,
     /// How each box lends r.
     forms: Vec<Form>,
     sessions: Vec<Session>,
@@ -22,10 +22,10 @@ struct Run {
 impl Run {
     fn new(n: usize, l: usize, seed: u64) -> Self {
         let plan = Plan::new(n, l);
-        let (inputs, common) = dealer::deal_in_memory(plan, seed);
+        let inputs = dealer::deal_in_memory(plan, seed);
         let open = |(i, inputs)| Session::open(plan, i, inputs).unwrap_or_else(|refusal| panic!("{refusal}"));
         let (sessions, outgoing) = inputs.iter().enumerate().map(open).unzip();
-        Run { plan, inputs, common, forms: vec![Form::Seed; n], sessions, outgoing }
+        Run { plan, inputs, forms: vec![Form::Seed; n], sessions, outgoing }
     }
 
     /// What box i is to be given for the round that is due.
@@ -44,8 +44,7 @@ impl Run {
 
     /// The call with this r.
     fn call_with(&mut self, i: usize, mail: &Mail, r: &[u8]) -> Result<Step, Refusal> {
-        let perm = if self.plan.perm_len(mail.round()) != 0 { &self.common.perm[..] } else { &[] };
-        self.sessions[i].round(mail, Lent { r, perm })
+        self.sessions[i].round(mail, r)
     }
 
     /// Carries out the round that is due; gives the results after the last.
@@ -134,8 +133,6 @@ fn lengths_are_those_of_the_documents() {
             assert_eq!(plan.pairs_len(), 32 * n);
             assert_eq!(plan.r_total(), 120 * 16 * (3 * lb + 160).div_ceil(128));
             assert_eq!((plan.r_len(5), plan.r_len(6), plan.r_len(0)), (plan.r_total(), 0, 0));
-            assert_eq!(plan.perm_total(), lb);
-            assert_eq!(plan.perm_len(if n == 2 { 19 } else { 20 }), lb);
             assert_eq!(plan.message_len(14), 8 + 2 * lb);
             assert_eq!(plan.message_len(17), 8 + 32 * lb);
             assert_eq!(plan.message_len(21), 8 + l * (16 + 17 * (b - 1)));
@@ -179,7 +176,7 @@ fn rounds_have_order_and_names() {
 #[test]
 fn opening_refuses() {
     let plan = Plan::new(3, 2);
-    let deal = || dealer::deal_in_memory(plan, 3).0.remove(1);
+    let deal = || dealer::deal_in_memory(plan, 3).remove(1);
     let open = |plan, i, inputs: &Inputs| Session::open(plan, i, inputs).map(drop);
     assert!(open(plan, 1, &deal()).is_ok());
     for n in [0, 1, 9] {
@@ -207,7 +204,7 @@ fn opening_refuses() {
     refused(with(|inputs| inputs.bits[record_len(3) + mac_at(1)] = 1), 4, 1, true);
     refused(with(|inputs| inputs.masks[0] = 3), 1, 1, true);
     // The own masks are neither used nor checked.
-    let lb = plan.perm_total();
+    let lb = plan.l * plan.bucket_size();
     let mut inputs = deal();
     inputs.masks[lb..2 * lb].fill(9);
     assert!(open(plan, 1, &inputs).is_ok());
@@ -218,25 +215,19 @@ fn opening_refuses() {
 fn a_hosts_mistakes_leave_the_session() {
     let mut run = Run::new(3, 2, 4).until(5);
     let mail = run.mail(0);
-    // Without r, and with a permutation that is not due.
-    refused(run.sessions[0].round(&mail, Lent::default()), 17, 0, false);
-    let (r, perm) = (run.sessions[0].r(Form::Strings), run.common.perm.clone());
-    refused(run.sessions[0].round(&mail, Lent { r: &r, perm: &perm }), 17, 0, false);
-    refused(run.sessions[0].round(&mail, Lent { r: &r[..R_SEED], perm: &perm }), 17, 0, false);
+    // Without r.
+    refused(run.call_with(0, &mail, &[]), 17, 0, false);
     refused(run.call(0, &Mail::new(Plan::new(3, 2), 0, 6)), 19, 0, false);
     refused(run.call(0, &Mail::new(Plan::new(3, 2), 0, 0)), 19, 0, false);
     assert_eq!(run.sessions[0].due(), 5);
     assert!(run.call(0, &mail).is_ok());
 
+    // The call that draws the permutation is lent nothing: no seed either.
     let mut run = Run::new(3, 2, 4).until(20);
     let mail = run.mail(2);
-    let mut twice = run.common.perm.clone();
-    twice[0] = twice[1];
-    refused(run.sessions[2].round(&mail, Lent { r: &[], perm: &twice }), 18, 2, false);
-    let mut outside = run.common.perm.clone();
-    outside[3] = outside.len() as u32;
-    refused(run.sessions[2].round(&mail, Lent { r: &[], perm: &outside }), 18, 2, false);
-    refused(run.sessions[2].round(&mail, Lent::default()), 17, 2, false);
+    let seed = run.sessions[2].r_seed();
+    refused(run.call_with(2, &mail, &seed), 17, 2, false);
+    refused(run.call(2, &Mail::new(Plan::new(3, 2), 2, 21)), 19, 2, false);
     assert!(run.call(2, &mail).is_ok());
 }
 
@@ -347,9 +338,9 @@ fn a_refused_opening_leaves_a_live_session() {
         let mut run = Run::new(n, 2, 11);
         let results = loop {
             let round = run.sessions[1].due();
-            let (again, work) = (dealer::deal_in_memory(run.plan, 12).0, run.sessions[1].work().to_vec());
+            let (again, work) = (dealer::deal_in_memory(run.plan, 12), run.sessions[1].work().to_vec());
             let mut bad = |plan: Plan, i, change: fn(&mut Inputs), number| {
-                let mut inputs = dealer::deal_in_memory(run.plan, 12).0.remove(1);
+                let mut inputs = dealer::deal_in_memory(run.plan, 12).remove(1);
                 change(&mut inputs);
                 refused(run.sessions[1].open_again(plan, i, &inputs), number, i, false);
                 assert!(run.sessions[1].due() == round && run.sessions[1].work() == work);
@@ -398,6 +389,34 @@ fn boxes_share_the_tossed_seeds() {
         assert!(pairwise(i, k).iter().any(|byte| *byte != 0) && pairwise(i, k) == pairwise(k, i));
     }
     assert_ne!(pairwise(0, 1), pairwise(0, 2));
+}
+
+/// The permutation that a box keeps: PERM of docs/WORK_AREA.md. Behind it stand DS, TRIPLES, PENDING and HASHES.
+fn kept_permutation(session: &Session) -> Vec<u32> {
+    let (Plan { n, l }, b) = (session.plan(), session.plan().bucket_size());
+    let behind = l * (b - 1) + l * 2 * (1 + 32 * n) + 2 + n * 16;
+    let end = session.work().len() - behind;
+    session.work()[end - 4 * l * b..end].chunks_exact(4).map(|entry| u32::from_le_bytes(entry.try_into().unwrap())).collect()
+}
+
+/// The call that writes `dvalue`, and none before it, draws the permutation: what the joint seed gives, the same at all boxes.
+#[test]
+fn boxes_draw_the_permutation_from_the_joint_seed() {
+    for (n, l) in [(2, 1), (3, 7), (8, 2), (2, 204), (2, 205), (2, 3_100)] {
+        let mut run = Run::new(n, l, 19).until(if n == 2 { 19 } else { 20 });
+        let seed: [u8; 32] = run.sessions[0].joint_seed().try_into().unwrap();
+        let due = drawn(&seed, l * run.plan.bucket_size());
+        assert!(run.sessions.iter().all(|session| session.joint_seed() == seed));
+        assert!(run.sessions.iter().all(|session| kept_permutation(session).iter().all(|entry| *entry == 0)));
+        assert!(run.step().is_none());
+        for (i, session) in run.sessions.iter().enumerate() {
+            assert_eq!(session.due(), 21);
+            assert!(kept_permutation(session) == due, "box {i} of {n}, l {l}");
+        }
+        let mut sorted = due.clone();
+        sorted.sort();
+        assert!(sorted != due && sorted.iter().enumerate().all(|(t, entry)| t == *entry as usize));
+    }
 }
 
 /// What the others get wrong ends the session and zeroes the work area.
@@ -507,8 +526,8 @@ fn refusals_say_what_and_where() {
     assert_eq!(refusal, Refusal { reason: Reason(14), party: 2, call: Call::Round(9), over: true });
     assert_eq!(refusal.to_string(), "refused 14 MissingMessage in round 9 (echo of fashare comm), names box 2: a message is missing");
     assert_eq!(
-        [7, 20, 21, 22, 23, 0].map(|number| Reason(number).name()),
-        ["InconsistentBroadcast", "SessionOver", "BytesAfterValue", "WrongLabel", "Unknown", "Unknown"]
+        [7, 18, 20, 21, 22, 23, 0].map(|number| Reason(number).name()),
+        ["InconsistentBroadcast", "NotAPermutation", "SessionOver", "BytesAfterValue", "WrongLabel", "Unknown", "Unknown"]
     );
     let refusal = Session::open(run.plan, 0, &run.inputs[2]).err().unwrap();
     assert_eq!(

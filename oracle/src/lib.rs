@@ -33,6 +33,7 @@ pub mod damage;
 pub mod expect;
 pub mod labels;
 pub mod rules;
+pub mod shuffle;
 
 pub use aes::{aes_block, aes_blocks, seed_of, tossed};
 pub use mpc::faand::inside::{Sums, combine, r_sum};

@@ -199,7 +199,7 @@ async fn party(
 }
 
 /// The recorded values of party i, in the order in which the Rust draws them.
-fn values(s: &Session, i: usize, r: &Option<Arc<Vec<u8>>>, permutation: &Arc<Vec<u32>>) -> Values {
+fn values(s: &Session, i: usize, r: &Option<Arc<Vec<u8>>>) -> Values {
     let p = &s.parties[i];
     let lb = s.l * s.b();
     let mut draws = p.joint_seed.to_vec();
@@ -214,7 +214,6 @@ fn values(s: &Session, i: usize, r: &Option<Arc<Vec<u8>>>, permutation: &Arc<Vec
     Values {
         draws,
         r: r.clone(),
-        permutation: permutation.clone(),
         ..Default::default()
     }
 }
@@ -353,7 +352,6 @@ pub fn run(
     }
     // Where r comes from the seed that the Rust tosses itself, it draws it by itself too.
     let r = (s.r_seed != Some(s.tossed_seed())).then(|| Arc::new(s.r.clone()));
-    let permutation = Arc::new(s.permutation.clone());
     let mut running: Vec<Option<Running>> = (0..n)
         .map(|i| {
             let p = &s.parties[i];
@@ -362,7 +360,7 @@ pub fn run(
             let delta = Delta(block(&p.delta));
             Some(Running {
                 future: Box::pin(party(&lines[i], i, n, s.l, delta, alpha_beta)),
-                values: Some(values(s, i, &r, &permutation)),
+                values: Some(values(s, i, &r)),
                 outputs: outputs(s, i),
             })
         })

@@ -54,11 +54,9 @@ pub struct Session {
     pub r: Vec<u8>,
     /// The seed that r was drawn from, if it was; no part of the session's file.
     pub r_seed: Option<[u8; 16]>,
-    /// Of 0 to l·b − 1, the same for all.
-    pub permutation: Vec<u32>,
 }
 
-const MAGIC: &[u8; 8] = b"NZSESS02";
+const MAGIC: &[u8; 8] = b"NZSESS03";
 
 pub fn bucket_size(l: usize) -> usize {
     faand::bucket_size(l)
@@ -85,8 +83,8 @@ impl Session {
         self.r_seed = Some(seed);
     }
 
-    /// The seed that the Rust itself takes for `AesRng` once the joint toss is over.
-    pub fn tossed_seed(&self) -> [u8; 16] {
+    /// What the joint toss gives where nobody tells another seed than its own: the XOR of all of them.
+    pub fn joint_seed(&self) -> [u8; 32] {
         let mut joint = [0; 32];
         for p in &self.parties {
             joint
@@ -94,12 +92,23 @@ impl Session {
                 .zip(p.joint_seed)
                 .for_each(|(sum, byte)| *sum ^= byte);
         }
-        tossed(joint)
+        joint
+    }
+
+    /// Gives party 0 the seed with which the joint toss gives this.
+    pub fn toss(&mut self, joint_seed: [u8; 32]) {
+        let off = self.joint_seed();
+        let own = &mut self.parties[0].joint_seed;
+        (0..32).for_each(|k| own[k] ^= off[k] ^ joint_seed[k]);
+    }
+
+    /// The seed that the Rust itself takes for `AesRng` once the joint toss is over.
+    pub fn tossed_seed(&self) -> [u8; 16] {
+        tossed(self.joint_seed())
     }
 
     /// Whether the Rust can be given these inputs. What it has no way to hold (a bit of 2, a list
-    /// of another length, no permutation) is refused here; a wrong MAC is not, nor a label, which it
-    /// never sees.
+    /// of another length) is refused here; a wrong MAC is not, nor a label, which it never sees.
     pub fn check(&self) -> Result<(), String> {
         let (n, l, lb) = (self.n, self.l, self.l * self.b());
         let record = record_len(n);
@@ -118,15 +127,7 @@ impl Session {
             }
             must(p.masks.iter().all(|m| *m < 2), "a mask")?;
         }
-        must(self.r.len() == self.r_len(), "length of r")?;
-        must(self.permutation.len() == lb, "length of the permutation")?;
-        let mut seen = vec![false; lb];
-        for &p in &self.permutation {
-            let entry = seen.get_mut(p as usize).ok_or("entry of the permutation")?;
-            must(!*entry, "the permutation")?;
-            *entry = true;
-        }
-        Ok(())
+        must(self.r.len() == self.r_len(), "length of r")
     }
 
     /// Whether lists of shares, one for each party, meet the MAC rule: j's MAC for k is k's key for
@@ -168,9 +169,6 @@ impl Session {
             }
         }
         out.extend(&self.r);
-        for p in &self.permutation {
-            out.extend(p.to_le_bytes());
-        }
         out
     }
 
@@ -213,10 +211,6 @@ impl Session {
             });
         }
         s.r = f.take(s.r_len())?.to_vec();
-        let permutation = f.take(4 * l * b)?;
-        s.permutation = (permutation.as_chunks().0.iter())
-            .map(|w| u32::from_le_bytes(*w))
-            .collect();
         if !f.0.is_empty() {
             return Err("bytes after the end".into());
         }
@@ -261,10 +255,6 @@ impl Session {
             (p.bits, p.alpha, p.beta) = (bits, alpha, beta);
         }
         s.r = g.bytes(s.r_len());
-        s.permutation = (0..lb as u32).collect();
-        for t in (1..lb).rev() {
-            s.permutation.swap(t, g.below(t + 1));
-        }
         s
     }
 }
@@ -285,13 +275,12 @@ pub fn drawn_bit(draw: [u8; 32]) -> u8 {
 }
 
 impl Session {
-    /// Honest inputs by `draw`, as docs/VECTORS.md has them; the permutation alone is `generate`'s.
+    /// Honest inputs by `draw`, as docs/VECTORS.md has them.
     pub fn drawn(n: usize, l: usize, seed: u64) -> Self {
         let mut s = Session {
             n,
             l,
             seed,
-            permutation: Session::generate(2, l, seed).permutation,
             ..Default::default()
         };
         let lb = l * s.b();

@@ -14,13 +14,13 @@ use Rattle.engine.specs.Step.{Lent, Loan, frame, gone, part, inside}
 use Rattle.rounds.specs.Area.{workLen}
 use Rattle.rounds.specs.declared.Mail.{Mail}
 
--- the r Blocks and the permutation
-abbrev pub loan : List ℕ → List ℕ → Loan
-loan r perm = record { r = r; perm = perm }
+-- the r Blocks
+abbrev pub loan : List ℕ → Loan
+loan r = record { r = r }
 
-abbrev pub given : List ℕ → List ℕ → List ℕ → List ℕ → List ℕ → List ℕ → List ℕ → Lent
-given incoming starts lens missing r perm out =
-    record { incoming = incoming; starts = starts; lens = lens; missing = missing; loan = loan r perm; out = out }
+abbrev pub given : List ℕ → List ℕ → List ℕ → List ℕ → List ℕ → List ℕ → Lent
+given incoming starts lens missing r out =
+    record { incoming = incoming; starts = starts; lens = lens; missing = missing; loan = loan r; out = out }
 
 -- "Lent lengths are exact, but for the incoming buffer": those of the work area, the outgoing buffer, starts, lens and missing
 unfoldable pub lengthsFit : ℕ → ℕ → ℕ → ℕ → ℕ → ℕ → ℕ → ℕ → Bool
@@ -45,4 +45,4 @@ mailOf n starts lens = record { starts = eight n (λ k. getD starts k 0); lens =
 
 -- the messages, given by a mail
 abbrev pub posted : List ℕ → Mail → List ℕ → Lent
-posted incoming mail missing = given incoming (mail .starts) (mail .lens) missing [] [] []
+posted incoming mail missing = given incoming (mail .starts) (mail .lens) missing [] []

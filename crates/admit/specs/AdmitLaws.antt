@@ -17,7 +17,6 @@ use Rattle.message.specs.declared.Kind.{Kind}
 use Rattle.message.specs.declared.Kind.the-variants.{Options}
 use Rattle.message.specs.Format as Format
 use Rattle.message.specs.Read as Read
-use Rattle.permutation.specs.Permutation.{isPerm}
 use Rattle.plan.specs.Plan as Plan
 use Rattle.plan.specs.Plan.{FABITN, DVALUE, echo?, isRound, nextRound, kindOf, countDue, msgLen, outLen, leaky, InRange}
 use Rattle.plan.specs.PlanLaws.{Rest, kind-rest, count-rest, out-len-last, out-len}
@@ -38,7 +37,7 @@ use Rattle.rounds.specs.FaultLaws.{Finds}
 use Rattle.rounds.specs.Echo.{echo}
 use Rattle.rounds.specs.EchoLaws.{Received}
 use Rattle.rounds.specs.Fabitn.{rFits}
-use Rattle.rounds.specs.Table.{table, noLoan, lent, fine}
+use Rattle.rounds.specs.Table.{table, lent, fine}
 use Rattle.area.specs.Given.{Ranged}
 use Rattle.admit.specs.Admit.{loan, given, lengthsFit, fits, kindFault, eight, mailOf, posted}
 
@@ -108,33 +107,16 @@ out-len-is n l i k r h = by-eq _ k 22
     low : k ≤ 22
     low = round-low n k h
 
--- ---- what is lent: r with the call that writes `fabitn`, the permutation with the one that writes `dvalue`
-lent-none : (k n l : ℕ) (q : Loan) → k ≢ FABITN → k ≢ DVALUE → lent k n l q ≡ noLoan q
-unfolding lent
-lent-none k n l q a b = rw (ne-eqb k FABITN a, ne-eqb k DVALUE b) refl
-
+-- ---- what is lent: r with the call that writes `fabitn`
 -- by the round that is written
-module _ (j n l : ℕ) (r perm : List ℕ) where
-  pub lent-r : j ≡ FABITN → (x : ℕ) (b : Bool) → b ≡ (rFits l (length r) && eqb (length perm) 0) → x ≡ pick b 0 17
-      → x ≡ lent j n l (loan r perm)
+module _ (j n l : ℕ) (r : List ℕ) where
+  pub lent-r : j ≡ FABITN → (x : ℕ) (b : Bool) → b ≡ rFits l (length r) → x ≡ pick b 0 17 → x ≡ lent j n l (loan r)
   unfolding lent
   lent-r e x b h w = rw (e) (w ∙ ap (λ c. pick c 0 17) h)
 
-  -- another length
-  pub lent-long : j ≡ DVALUE → (eqb (length r) 0 && eqb (length perm) (leaky l)) ≡ false → 17 ≡ lent j n l (loan r perm)
+  pub lent-rest : j ≢ FABITN → (x : ℕ) (b : Bool) → b ≡ eqb (length r) 0 → x ≡ pick b 0 17 → x ≡ lent j n l (loan r)
   unfolding lent
-  lent-long e h = rw (e) (ap (λ c. pick c (pick (isPerm perm) 0 18) 17) (sym h))
-
-  pub lent-perm : j ≡ DVALUE → (eqb (length r) 0 && eqb (length perm) (leaky l)) ≡ true
-      → (x : ℕ) (b : Bool) → b ≡ isPerm perm → x ≡ pick b 0 18
-      → x ≡ lent j n l (loan r perm)
-  unfolding lent
-  lent-perm e h x b i w = rw (e, h) (w ∙ ap (λ c. pick c 0 18) i)
-
-  pub lent-rest : j ≢ FABITN → j ≢ DVALUE → (x : ℕ) (b : Bool) → b ≡ (eqb (length r) 0 && eqb (length perm) 0) → x ≡ pick b 0 17
-      → x ≡ lent j n l (loan r perm)
-  unfolding noLoan
-  lent-rest a c x b h w = w ∙ ap (λ d. pick d 0 17) h ∙ sym (lent-none j n l (loan r perm) a c)
+  lent-rest a x b h w = rw (ne-eqb j FABITN a) (w ∙ ap (λ c. pick c 0 17) h)
 
 pub lent-of : (k n l j x : ℕ) (q : Loan) → j ≡ nextRound n k → x ≡ lent j n l q → x ≡ lentOf table k n l q
 unfolding lentOf
@@ -160,10 +142,10 @@ unfolding part
 part-is q k = refl
 
 -- what is lent besides, and the outgoing buffer, play no part in it
-pub parts-any : (incoming starts lens missing r perm out : List ℕ) (f : Frame)
-    → partsIn f (given incoming starts lens missing [] [] []) ≡ partsIn f (given incoming starts lens missing r perm out)
+pub parts-any : (incoming starts lens missing r out : List ℕ) (f : Frame)
+    → partsIn f (given incoming starts lens missing [] []) ≡ partsIn f (given incoming starts lens missing r out)
 unfolding partsIn gone inside
-parts-any incoming starts lens missing r perm out f = refl
+parts-any incoming starts lens missing r out f = refl
 
 -- ---- the parts lie inside
 module _ (n l i : ℕ) (q : Lent) where
@@ -264,12 +246,12 @@ module _ (f : Frame) (k : ℕ) (incoming : List ℕ) (mail : Mail) (missing : Li
   received e p = record { arrived = record { eight = e; inside = inside-is p; long = λ j h ne. omega arith }; formed-is = formed-is }
 
 -- the mail of what is lent says the same; what is lent besides, and the outgoing buffer, play no part in it
-module _ (f : Frame) (incoming starts lens missing r perm out : List ℕ) where
+module _ (f : Frame) (incoming starts lens missing r out : List ℕ) where
   abbrev mail : Mail
   mail = mailOf (f .n) starts lens
 
   abbrev there : Lent
-  there = given incoming starts lens missing r perm out
+  there = given incoming starts lens missing r out
 
   start-is : (j : ℕ) → j < f .n → getD (mail .starts) j 0 ≡ getD starts j 0
   unfolding mailOf

@@ -1,5 +1,5 @@
-// What a round call refuses before it looks at what was received (document 01, "Round call: 20, 19, 17, 18"): it leaves everything as it
-// was. 14, 13, 21 and 6: crate form. The definitions are those of crates/engine (Step, Plain) over the table of crates/rounds. Nothing here is
+// What a round call refuses before it looks at what was received (document 01, "Round call: 20, 19, 17, 18"; 18 no longer occurs since 02,
+// order 6): it leaves everything as it was. 14, 13, 21 and 6: crate form. The definitions are those of crates/engine (Step, Plain) over the table of crates/rounds. Nothing here is
 // secret. A host may lend anything: every number is taken as it comes, and no sum wraps.
 ghost use mathlib.Core.Path.{_≡_};
 ghost use mathlib.Core.Bool.{true, _&&_};
@@ -34,7 +34,7 @@ pub fn alive(s: Session) -> bool
     fine(n, party.i, party.l) & plan::is_round(n, s.due)
 }
 
-// ---- 17 and 18 of what is lent
+// ---- 17 of what is lent
 
 // r is as long as all strings, or a seed.
 fn r_fits(r: usize, l: usize) -> bool
@@ -44,39 +44,18 @@ fn r_fits(r: usize, l: usize) -> bool
     (r == plan::r_len(l)) | draw::is_seed(r)
 }
 
-// r and the permutation have the lengths due.
-fn loaned(r: usize, r_due: usize, perm: usize, perm_due: usize) -> bool
-    ensures { λ b. ⌜ b ≡ (eqb r «r_due» && eqb perm «perm_due») ⌝ }
-{
-    (r == r_due) & (perm == perm_due)
-}
-
-// 17 or 18 of the r Blocks and the permutation that are lent with the call for round k, or 0. They are due by the round that it writes.
-pub fn lent(k: usize, n: usize, l: usize, r: &[u8], perm: &[u32]) -> u8
+// 17 of the r Blocks that are lent with the call for round k, or 0. They are due by the round that it writes.
+pub fn lent(k: usize, n: usize, l: usize, r: &[u8]) -> u8
     requires { ⌜ InRange n l ⌝ }
-    ensures { λ x. ⌜ x ≡ lentOf table k n l (loan (now (r .entry)) (now (perm .entry))) ⌝ }
+    ensures { λ x. ⌜ x ≡ lentOf table k n l (loan (now (r .entry))) ⌝ }
 {
-    let next = plan::next_round(n, k);
-    if next == plan::FABITN {
-        if r_fits(r.len(), l) & (perm.len() == 0) {
+    if plan::next_round(n, k) == plan::FABITN {
+        if r_fits(r.len(), l) {
             return 0;
         }
         return 17;
     }
-    if next == plan::DVALUE {
-        if loaned(r.len(), 0, perm.len(), plan::leaky(l)) {
-            if permutation::is_permutation(perm) {
-                return 0;
-            }
-            return 18;
-        }
-        return 17;
-    }
-    if loaned(r.len(), 0, perm.len(), 0) {
-        0
-    } else {
-        17
-    }
+    if r.len() == 0 { 0 } else { 17 }
 }
 
 // ---- 17 of the buffers
@@ -110,7 +89,7 @@ fn part_in(
     k: usize,
 ) -> bool
     requires { ⌜ (k < length (now starts)) × (k < length (now lens)) × (k < length (now missing)) ⌝ }
-    ensures { λ r. ⌜ r ≡ fits i (given (now (incoming .entry)) (now (starts .entry)) (now (lens .entry)) (now (missing .entry)) [] [] []) k ⌝ }
+    ensures { λ r. ⌜ r ≡ fits i (given (now (incoming .entry)) (now (starts .entry)) (now (lens .entry)) (now (missing .entry)) [] []) k ⌝ }
 {
     if k == i {
         return true;
@@ -131,7 +110,7 @@ fn parts_in(
     i: usize,
 ) -> bool
     requires { ⌜ (length (now starts) ≡ n) × (length (now lens) ≡ n) × (length (now missing) ≡ n) ⌝ }
-    ensures { λ r. ⌜ ((l : ℕ) → r ≡ partsIn (frame n l i) (given (now (incoming .entry)) (now (starts .entry)) (now (lens .entry)) (now (missing .entry)) [] [] [])) ⌝ }
+    ensures { λ r. ⌜ ((l : ℕ) → r ≡ partsIn (frame n l i) (given (now (incoming .entry)) (now (starts .entry)) (now (lens .entry)) (now (missing .entry)) [] [])) ⌝ }
 {
     let mut k = 0;
     while k < n {
@@ -154,12 +133,11 @@ pub fn reason(
     lens: &[usize],
     missing: &[u8],
     r: &[u8],
-    perm: &[u32],
     work: &[u8],
     out: &[u8],
 ) -> u8
     ensures { λ x. ⌜ x ≡ reasonOf (protocolOf table) s k
-        (given (now (incoming .entry)) (now (starts .entry)) (now (lens .entry)) (now (missing .entry)) (now (r .entry)) (now (perm .entry)) (now (out .entry)))
+        (given (now (incoming .entry)) (now (starts .entry)) (now (lens .entry)) (now (missing .entry)) (now (r .entry)) (now (out .entry)))
         (now (work .entry)) ⌝ }
 {
     let party = s.party;
@@ -188,5 +166,5 @@ pub fn reason(
     if !parts_in(incoming, starts, lens, missing, n, i) {
         return 17;
     }
-    lent(k, n, l, r, perm)
+    lent(k, n, l, r)
 }

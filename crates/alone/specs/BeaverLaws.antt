@@ -20,7 +20,7 @@ use Rattle.alone.specs.Formula.{Seen}
 use Rattle.alone.specs.Holds.{tripleRows}
 use Rattle.alone.specs.Cells.{encode-ext}
 use Rattle.alone.specs.Given.{Admissible}
-use Rattle.alone.specs.BucketsLaws.{Ordered, a-read, c-read, small-abc, b-is}
+use Rattle.alone.specs.BucketsLaws.{a-read, c-read, small-abc, b-is}
 
 pub agree-finish : (n i : ℕ) (c β a c′ β′ a′ : Share) (p q : Bool) → Agree n i c c′ → Agree n i β β′ → Agree n i a a′
     → Agree n i (B.finish c β a p q) (B.finish c′ β′ a′ p q)
@@ -29,24 +29,24 @@ agree-finish n i c β a c′ β′ a′ p q hc hb ha =
     agree-op n i (shares .op c (sel shares p β)) (sel shares q a) (shares .op c′ (sel shares p β′)) (sel shares q a′)
     (agree-op n i c (sel shares p β) c′ (sel shares p β′) hc (agree-sel n i p β β′ hb)) (agree-sel n i q a a′ ha)
 
-module _ (S : Seen) (I : Admissible S) (O : Ordered (S .inputs .party .l) (S .permutation)) where
-  open Seen S using (inputs as a, permutation as order, mail as m)
+module _ (S : Seen) (I : Admissible S) where
+  open Seen S using (inputs as a, mail as m)
   open Args (S .inputs) using (party as f)
 
   -- what PERM and TRIPLES hold
   abbrev perm : List ℕ
-  perm = permBytes f order
+  perm = permBytes f (F.jointSeed S)
 
   abbrev triples : List ℕ
   triples = tripleRows S
 
   a-is : (j : ℕ) → j < f .l → Agree (f .n) (f .i) (B.a f triples j) (F.abc S j .tx)
   unfolding tripleRows
-  a-is j lj = a-read f (F.abc S) j lj (small-abc S I O j)
+  a-is j lj = a-read f (F.abc S) j lj (small-abc S I j)
 
   c-is : (j : ℕ) → j < f .l → Agree (f .n) (f .i) (B.c f triples j) (F.abc S j .tz)
   unfolding tripleRows
-  c-is j lj = c-read f (F.abc S) j lj (small-abc S I O j)
+  c-is j lj = c-read f (F.abc S) j lj (small-abc S I j)
 
   d-is : (j : ℕ) → j < f .l → Agree (f .n) (f .i) (B.d f triples (a .alpha) j) (F.beaverD S j)
   unfolding B.d F.beaverD F.alpha
@@ -54,7 +54,7 @@ module _ (S : Seen) (I : Admissible S) (O : Ordered (S .inputs .party .l) (S .pe
 
   e-is : (j : ℕ) → j < f .l → B.e f (a .bits) perm (a .beta) j ≡ F.beaverE S j
   unfolding B.e F.beaverE F.beta
-  e-is j lj = ap (λ (s : Share). shares .op s (B.share f (a .beta) j)) (b-is S I O j lj)
+  e-is j lj = ap (λ (s : Share). shares .op s (B.share f (a .beta) j)) (b-is S I j lj)
 
   pub msg-22 : (k : ℕ) → k < f .n → f .i ≢ k → B.faandMsg f (a .bits) perm triples (a .alpha) (a .beta) k ≡ F.sent22 S k
   unfolding B.faandMsg F.sent22

@@ -16,8 +16,8 @@ use Rattle.share.specs.Record.{recordLen}
 use Rattle.share.specs.Share.{Share, shares, recordOf}
 use Rattle.share.specs.ShareLaws.{SmallShare, small-share-op, small-share-sel, Agree, agree-op, agree-sel, agree-refl, agree-record}
 use Rattle.share.specs.ShareLaws.{length-recordOf, read-here}
-use Rattle.permutation.specs.Permutation.{isPerm}
-use Rattle.permutation.specs.PermutationLaws.{perm-below}
+use Rattle.word.specs.WordLaws.{length-words, word-read}
+use Rattle.shuffle.specs.Always.{permutation-below}
 use Rattle.encode.specs.Encode.{dvalueItem}
 use Rattle.plan.specs.Plan.{leaky, bucketSize}
 use Rattle.plan.specs.PlanLaws.{leaky-most, bucket-low}
@@ -25,7 +25,7 @@ use Rattle.engine.specs.declared.Frame.{Frame}
 use Rattle.rounds.specs.Opening.{Args}
 use Rattle.rounds.specs.Haand.{x, y, zRows}
 use Rattle.rounds.specs.Flaand.{eRows}
-use Rattle.rounds.specs.Buckets.{Triple, two, combine, le4, word4, permBytes, entry, later, d, dvalueMsg, dTold, dOpened, ds, zShare}
+use Rattle.rounds.specs.Buckets.{Triple, two, combine, order, permBytes, entry, later, d, dvalueMsg, dTold, dOpened, ds, zShare}
 use Rattle.rounds.specs.Buckets.{leakyAnd, abc, tripleRow}
 use Rattle.rounds.specs.Buckets as B
 use Rattle.rounds.specs.BucketLaws.{combine-y}
@@ -38,31 +38,9 @@ use Rattle.alone.specs.Cells.{row-byte, part-in, encode-ext}
 use Rattle.alone.specs.FlaandLaws.{z-share-read, small-z}
 
 -- ---- the permutation in bytes
-module _ (f : Frame) (p : List ℕ) (t : ℕ) (lt : t < leaky (f .l)) where
-  perm-byte : (o : ℕ) → o < 4 → getD (permBytes f p) (t * 4 + o) 0 ≡ getD (le4 (getD p t 0)) o 0
-  unfolding permBytes le4
-  perm-byte o w = row-byte 4 (leaky (f .l)) (λ t. le4 (getD p t 0)) (λ t l. refl) t o lt w
-
-  pub word-read : getD p t 0 < 2 ^ 32 → word4 (permBytes f p) (t * 4) ≡ getD p t 0
-  unfolding word4 le4
-  word-read small =
-      let v : ℕ = getD p t 0 in
-      let e0 : getD (permBytes f p) (t * 4) 0 ≡ v % 256 =
-      ap (λ a. getD (permBytes f p) a 0) (sym (add-zero (t * 4))) ∙ perm-byte 0 (omega arith) in
-      let s2 : v / 0x100_0000 % 256 * 256 + v / 0x1_0000 % 256 ≡ v / 0x1_0000 = omega arith in
-      let s1 : v / 0x1_0000 * 256 + v / 0x100 % 256 ≡ v / 0x100 = omega arith in
-      let s0 : v / 0x100 * 256 + v % 256 ≡ v = omega arith in
-      rw (perm-byte 3 (omega arith), perm-byte 2 (omega arith), perm-byte 1 (omega arith), e0, s2, s1, s0)
-
-pub length-perm : (f : Frame) (p : List ℕ) → length (permBytes f p) ≡ leaky (f .l) * 4
-unfolding permBytes le4
-length-perm f p = length-cat (leaky (f .l)) 4 (λ t. le4 (getD p t 0)) (λ t l. refl)
-
--- the list that was lent is a permutation of 0 to l·b − 1
-pub record Ordered (l : ℕ) (order : List ℕ) : Type 0 where
-  pub most : l ≤ 300000
-  pub len : length order ≡ leaky l
-  pub perm : isPerm order ≡ true
+pub length-perm : (f : Frame) (joint : List ℕ) → length (permBytes f joint) ≡ leaky (f .l) * 4
+unfolding permBytes
+length-perm f joint = length-words (leaky (f .l)) (order f joint)
 
 -- the places of a bucket
 module _ (l : ℕ) where
@@ -75,20 +53,22 @@ module _ (l : ℕ) where
   pub all-in : (e : ℕ) → e < suc (bucketSize l - 1) → e < bucketSize l
   all-in e le = omega (arith, bucket-low l)
 
-module _ (f : Frame) (order : List ℕ) (O : Ordered (f .l) order) (j e : ℕ) (lj : j < f .l) (le : e < bucketSize (f .l)) where
+module _ (f : Frame) (joint : List ℕ) (most : f .l ≤ 300000) (j e : ℕ) (lj : j < f .l) (le : e < bucketSize (f .l)) where
   inside : j * bucketSize (f .l) + e < leaky (f .l)
   unfolding leaky
   inside = omega (arith, in-chunks j (f .l) (bucketSize (f .l)) lj)
 
-  pub place-below : getD order (j * bucketSize (f .l) + e) 0 < leaky (f .l)
-  place-below = rw (← O .len) (perm-below order (O .perm) (j * bucketSize (f .l) + e) (rw (O .len) inside))
+  -- what is drawn is always a permutation
+  pub place-below : getD (order f joint) (j * bucketSize (f .l) + e) 0 < leaky (f .l)
+  unfolding order
+  place-below = permutation-below joint (leaky (f .l)) (j * bucketSize (f .l) + e) inside
 
-  -- the remainder is nothing for a permutation
-  pub entry-read : entry f (permBytes f order) j e ≡ getD order (j * bucketSize (f .l) + e) 0
-  unfolding entry
+  -- so the remainder is nothing
+  pub entry-read : entry f (permBytes f joint) j e ≡ getD (order f joint) (j * bucketSize (f .l) + e) 0
+  unfolding entry permBytes
   entry-read =
       ap (λ v. v % leaky (f .l))
-      (word-read f order (j * bucketSize (f .l) + e) inside (omega (arith, place-below, leaky-most (f .l) (O .most))))
+      (word-read (leaky (f .l)) (order f joint) (j * bucketSize (f .l) + e) inside (omega (arith, place-below, leaky-most (f .l) most)))
       ∙ mod-eq-of-lt place-below
 
 -- ---- combining
@@ -183,8 +163,8 @@ dvalue-ext c b b′ x x′ p q =
     ap₂ (λ (s t : List ℕ). s ++ t) (encode-ext c _ _ (λ e le. ap (λ (v : Bool). num v ∷ []) (p e le)))
     (encode-ext c _ _ (λ e le. ap bytesOf (q e le)))
 
-module _ (S : Seen) (I : Admissible S) (O : Ordered (S .inputs .party .l) (S .permutation)) where
-  open Seen S using (inputs as a, permutation as order, mail as m)
+module _ (S : Seen) (I : Admissible S) where
+  open Seen S using (inputs as a, mail as m)
   open Args (S .inputs) using (party as f)
 
   abbrev δ : Block
@@ -192,7 +172,7 @@ module _ (S : Seen) (I : Admissible S) (O : Ordered (S .inputs .party .l) (S .pe
 
   -- what PERM, ZS and ES hold
   abbrev perm : List ℕ
-  perm = permBytes f order
+  perm = permBytes f (F.jointSeed S)
 
   abbrev zs : List ℕ
   zs = zRows f (a .masks) (a .bits) (m 14)
@@ -201,12 +181,12 @@ module _ (S : Seen) (I : Admissible S) (O : Ordered (S .inputs .party .l) (S .pe
   es = eRows f (m 15)
 
   pub entry-is : (j e : ℕ) → j < f .l → e < bucketSize (f .l) → entry f perm j e ≡ F.entry S j e
-  unfolding F.entry
-  entry-is j e lj le = entry-read f order O j e lj le
+  unfolding F.entry F.order
+  entry-is j e lj le = entry-read f (F.jointSeed S) (I .range .most) j e lj le
 
   entry-below : (j e : ℕ) → j < f .l → e < bucketSize (f .l) → F.entry S j e < leaky (f .l)
-  unfolding F.entry
-  entry-below j e lj le = place-below f order O j e lj le
+  unfolding F.entry F.order
+  entry-below j e lj le = place-below f (F.jointSeed S) (I .range .most) j e lj le
 
   -- ---- round 21
   d-is : (j e : ℕ) → j < f .l → e < later f → d f (a .bits) perm j e ≡ F.d S j e

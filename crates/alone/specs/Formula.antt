@@ -1,5 +1,5 @@
 -- What one box sends and what it ends with, whoever it talks to (document 01, "What each round means"): of what it was opened with, its
--- inputs, of the r strings and the permutation that it was lent, and of the messages that it received: `mail k j` is party j's for round k.
+-- inputs, of the r strings that it was lent, and of the messages that it received: `mail k j` is party j's for round k.
 -- `strings` is r as it was lent, all strings or a seed. Nothing here knows a work area.
 -- The lists of shares among the inputs are as the box keeps them (rounds/Opening.antt, `kept`): the lent shares, in records without labels.
 use mathlib.Core.Bool.{Bool, cond, _&&_}
@@ -29,17 +29,17 @@ use Rattle.rounds.specs.Haand as Haand
 use Rattle.rounds.specs.Haand.{G}
 use Rattle.rounds.specs.Flaand as Flaand
 use Rattle.rounds.specs.Buckets.{Triple, combine, later, dTold}
+use Rattle.rounds.specs.Buckets as Buckets
 use Rattle.rounds.specs.Beaver as Beaver
 
 -- what one box has to go by
 pub record Seen : Type 0 where
   pub inputs : Args
   pub strings : List ℕ
-  pub permutation : List ℕ
   pub mail : ℕ → ℕ → List ℕ
 
 module _ (S : Seen) where
-  open Seen S using (inputs as a, strings, permutation as order, mail as m)
+  open Seen S using (inputs as a, strings, mail as m)
   open Args (S .inputs) using (party as f)
 
   -- ---- what the box was opened with
@@ -160,6 +160,10 @@ module _ (S : Seen) where
   sent19 = encode (leaky (f .l)) (λ t. bytesOf (h t))
 
   -- ---- buckets: round 21
+  -- "the permutation from the joint seed" (02, order 6)
+  unfoldable pub order : List ℕ
+  order = Buckets.order f jointSeed
+
   -- "Bucket j takes entries j·b onward of the permutation.": its entry e
   unfoldable pub entry : ℕ → ℕ → ℕ
   entry j e = getD order (j * bucketSize (f .l) + e) 0

@@ -40,7 +40,7 @@ abbrev pub storeOf : (ℕ → ℕ → List ℕ) → Store
 storeOf val = record { total = SECTIONS; count = ROUNDS-OWN; size = sizeOf; ready = λ t s. leb (since s) t; val = λ t i s. val i s }
 
 module _ (S : Seen) where
-  open Seen S using (inputs as a, strings, permutation as order, mail as m)
+  open Seen S using (inputs as a, strings, mail as m)
   open Args (S .inputs) using (party as f)
 
   -- own h, one after another
@@ -67,7 +67,7 @@ module _ (S : Seen) where
       (pick (eqb s LEAKY) (Haand.leakyRows f (F.delta S) (a .bits))
       (pick (eqb s ZS) (Haand.zRows f (a .masks) (a .bits) (m 14))
       (pick (eqb s ES) (Flaand.eRows f (m 15)) (pick (eqb s HS) hRows (pick (eqb s H-COMMS) (Flaand.commRows f (m 17))
-      (pick (eqb s PERM) (Buckets.permBytes f order) (pick (eqb s DS) dRows (pick (eqb s TRIPLES) tripleRows
+      (pick (eqb s PERM) (Buckets.permBytes f (F.jointSeed S)) (pick (eqb s DS) dRows (pick (eqb s TRIPLES) tripleRows
       (replicate (sizeOf f s) 0))))))))))))))))))))))
 
   -- all of it

@@ -12,3 +12,4 @@ pub mod Echo
 pub mod Opening
 pub mod Rounds
 pub mod Theorem
+pub mod Reserved

@@ -16,7 +16,6 @@ use Rattle.lists.specs.Rows.{chunk, length-chunk}
 use Rattle.lists.specs.Sect.{length-get}
 use Rattle.block.specs.Block.{blockAt, xorInplace}
 use Rattle.block.specs.Trip.{length-bytesOf}
-use Rattle.permutation.specs.Permutation.{isPerm}
 use Rattle.message.specs.declared.Kind.the-variants.{Items, Dms}
 use Rattle.message.specs.Format.{formOf}
 use Rattle.message.specs.FormatLaws.{fixed}
@@ -49,7 +48,7 @@ use Rattle.alone.specs.Cells.{length-cells}
 use Rattle.alone.specs.HaandLaws.{length-leakyRows, length-zRows}
 use Rattle.alone.specs.FashareLaws.{length-dms, msg-12}
 use Rattle.alone.specs.FlaandLaws.{length-es, length-hs, hs-read, msg-15, msg-17, msg-19}
-use Rattle.alone.specs.BucketsLaws.{Ordered, length-perm, length-ds, length-triples, ds-is, triples-are, msg-21}
+use Rattle.alone.specs.BucketsLaws.{length-perm, length-ds, length-triples, ds-is, triples-are, msg-21}
 use Rattle.alone.specs.BeaverLaws.{msg-22, results-are}
 
 -- ---- what is kept of a message of due form is as long as its row
@@ -58,7 +57,7 @@ row-long c s m h = length-get 8 (c * s) m h
 
 -- what a box that was opened with a, lent q and sent m has to go by
 abbrev pub seenBy : Args → (ℕ → Loan) → (ℕ → ℕ → List ℕ) → Seen
-seenBy a q m = record { inputs = a; strings = q 6 .r; permutation = q 21 .perm; mail = m }
+seenBy a q m = record { inputs = a; strings = q 6 .r; mail = m }
 
 module _ (a : Args) (q : ℕ → Loan) (m : ℕ → ℕ → List ℕ) (I : Admissible (seenBy a q m)) where
   open Args a using (party as f)
@@ -72,9 +71,6 @@ module _ (a : Args) (q : ℕ → Loan) (m : ℕ → ℕ → List ℕ) (I : Admis
 
   abbrev At : ℕ → List ℕ → Type 0
   At t w = Alone.At table (f .n) (f .l) (f .i) U m q t w
-
-  abbrev LentFor : ℕ → Type 0
-  LentFor k = Alone.LentFor table (f .n) (f .l) (f .i) U m q k
 
   abbrev Formed : ℕ → Type 0
   Formed k = Alone.Formed table (f .n) (f .l) (f .i) U m q k
@@ -138,6 +134,10 @@ module _ (a : Args) (q : ℕ → Loan) (m : ℕ → ℕ → List ℕ) (I : Admis
     beta-at = has BETA K refl (le-leb 0 t (omega arith))
 
     -- what a round fills
+    joint-at : leb (before 4) t ≡ true → at f JOINT w ≡ F.jointSeed S
+    unfolding holds since
+    joint-at r = has JOINT K refl r
+
     dms-at : leb (before 12) t ≡ true → at f DMS w ≡ Fashare.dmRows f (m 10)
     unfolding holds since
     dms-at r = has DMS K refl r
@@ -158,7 +158,7 @@ module _ (a : Args) (q : ℕ → Loan) (m : ℕ → ℕ → List ℕ) (I : Admis
     unfolding holds since
     hs-at r = has HS K refl r
 
-    perm-at : leb (due 21) t ≡ true → at f PERM w ≡ Buckets.permBytes f (S .permutation)
+    perm-at : leb (due 21) t ≡ true → at f PERM w ≡ Buckets.permBytes f (F.jointSeed S)
     unfolding holds since
     perm-at r = has PERM K refl r
 
@@ -403,25 +403,13 @@ module _ (a : Args) (q : ℕ → Loan) (m : ℕ → ℕ → List ℕ) (I : Admis
   recv-19 past p = stays (due 19) (before 21) (p .known) refl
 
   -- ---- buckets: round 21
-  ordered : LentFor 21 → Ordered (f .l) (S .permutation)
-  unfolding lent
-  ordered z =
-      let none : Bool = eqb (length (q 21 .r)) 0 in
-      let long : Bool = eqb (length (S .permutation)) (leaky (f .l)) in
-      let w = pick-then (none && long) (pick (isPerm (S .permutation)) 0 18) 17 0 (λ e. omega arith) z in
-      record {
-        most = I .range .most;
-        len = eqb-true (length (S .permutation)) (leaky (f .l)) (and-second none long (w .0));
-        perm = pick-then (isPerm (S .permutation)) 0 18 0 (λ e. omega arith) (w .1) .0;
-      }
-
   fit-perm : fits PERM
   unfolding holds sizeOf sizes
-  fit-perm = (omega arith, λ i li. length-perm f (S .permutation))
+  fit-perm = (omega arith, λ i li. length-perm f (F.jointSeed S))
 
-  fit-ds : LentFor 21 → fits DS
+  fit-ds : fits DS
   unfolding holds sizeOf sizes
-  fit-ds z = (omega arith, λ i li. length-ds S I (ordered z))
+  fit-ds = (omega arith, λ i li. length-ds S I)
 
   fit-triples : fits TRIPLES
   unfolding holds sizeOf sizes tripleRows
@@ -430,37 +418,32 @@ module _ (a : Args) (q : ℕ → Loan) (m : ℕ → ℕ → List ℕ) (I : Admis
   pub send-21 : SendAt 21
   unfolding staysTest allOf mem since holds held written F.sent
   send-21 = record {
-    keeps = λ past z w K. fill (before 21) (due 21) PERM K refl fit-perm refl;
+    keeps = λ past z w K. fill (before 21) (due 21) PERM K refl fit-perm (ap (Buckets.permBytes f) (joint-at K refl));
     writes = λ past z w K j lj ne.
-        ap₂ (λ (s t : List ℕ). Buckets.dvalueMsg f s t j) (bits-at K) (perm-at K refl) ∙ msg-21 S I (ordered z) j;
+        ap₂ (λ (s t : List ℕ). Buckets.dvalueMsg f s t j) (bits-at K) (perm-at K refl) ∙ msg-21 S I j;
   }
 
   pub recv-21 : RecvAt 21
   unfolding plainAfter echoIn staysTest allOf mem since holds kept
   recv-21 past p =
       let K = p .known in
-      let z : LentFor 21 = p .lent (omega arith) in
-      fill (due 21) (before 22) DS K refl (fit-ds z)
-      (ap₂ (λ (s t : List ℕ). Buckets.ds f s t (m 21)) (bits-at K) (perm-at K refl) ∙ ds-is S I (ordered z))
+      fill (due 21) (before 22) DS K refl fit-ds
+      (ap₂ (λ (s t : List ℕ). Buckets.ds f s t (m 21)) (bits-at K) (perm-at K refl) ∙ ds-is S I)
 
   -- ---- `beaver_aand`: round 22
-  lent-21 : Past 22 → LentFor 21
-  unfolding echoIn mem
-  lent-21 past = past 21 (omega arith) (omega arith) refl .lent (omega arith)
-
   pub send-22 : SendAt 22
   unfolding staysTest allOf mem since holds held written F.sent
   send-22 = record {
     keeps = λ past z w K. fill (before 22) (due 22) TRIPLES K refl fit-triples
         ((λ e. Buckets.tripleRows f (delta-is K e) (bits-at K e) (zs-at K refl e) (es-at K refl e) (perm-at K refl e) (ds-at K refl e))
-        ∙ triples-are S I (ordered (lent-21 past)));
+        ∙ triples-are S I);
     writes = λ past z w K j lj ne.
         (λ e. Beaver.faandMsg f (bits-at K e) (perm-at K refl e) (triples-at K refl e) (alpha-at K e) (beta-at K e) j)
-        ∙ msg-22 S I (ordered (lent-21 past)) j lj ne;
+        ∙ msg-22 S I j lj ne;
   }
 
   pub last-22 : LastAt 22
   last-22 past p =
       let K = p .known in
       (λ e. Beaver.results f (bits-at K e) (perm-at K refl e) (triples-at K refl e) (alpha-at K e) (beta-at K e) (m 22))
-      ∙ results-are S I (ordered (lent-21 past))
+      ∙ results-are S I

@@ -173,7 +173,7 @@ module _ (a : Args) (cs : List Turn) where
   abbrev pub number : ℕ
   number = numberOf table (eqb n 2) (box .rounds)
 
-  -- what its accepted calls read, and what they were lent: r, all strings or a seed, and permutation
+  -- what its accepted calls read, and what they were lent: r, all strings or a seed
   abbrev pub mail : ℕ → ℕ → List ℕ
   mail = received table n l i (openedBox a) cs
 

@@ -19,7 +19,7 @@ use Rattle.block.specs.declared.Block.{Block}
 use Rattle.block.specs.Block.{leOf, wordAt, blockAt, le8, bytesOf, eqBlock}
 use Rattle.block.specs.Group.{block-eq, block-ne}
 use Rattle.block.specs.Trip.{Small, bytesOf-at, length-bytesOf, block-take, block-drop}
-use Rattle.blake3_core.specs.Word.{word, byteOf}
+use Rattle.word.specs.Word.{word, byteOf}
 use Rattle.blake3_core.specs.Compress.{compress, IV}
 use Rattle.blake3_node.specs.Node.{blockWords, after, chunk}
 use Rattle.blake3.specs.Tree.{bytes, digest, hash}

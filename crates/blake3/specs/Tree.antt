@@ -5,7 +5,7 @@ use lib.ListN.{length, getD, take, drop}
 use lib.Dec.{leb, ltb}
 use Rattle.lists.specs.Over.{tab}
 use Rattle.lists.specs.Pick.{pick}
-use Rattle.blake3_core.specs.Word.{byteOf}
+use Rattle.word.specs.Word.{byteOf}
 use Rattle.blake3_node.specs.Node.{chunk, parent, CHUNK-LEN, ROOT}
 
 -- how many chunks n bytes take: at least one

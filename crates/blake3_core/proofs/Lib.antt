@@ -1,3 +1,2 @@
-mod Rotate
 mod Order
 pub mod Rounds

@@ -1,9 +1,9 @@
 -- BLAKE3's compression function (the specification, 2.2), on lists of words.
 use Prim.Native.Nat.{ℕ, zero, suc, _+_, _/_, _%_, _^_}
 use mathlib.Core.List.{List, [], _∷_, _++_, map}
-use lib.ListN.{getD, set, take}
+use lib.ListN.{getD, take}
 use lib.Bits.{bitXor}
-use Rattle.blake3_core.specs.Word.{rotr, plus}
+use Rattle.word.specs.Word.{rotr, plus, Quad, quadAt, put}
 
 -- the start values
 abbrev pub IV : List ℕ
@@ -15,13 +15,6 @@ abbrev pub MSG-PERMUTATION : List ℕ
 MSG-PERMUTATION = 2 ∷ 6 ∷ 3 ∷ 10 ∷ 7 ∷ 0 ∷ 4 ∷ 13 ∷ 1 ∷ 11 ∷ 12 ∷ 5 ∷ 9 ∷ 14 ∷ 15 ∷ 8 ∷ []
 
 -- ---- the quarter round
-
--- the four words that it mixes
-pub record Quad : Type 0 where
-  pub a : ℕ
-  pub b : ℕ
-  pub c : ℕ
-  pub d : ℕ
 
 -- one half of it: a message word goes in, with the rotations j and k
 unfoldable pub half : ℕ → ℕ → ℕ → Quad → Quad
@@ -35,14 +28,9 @@ half j k m q =
 unfoldable pub quarter : ℕ → ℕ → Quad → Quad
 quarter x y q = half 8 7 y (half 16 12 x q)
 
-unfoldable pub put : List ℕ → ℕ → ℕ → ℕ → ℕ → Quad → List ℕ
-put v i j k l q = set (set (set (set v i (q .a)) j (q .b)) k (q .c)) l (q .d)
-
 -- at the places i, j, k, l of the state v, with the message words x and y
 unfoldable pub g : ℕ → ℕ → ℕ → ℕ → ℕ → ℕ → List ℕ → List ℕ
-g i j k l x y v =
-    put v i j k l
-    (quarter x y (record { a = getD v i 0; b = getD v j 0; c = getD v k 0; d = getD v l 0 }))
+g i j k l x y v = put v i j k l (quarter x y (quadAt i j k l v))
 
 -- ---- the rounds
 

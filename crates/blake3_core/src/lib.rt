@@ -6,8 +6,9 @@ ghost use mathlib.Core.Path.{_≡_};
 ghost use Prim.Native.Nat.{_+_, _/_, _%_, _^_, _<_};
 ghost use lib.ListN.{getD};
 ghost use lib.Bits.{bitXor};
-ghost use Rattle.blake3_core.specs.Word.{rotr, plus};
+ghost use Rattle.word.specs.Word.{rotr};
 ghost use Rattle.blake3_core.specs.Compress as S;
+use word::add;
 
 pub const IV: [u32; 8] = [
     0x6a09e667,
@@ -44,12 +45,6 @@ fn rotr7(x: u32) -> u32
     ensures { λ r. ⌜ r ≡ rotr 7 x ⌝ }
 {
     x >> 7 | x << 25
-}
-
-fn add(x: u32, y: u32) -> u32
-    ensures { λ r. ⌜ r ≡ plus x y ⌝ }
-{
-    std::num::wrapping_add_u32(x, y)
 }
 
 // The mixing function: a quarter round at the places i, j, k, l of the state, with the message words p and q.

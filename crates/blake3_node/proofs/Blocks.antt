@@ -6,7 +6,7 @@ use native.Mathlib.Numerals.{add-one}
 use native.Mathlib.Nat.{le-of-eq}
 use lib.ListN.{length-drop}
 use lib.Seq.{take-all, getD-drop}
-use Rattle.blake3_core.specs.Word.{word}
+use Rattle.word.specs.Word.{word}
 use Rattle.blake3_core.specs.Compress.{compress}
 use Rattle.blake3_node.specs.Node.{after, blockWords, startFlag, chunk}
 

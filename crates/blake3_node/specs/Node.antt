@@ -2,7 +2,7 @@
 use Prim.Native.Nat.{ℕ, zero, suc, _+_, _-_, _*_, _/_}
 use mathlib.Core.List.{List, [], _∷_, _++_, map}
 use lib.ListN.{length, drop}
-use Rattle.blake3_core.specs.Word.{wordAt}
+use Rattle.word.specs.Word.{wordAt}
 use Rattle.blake3_core.specs.Compress.{compress, IV, words8}
 
 abbrev pub BLOCK-LEN : ℕ

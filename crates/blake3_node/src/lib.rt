@@ -5,11 +5,11 @@ ghost use mathlib.Core.Path.{_≡_};
 ghost use mathlib.Core.List.{_++_};
 ghost use Prim.Native.Nat.{_+_, _<_, _≤_};
 ghost use lib.ListN.{length};
-ghost use Rattle.blake3_core.specs.Word.{word, wordAt};
 ghost use Rattle.blake3_core.specs.Compress as S;
 ghost use Rattle.blake3_node.specs.Node as N;
 use blake3_core::IV;
 use blake3_core::compress;
+use word::load;
 
 pub const BLOCK_LEN: usize = 64;
 
@@ -23,21 +23,6 @@ pub const CHUNK_END: u32 = 2;
 pub const PARENT: u32 = 4;
 
 pub const ROOT: u32 = 8;
-
-// The word of four bytes.
-fn joined(a: u8, b: u8, c: u8, d: u8) -> u32
-    ensures { λ r. ⌜ r ≡ word a b c d ⌝ }
-{
-    a as u32 | (b as u32) << 8 | (c as u32) << 16 | (d as u32) << 24
-}
-
-// The word that starts at `at`.
-fn load(s: &[u8], at: usize) -> u32
-    requires { ⌜ at + 3 < length (now s) ⌝ }
-    ensures { λ r. ⌜ r ≡ wordAt at (now (s .entry)) ⌝ }
-{
-    joined(s[at], s[at + 1], s[at + 2], s[at + 3])
-}
 
 // The words of a whole block.
 pub fn whole(s: &[u8]) -> [u32; 16]

@@ -14,7 +14,8 @@ use Rattle.plan.specs.Plan.{bucketSize, leaky}
 use Rattle.plan.specs.PlanLaws.{bucket-low, bucket-high}
 use Rattle.engine.specs.declared.Frame.{Frame}
 use Rattle.rounds.specs.Haand.{y}
-use Rattle.rounds.specs.Buckets.{word4, entry, later, d}
+use Rattle.word.specs.Word.{wordAt}
+use Rattle.rounds.specs.Buckets.{entry, later, d}
 use Rattle.area.specs.Given.{Ranged}
 use Rattle.area.specs.Positions.{y-in}
 use Rattle.buckets.specs.Given.{Permuted}
@@ -44,7 +45,7 @@ module _ (f : Frame) where
   -- an entry is the number of a leaky AND
   pub entry-lt : (perm : List ℕ) (j e : ℕ) → 1 ≤ f .l → entry f perm j e < leaky (f .l)
   unfolding entry
-  entry-lt perm j e h = mod-lt (word4 perm ((j * bucketSize (f .l) + e) * 4)) (leaky-some (f .l) h)
+  entry-lt perm j e h = mod-lt (wordAt ((j * bucketSize (f .l) + e) * 4) perm) (leaky-some (f .l) h)
 
   -- where its record y starts
   abbrev pub yAt : List ℕ → ℕ → ℕ → ℕ

@@ -93,7 +93,6 @@ fn echo(s: Session, work: &mut [u8; WORK_LEN], out: &mut [u8]) -> u8 {
     let lens = [40usize; 8];
     let missing = [0u8; 8];
     let r = [0u8; 1];
-    let perm = [0u32; 1];
     let a = session::round(
         s,
         1,
@@ -102,7 +101,6 @@ fn echo(s: Session, work: &mut [u8; WORK_LEN], out: &mut [u8]) -> u8 {
         &lens,
         &missing,
         &r[..0],
-        &perm[..0],
         work,
         out,
     );

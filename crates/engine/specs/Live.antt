@@ -33,7 +33,7 @@ up-to b m h Q qm qb = go (ltb b m) refl
     go true e = qb (ltb-true b m e)
     go false e = subst Q (let p : m ≡ b = omega (arith, ltb-false b m e) in p) qm
 
--- inputs for every box, and r Blocks and a permutation that have no reason: lends b k, with box b's call for round k. What is lent may
+-- inputs for every box, and r Blocks that have no reason: lends b k, with box b's call for round k. What is lent may
 -- differ from box to box.
 pub record Cast {Args : Type 0} (S : Scene Args) : Type 0 where
   pub args : ℕ → Args

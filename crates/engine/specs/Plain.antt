@@ -23,7 +23,7 @@ pub record Recv : Type 0 where
   pub keep : Frame → List ℕ → (ℕ → List ℕ) → List ℕ
   pub digest : Frame → List ℕ → List ℕ
 
--- How its messages are made. len n l: the length of one; lent n l: 17 or 18 of what is lent, or 0, also for an echo and, as round 0, for
+-- How its messages are made. len n l: the length of one; lent n l: 17 of what is lent, or 0, also for an echo and, as round 0, for
 -- the results; keep: the work area afterwards; write f q w r: the message to r, from the work area after keep
 pub record Send : Type 0 where
   pub len : ℕ → ℕ → ℕ

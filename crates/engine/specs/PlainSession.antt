@@ -45,7 +45,7 @@ alike-call T n l k q q′ A = record {
     same i w m r = A .write i r _ ∙ ap (λ (w : List ℕ). T .send (nextOf T (eqb n 2) k) .write (frame n l i) q′ w r) (A .keep i _)
 
 -- ---- the scene: n boxes with one l that run the rounds of the table
--- Agree j: what is asked of the r Blocks and permutation of the call that makes the messages of round j; Given b: what makes an
+-- Agree j: what is asked of the r Blocks of the call that makes the messages of round j; Given b: what makes an
 -- opening box b's own
 module _ (T : Table) (n l : ℕ) {Args : Type 0} (O : Opening Args) (Agree : ℕ → Loan → Type 0) (Given : ℕ → Args → Type 0)
     (W : Lawful T n l) where
@@ -60,7 +60,7 @@ module _ (T : Table) (n l : ℕ) {Args : Type 0} (O : Opening Args) (Agree : ℕ
     Given = Given;
   }
 
-  -- its premises can be met: inputs for every box, and r Blocks and a permutation that have no reason: lends b j, with the call of box b
+  -- its premises can be met: inputs for every box, and r Blocks that have no reason: lends b j, with the call of box b
   -- that makes the messages of round j
   pub record Supply : Type 0 where
     pub args : ℕ → Args

@@ -15,14 +15,12 @@ use Rattle.engine.specs.declared.Verdict.{Verdict}
 use Rattle.engine.specs.declared.Verdict.the-variants as Variant
 
 -- ---- what a call is given and leaves
--- "The r Blocks are lent with the call that writes `fabitn`, the permutation .. with the one that writes `dvalue`; both are empty
--- otherwise."
+-- "The r Blocks are lent with the call that writes `fabitn`"; "Hosts lend no permutation any more" (02, order 6)
 pub record Loan : Type 0 where
   pub r : List ℕ
-  pub perm : List ℕ
 
 abbrev pub nothing : Loan
-nothing = record { r = []; perm = [] }
+nothing = record { r = [] }
 
 -- "one incoming buffer, a start and a length per party or a missing mark", and the outgoing buffer
 pub record Lent : Type 0 where
@@ -66,7 +64,7 @@ abbrev pub none? : Fault
 none? = record { code = 0; party = 0 }
 
 -- ---- what the rounds are
--- One round. outLen: the length of the outgoing buffer; lent: 17 or 18 of the r Blocks and the permutation, or 0, by n and l alone, so
+-- One round. outLen: the length of the outgoing buffer; lent: 17 of the r Blocks, or 0, by n and l alone, so
 -- that it is the same for every box; form: 13, 21 or 6 of one message, or 0; check: the content; keep: the work area afterwards; write: the
 -- outgoing buffer. `m k` is party k's message, [] for the own one.
 pub record Rule : Type 0 where
@@ -108,7 +106,7 @@ part q k = get (getD (q .starts) k 0) (getD (q .lens) k 0) (q .incoming)
 unfoldable pub stretch : ℕ → ℕ → ℕ → List ℕ → List ℕ
 stretch m j i o = get (m * pick (ltb i j) i (i - 1)) m o
 
--- ---- refusals that leave everything as it was: 20, 19, 17, 18
+-- ---- refusals that leave everything as it was: 20, 19, 17
 -- "17 .. a message part outside it", where there is a message
 unfoldable pub inside : Lent → ℕ → Bool
 inside q k = leb (getD (q .starts) k 0 + getD (q .lens) k 0) (length (q .incoming))
@@ -122,7 +120,7 @@ lengthsDue workLen outLen f q w =
     eqb (length w) workLen && eqb (length (q .out)) outLen && eqb (length (q .starts)) (f .n) && eqb (length (q .lens)) (f .n)
     && eqb (length (q .missing)) (f .n) && partsIn f q
 
--- "Round call: 20, 19, 17, 18": the first that the call has, or 0
+-- "Round call: 20, 19, 17, 18": the first that the call has, or 0; "18 no longer occurs" (02, order 6)
 unfoldable pub reasonOf : Protocol → Session → ℕ → Lent → List ℕ → ℕ
 reasonOf P s k q w =
     pick (not (P .alive s)) 20

@@ -1,5 +1,5 @@
--- What every round's proof of an honest run needs. How to use it, for round k in a section `module _ (R : Run) (X : Boxes R) where`;
--- rounds 21 and 22, which need the permutation, take `(I : Inputs R)` (all of Inputs.antt; Toss.antt is an example):
+-- What every round's proof of an honest run needs. How to use it, for round k in a section `module _ (R : Run) (X : Boxes R) where`
+-- (Toss.antt is an example):
 --  * `Table.judge k`, `kept k`, `held k`, `written k` and Script's `sent`, `since`, `holds` are chains of tests on a number: at a numeral
 --    they compute under `unfolding judge kept held written sent since holds` (and `kindOf countDue` of Plan for form and length).
 --  * a section of a Known work area: `bits-at R K : at (box R i) BITS w ≡ R .inputs i .bits`. For a section that a round fills
@@ -27,7 +27,7 @@ use Rattle.encode.specs.RoundTrip.{trip}
 use Rattle.plan.specs.Plan.{listLen}
 use Rattle.engine.specs.Sheet.{Store, Known, staysTest}
 use Rattle.engine.specs.Honest.{before, due, storeOf, SendAt, RecvAt, ListAt, LastAt}
-use Rattle.rounds.specs.Area.{DELTA, SEED, PAIRS, MASKS, BITS, ALPHA, BETA, COMMS, PAIR-COMMS, KEY-SUMS, SHARE-COMMS, DMS, LEAKY, ZS, ES}
+use Rattle.rounds.specs.Area.{DELTA, SEED, PAIRS, MASKS, BITS, ALPHA, BETA, COMMS, JOINT, PAIR-COMMS, KEY-SUMS, SHARE-COMMS, DMS, LEAKY, ZS, ES}
 use Rattle.rounds.specs.Area.{HS, H-COMMS, PERM, DS, TRIPLES, ROUNDS-OWN, sizeOf, at, keep}
 use Rattle.rounds.specs.Table.{delta}
 use Rattle.alone.specs.Base.{has-at}
@@ -102,6 +102,10 @@ module _ (R : Run) where
     pub comms-at : leb (before 3) t ≡ true → at (box R i) COMMS w ≡ S.comms R i
     unfolding S.holds S.since
     comms-at r = has COMMS refl r
+
+    pub joint-at : leb (before 4) t ≡ true → at (box R i) JOINT w ≡ S.joint R i
+    unfolding S.holds S.since
+    joint-at r = has JOINT refl r
 
     pub pair-comms-at : leb (before 5) t ≡ true → at (box R i) PAIR-COMMS w ≡ S.pairComms R i
     unfolding S.holds S.since

@@ -41,7 +41,7 @@ use Rattle.rounds.specs.Beaver as B
 use Rattle.alone.specs.BucketsLaws.{first-in}
 use Rattle.alone.specs.BeaverLaws.{agree-finish}
 use Rattle.honest.specs.Script as S
-use Rattle.honest.specs.Inputs.{Run, box, Boxes, Inputs, deltas, alphasOf, betasOf, small-bits, small-alpha, small-beta}
+use Rattle.honest.specs.Inputs.{Run, box, Boxes, deltas, alphasOf, betasOf, small-bits, small-alpha, small-beta}
 use Rattle.honest.specs.Base.{Sends, Ends, list-form, list-len, Fit, delta-is, bits-at, alpha-at, beta-at, zs-at, es-at, perm-at}
 use Rattle.honest.specs.Base.{ds-at, triples-at, keep-one}
 use Rattle.honest.specs.Values.{share-y, LeakyTriples}
@@ -118,11 +118,8 @@ module _ (R : Run) where
   outOf j = beaverOut blocks n (deltas R) (aOf R j) (bOf R j) (cOf R j)
       (alphasOf R j) (betasOf R j)
 
-module _ (R : Run) (I : Inputs R) where
-  open Run R using (n, l, inputs, permutation)
-
-  abbrev X : Boxes R
-  X = I .boxes
+module _ (R : Run) (X : Boxes R) where
+  open Run R using (n, l, inputs)
 
   abbrev perm : ℕ → List ℕ
   perm i = S.perms R i
@@ -141,21 +138,21 @@ module _ (R : Run) (I : Inputs R) where
   unfolding B.d B.share
   d-read i j li lj =
       rw (share-of-op i (aOf R j) (alphasOf R j), share-of-at (λ b. inputs b .alpha) (j * recordLen n) i)
-      (agree-op n i _ _ _ _ (a-read R I i j li lj) (agree-refl n i _))
+      (agree-op n i _ _ _ _ (a-read R X i j li lj) (agree-refl n i _))
 
-  e-share : (i j : ℕ) → j < l → e i j ≡ shareOf i (eOf R j)
+  e-share : (i j : ℕ) → i < n → j < l → e i j ≡ shareOf i (eOf R j)
   unfolding B.e B.b B.share
-  e-share i j lj =
-      ap₂ (shares .op) (ap (y (box R i) (inputs i .bits)) (entry-is R I i j 0 lj (first-in l)) ∙ sym (share-y R i (place R j 0)))
+  e-share i j li lj =
+      ap₂ (shares .op) (ap (y (box R i) (inputs i .bits)) (entry-is R X i j 0 li lj (first-in l)) ∙ sym (share-y R i (place R j 0)))
       (sym (share-of-at (λ b. inputs b .beta) (j * recordLen n) i))
       ∙ sym (share-of-op i (bOf R j) (betasOf R j))
 
   e-read : (i j : ℕ) → i < n → j < l → Agree n i (e i j) (shareOf i (eOf R j))
-  e-read i j li lj = subst (Agree n i (e i j)) (e-share i j lj) (agree-refl n i (e i j))
+  e-read i j li lj = subst (Agree n i (e i j)) (e-share i j li lj) (agree-refl n i (e i j))
 
   small-d : (i j : ℕ) → i < n → SmallShare n (d i j)
   unfolding B.d B.share B.a
-  small-d i j li = small-share-op n _ _ (small-share-at n _ _ (bytes-triples R I i)) (small-alpha R X i li _)
+  small-d i j li = small-share-op n _ _ (small-share-at n _ _ (bytes-triples R X i)) (small-alpha R X i li _)
 
   small-e : (i j : ℕ) → i < n → SmallShare n (e i j)
   unfolding B.e B.b B.share y
@@ -163,10 +160,10 @@ module _ (R : Run) (I : Inputs R) where
 
   module _ (L : LeakyTriples R) (j : ℕ) (lj : j < l) where
     good-d : Good blocks n (deltas R) (dOf R j)
-    good-d = good-op blocks n (deltas R) _ _ (abc-triple R I L j lj .good-a) (X .alpha-mac j lj)
+    good-d = good-op blocks n (deltas R) _ _ (abc-triple R X L j lj .good-a) (X .alpha-mac j lj)
 
     good-e : Good blocks n (deltas R) (eOf R j)
-    good-e = good-op blocks n (deltas R) _ _ (good-y R I j 0 lj (first-in l)) (X .beta-mac j lj)
+    good-e = good-op blocks n (deltas R) _ _ (good-y R X j 0 lj (first-in l)) (X .beta-mac j lj)
 
   -- ---- the messages
   faand-len : (j r : ℕ) → length (S.sent22 R j r) ≡ msgLen n l 22
@@ -175,21 +172,21 @@ module _ (R : Run) (I : Inputs R) where
 
   faand-form : (j r : ℕ) → formOf (kindOf l 22) (countDue n l 22) (S.sent22 R j r) ≡ 0
   unfolding S.sent22 B.faandMsg kindOf countDue
-  faand-form j r = list-form (Items 34 2) l _ (l-small R I) (λ t i. coded-twoBitsTwoBlocks _ _ _ _)
+  faand-form j r = list-form (Items 34 2) l _ (l-small R X) (λ t i. coded-twoBitsTwoBlocks _ _ _ _)
 
   module _ (i k j : ℕ) (li : i < n) (lk : k < n) (lj : j < l) (m : ℕ → List ℕ) (h : m k ≡ S.sent22 R k i) where
     d-told : B.dTold m k j ≡ dOf R j .bit k
     unfolding B.dTold S.sent22 B.faandMsg shareOf
     d-told =
         ap (λ (s : List ℕ). odd (getD s (8 + j * 34) 0)) h
-        ∙ first-read l (λ j. d k j .bit) (λ j. e k j .bit) (λ j. d k j .mac i) (λ j. e k j .mac i) (l-small R I) j lj
+        ∙ first-read l (λ j. d k j .bit) (λ j. e k j .bit) (λ j. d k j .mac i) (λ j. e k j .mac i) (l-small R X) j lj
         ∙ d-read k j lk lj .bit
 
     e-told : B.eTold m k j ≡ eOf R j .bit k
     unfolding B.eTold S.sent22 B.faandMsg shareOf
     e-told =
         ap (λ (s : List ℕ). odd (getD s (8 + j * 34 + 1) 0)) h
-        ∙ second-read l (λ j. d k j .bit) (λ j. e k j .bit) (λ j. d k j .mac i) (λ j. e k j .mac i) (l-small R I) j lj
+        ∙ second-read l (λ j. d k j .bit) (λ j. e k j .bit) (λ j. d k j .mac i) (λ j. e k j .mac i) (l-small R X) j lj
         ∙ e-read k j lk lj .bit
 
     module _ (ne : i ≢ k) where
@@ -197,7 +194,7 @@ module _ (R : Run) (I : Inputs R) where
       unfolding S.sent22 B.faandMsg shareOf
       d-mac-told =
           ap (λ (s : List ℕ). blockAt s (8 + j * 34 + 2)) h
-          ∙ third-read l (λ j. d k j .bit) (λ j. e k j .bit) (λ j. d k j .mac i) (λ j. e k j .mac i) (l-small R I) j lj
+          ∙ third-read l (λ j. d k j .bit) (λ j. e k j .bit) (λ j. d k j .mac i) (λ j. e k j .mac i) (l-small R X) j lj
           (small-d k j lk .mac i li)
           ∙ d-read k j lk lj .mac i li (λ z. ne (sym z))
 
@@ -205,7 +202,7 @@ module _ (R : Run) (I : Inputs R) where
       unfolding S.sent22 B.faandMsg shareOf
       e-mac-told =
           ap (λ (s : List ℕ). blockAt s (8 + j * 34 + 18)) h
-          ∙ fourth-read l (λ j. d k j .bit) (λ j. e k j .bit) (λ j. d k j .mac i) (λ j. e k j .mac i) (l-small R I) j lj
+          ∙ fourth-read l (λ j. d k j .bit) (λ j. e k j .bit) (λ j. d k j .mac i) (λ j. e k j .mac i) (l-small R X) j lj
           (small-e k j lk .mac i li)
           ∙ e-read k j lk lj .mac i li (λ z. ne (sym z))
 
@@ -249,8 +246,8 @@ module _ (R : Run) (I : Inputs R) where
   pub small-out : (i j : ℕ) → i < n → SmallShare n (shareOf i (outOf R j))
   small-out i j li =
       rw (share-out i j)
-      (small-finish n _ _ _ _ _ (small-c R I i j li)
-      (rw (share-of-at (λ b. inputs b .beta) (j * recordLen n) i) (small-beta R X i li (j * recordLen n))) (small-a R I i j li))
+      (small-finish n _ _ _ _ _ (small-c R X i j li)
+      (rw (share-of-at (λ b. inputs b .beta) (j * recordLen n) i) (small-beta R X i li (j * recordLen n))) (small-a R X i j li))
 
   beta-read : (i j : ℕ) → Agree n i (B.share (box R i) (inputs i .beta) j) (shareOf i (betasOf R j))
   unfolding B.share
@@ -265,7 +262,7 @@ module _ (R : Run) (I : Inputs R) where
       ap₂ (λ (p q : Bool). lentOf n i
       (B.finish (B.c (box R i) (triples i) j) (B.share (box R i) (inputs i .beta) j) (B.a (box R i) (triples i) j) p q))
       (d-opened i li m M j lj) (e-opened i li m M j lj)
-      ∙ agree-lent n i _ _ (agree-finish n i _ _ _ _ _ _ _ _ (c-read R I i j li lj) (beta-read i j) (a-read R I i j li lj))
+      ∙ agree-lent n i _ _ (agree-finish n i _ _ _ _ _ _ _ _ (c-read R X i j li lj) (beta-read i j) (a-read R X i j li lj))
       ∙ ap (lentOf n i) (sym (share-out i j)))
 
   -- what box i writes at the end
@@ -276,7 +273,7 @@ module _ (R : Run) (I : Inputs R) where
   -- ---- the round
   fit-triples : Fit R TRIPLES
   unfolding S.holds sizeOf sizes
-  fit-triples = (omega arith, λ i li. length-triples R I i)
+  fit-triples = (omega arith, λ i li. length-triples R X i)
 
   pub send-22 : Sends R 22
   unfolding staysTest allOf mem S.since S.holds S.tripleRows S.sent S.sent22 held written

@@ -41,16 +41,17 @@ use Rattle.engine.specs.Honest.{before, due, plainAfter}
 use Rattle.rounds.specs.Area.{PERM, DS, sizes, sizeOf}
 use Rattle.rounds.specs.Table.{judge, kept, held, written}
 use Rattle.rounds.specs.Haand.{x, y}
-use Rattle.rounds.specs.Buckets.{entry, later, d, dvalueMsg, bucketAt, dTold, dMacTold, dFaults, dOpened, leakyAnd, abc, tripleRow}
+use Rattle.rounds.specs.Buckets.{order, permBytes, entry, later, d, dvalueMsg, bucketAt, dTold, dMacTold, dFaults, dOpened, leakyAnd, abc, tripleRow}
 use Rattle.rounds.specs.Buckets.{tripleRows}
 use Rattle.rounds.specs.Buckets as B
 use Rattle.rounds.specs.Beaver as Beaver
 use Rattle.alone.specs.Cells.{row-byte, row-block}
-use Rattle.alone.specs.BucketsLaws.{Ordered, length-perm, first-in, later-in, all-in, place-below, entry-read, combine-ext, SmallTriple}
+use Rattle.alone.specs.BucketsLaws.{length-perm, first-in, later-in, all-in, place-below, entry-read, combine-ext, SmallTriple}
 use Rattle.alone.specs.BucketsLaws as A
 use Rattle.honest.specs.Script as S
-use Rattle.honest.specs.Inputs.{Run, box, Boxes, Inputs, deltas, small-bits}
-use Rattle.honest.specs.Base.{Receives, Sends, list-form, Fit, delta-is, bits-at, perm-at, keep-one}
+use Rattle.honest.specs.Inputs.{Run, box, Boxes, jointOf, orderOf, deltas, small-bits}
+use Rattle.honest.specs.Base.{Receives, Sends, list-form, Fit, delta-is, joint-at, bits-at, perm-at, keep-one}
+use Rattle.honest.specs.Toss.{one-joint}
 use Rattle.honest.specs.Values.{xOf, yOf, zOf, share-x, share-y, share-z, small-z, LeakyTriples}
 use Rattle.honest.specs.Combining.{tripleOf, combined, small-bucket-x, small-bucket-z}
 
@@ -131,11 +132,11 @@ abbrev pub more : ℕ → ℕ
 more l = bucketSize l - 1
 
 module _ (R : Run) where
-  open Run R using (n, l, permutation)
+  open Run R using (n, l)
 
   -- entry e of bucket j
   abbrev pub place : ℕ → ℕ → ℕ
-  place j e = getD permutation (j * bucketSize l + e) 0
+  place j e = getD (orderOf R) (j * bucketSize l + e) 0
 
   abbrev pub xIn : ℕ → ℕ → Shared Block
   xIn j e = xOf R (place j e)
@@ -169,35 +170,35 @@ open-all i n v own told li e h =
 pub passes : (code : ℕ) (b : Bool) → b ≡ true → pick b 0 code ≡ 0
 passes code b e = rw e refl
 
-module _ (R : Run) (I : Inputs R) where
-  open Run R using (n, l, inputs, permutation)
-
-  abbrev X : Boxes R
-  X = I .boxes
+module _ (R : Run) (X : Boxes R) where
+  open Run R using (n, l, inputs)
 
   abbrev perm : ℕ → List ℕ
   perm i = S.perms R i
 
   -- ---- the entries
-  ordered : Ordered l permutation
-  ordered = record { most = X .range .most; len = I .order-len; perm = I .order-perm }
+  place-low : (j e : ℕ) → j < l → e < bucketSize l → place R j e < leaky l
+  place-low j e lj le = place-below (box R 0) (jointOf R) (X .range .most) j e lj le
 
-  pub entry-is : (i j e : ℕ) → j < l → e < bucketSize l → entry (box R i) (perm i) j e ≡ place R j e
-  unfolding S.perms
-  entry-is i j e lj le = entry-read (box R i) permutation ordered j e lj le
+  -- all boxes have the same, since they hold one joint seed
+  pub entry-is : (i j e : ℕ) → i < n → j < l → e < bucketSize l → entry (box R i) (perm i) j e ≡ place R j e
+  unfolding S.perms order
+  entry-is i j e li lj le =
+      ap (λ (s : List ℕ). entry (box R i) (permBytes (box R i) s) j e) (one-joint R X i li)
+      ∙ entry-read (box R i) (jointOf R) (X .range .most) j e lj le
 
   -- ---- d
-  d-share : (i j e : ℕ) → j < l → e < more l → d (box R i) (inputs i .bits) (perm i) j e ≡ shareOf i (dOf R j e)
+  d-share : (i j e : ℕ) → i < n → j < l → e < more l → d (box R i) (inputs i .bits) (perm i) j e ≡ shareOf i (dOf R j e)
   unfolding d
-  d-share i j e lj le =
+  d-share i j e li lj le =
       ap₂ (λ a b. shares .op (y (box R i) (inputs i .bits) a) (y (box R i) (inputs i .bits) b))
-      (entry-is i j 0 lj (first-in l)) (entry-is i j (suc e) lj (later-in l e le))
+      (entry-is i j 0 li lj (first-in l)) (entry-is i j (suc e) li lj (later-in l e le))
       ∙ sym (ap₂ (shares .op) (share-y R i (place R j 0)) (share-y R i (place R j (suc e))))
       ∙ sym (share-of-op i (yIn R j 0) (yIn R j (suc e)))
 
   pub good-y : (j e : ℕ) → j < l → e < bucketSize l → Good blocks n (deltas R) (yIn R j e)
   unfolding bitsCount
-  good-y j e lj le = X .bits-mac (leaky l + place R j e) (omega (arith, place-below (box R 0) permutation ordered j e lj le))
+  good-y j e lj le = X .bits-mac (leaky l + place R j e) (omega (arith, place-low j e lj le))
 
   good-d : (j e : ℕ) → j < l → e < more l → Good blocks n (deltas R) (dOf R j e)
   good-d j e lj le =
@@ -232,7 +233,7 @@ module _ (R : Run) (I : Inputs R) where
         ap (λ (s : List ℕ). odd (getD s (8 + j * (8 + more l + (8 + 16 * more l)) + 8 + e) 0)) h
         ∙ bit-read l (more l) (λ j e. d (box R k) (inputs k .bits) (perm k) j e .bit)
         (λ j e. d (box R k) (inputs k .bits) (perm k) j e .mac i) l-small more-small j e lj le
-        ∙ ap (λ (s : Share). s .bit) (d-share k j e lj le)
+        ∙ ap (λ (s : Share). s .bit) (d-share k j e lk lj le)
 
     mac-told : dMacTold (box R i) m k j e ≡ dOf R j e .mac k i
     unfolding dMacTold bucketAt later S.sent21 dvalueMsg shareOf
@@ -240,7 +241,7 @@ module _ (R : Run) (I : Inputs R) where
         ap (λ (s : List ℕ). blockAt s (8 + j * (8 + more l + (8 + 16 * more l)) + 8 + more l + 8 + e * 16)) h
         ∙ mac-read l (more l) (λ j e. d (box R k) (inputs k .bits) (perm k) j e .bit)
         (λ j e. d (box R k) (inputs k .bits) (perm k) j e .mac i) l-small more-small j e lj le (small-d k j e lk .mac i li)
-        ∙ ap (λ (s : Share). s .mac i) (d-share k j e lj le)
+        ∙ ap (λ (s : Share). s .mac i) (d-share k j e lk lj le)
 
     fits : i ≢ k
         → dMacTold (box R i) m k j e
@@ -249,7 +250,7 @@ module _ (R : Run) (I : Inputs R) where
     fits ne =
         mac-told ∙ good-d j e lj le k i lk li (λ z. ne (sym z))
         ∙ ap₂ (λ (a : Block) (b : Bool). blocks .op a (sel blocks b (deltas R i)))
-        (ap (λ (s : Share). s .key k) (sym (d-share i j e lj le))) (sym told)
+        (ap (λ (s : Share). s .key k) (sym (d-share i j e li lj le))) (sym told)
 
   d-passes : (i : ℕ) → i < n → (m : ℕ → List ℕ) → Mail n (S.sent21 R) i m
       → dFaults (box R i) (deltas R i) (inputs i .bits) (perm i) m .code ≡ 0
@@ -263,7 +264,7 @@ module _ (R : Run) (I : Inputs R) where
       → dOpened (box R i) (inputs i .bits) (perm i) m j e ≡ total n (dOf R j e)
   unfolding dOpened shareOf
   opened-is i j e li lj le m M =
-      open-all i n (dOf R j e .bit) _ (λ k. dTold (box R i) m k j e) li (ap (λ (s : Share). s .bit) (d-share i j e lj le))
+      open-all i n (dOf R j e .bit) _ (λ k. dTold (box R i) m k j e) li (ap (λ (s : Share). s .bit) (d-share i j e li lj le))
       (λ k lk ne. told i k j e li lk lj le m (M k lk ne))
 
   ds-is : (i : ℕ) → i < n → (m : ℕ → List ℕ) → Mail n (S.sent21 R) i m
@@ -287,7 +288,7 @@ module _ (R : Run) (I : Inputs R) where
   -- ---- the round
   fit-perm : Fit R PERM
   unfolding S.holds S.perms sizeOf sizes
-  fit-perm = (omega arith, λ i li. length-perm (box R i) permutation)
+  fit-perm = (omega arith, λ i li. length-perm (box R i) (S.joint R i))
 
   fit-ds : Fit R DS
   unfolding S.holds sizeOf sizes
@@ -299,7 +300,7 @@ module _ (R : Run) (I : Inputs R) where
   pub send-21 : Sends R 21
   unfolding staysTest allOf mem S.since S.holds S.perms S.sent S.sent21 held written
   send-21 = record {
-    keeps = λ i li w K. keep-one R (before 21) (due 21) i li K PERM _ refl fit-perm refl;
+    keeps = λ i li w K. keep-one R (before 21) (due 21) i li K PERM _ refl fit-perm (ap (permBytes (box R i)) (joint-at R K refl));
     writes = λ i r li lr ne w K.
         ap₂ (λ (a b : List ℕ). dvalueMsg (box R i) a b r) (bits-at R K) (perm-at R K refl);
   }
@@ -360,7 +361,7 @@ module _ (R : Run) (I : Inputs R) where
           → leakyAnd (box R i) (deltas R i) (inputs i .bits) (S.zRows R i) (S.es R i) (perm i) j e
           ≡ tripleOf (xs j) (ys j) (zs j) i e
       entry-triple e le =
-          ap at-place (entry-is i j e lj (all-in l e le))
+          ap at-place (entry-is i j e li lj (all-in l e le))
           ∙ (λ q. record {
             tx = sym (share-x R i (place R j e)) q;
             ty = sym (share-y R i (place R j e)) q;
@@ -409,4 +410,4 @@ module _ (R : Run) (I : Inputs R) where
   pub abc-triple : LeakyTriples R → (j : ℕ) → j < l → Triple blocks n (deltas R) (aOf R j) (bOf R j) (cOf R j)
   abc-triple L j lj =
       bucket blocks n (deltas R) (xs j) (ys j) (zs j) (more l)
-      (λ e le. L (place R j e) (place-below (box R 0) permutation ordered j e lj (all-in l e le)))
+      (λ e le. L (place R j e) (place-low j e lj (all-in l e le)))

@@ -1,12 +1,14 @@
 -- The inputs of demand 3, in document 01's words: what each box is opened with, and what two boxes' inputs have to do with each other;
 -- and the same of what the boxes keep of them, records without labels, by which the rounds go.
 use mathlib.Core.Path.{_≡_}
-use mathlib.Core.Bool.{true}
 use mathlib.Core.Logic.{_≢_}
 use mathlib.Core.List.{List}
 use Prim.Native.Nat.{ℕ, _+_, _*_, _<_, _≤_}
 use lib.ListN.{length, getD}
+use Rattle.lists.specs.Over.{tab}
 use Rattle.lists.specs.Bytes.{Bytes}
+use Rattle.algebra.specs.Group.{numbers}
+use Rattle.algebra.specs.Sum.{sum}
 use Rattle.algebra.specs.Share.{Shared, Good}
 use Rattle.block.specs.declared.Block.{Block}
 use Rattle.block.specs.Block.{blockAt, Small}
@@ -18,20 +20,19 @@ use Rattle.share.specs.ShareLaws.{SmallShare, small-share-at}
 use Rattle.share.specs.Lent.{lentLen}
 use Rattle.share.specs.LentLaws.{Valid}
 use Rattle.share.specs.Parties.{sharedAt, lentShared}
-use Rattle.permutation.specs.Permutation.{isPerm}
 use Rattle.plan.specs.Plan.{InRange, leaky, bitsCount}
 use Rattle.engine.specs.declared.Frame.{Frame}
 use Rattle.engine.specs.Step.{frame}
 use Rattle.rounds.specs.Opening.{Args}
+use Rattle.rounds.specs.Buckets.{order}
 
--- What demand 3 speaks of: n boxes with one l, box b opened with `inputs b`, all lent this permutation and the same r strings. `strings` is
--- what they hold as r in either form, all strings or a seed: a box may be lent the one or the other (Opening.antt, Agree).
+-- What demand 3 speaks of: n boxes with one l, box b opened with `inputs b`, all lent the same r strings. `strings` is what they hold as r
+-- in either form, all strings or a seed: a box may be lent the one or the other (Opening.antt, Agree).
 pub record Run : Type 0 where
   pub n : ℕ
   pub l : ℕ
   pub inputs : ℕ → Args
   pub strings : List ℕ
-  pub permutation : List ℕ
 
 -- ---- as they are lent
 -- What the box f is opened with, work area and outgoing buffer aside: exact lengths, bytes, bits 0 or 1, labels as due, own entries zero.
@@ -96,7 +97,7 @@ pub record Kept (n : ℕ) (a : Args) : Type 0 where
 
 -- of a run whose inputs are the kept ones (Opening.antt, played)
 module _ (R : Run) where
-  open Run R using (n, l, inputs, permutation)
+  open Run R using (n, l, inputs)
 
   abbrev pub bitsOf : ℕ → Shared Block
   bitsOf t = sharedAt (λ b. inputs b .bits) (t * recordLen n)
@@ -114,11 +115,13 @@ module _ (R : Run) where
     pub alpha-mac : (t : ℕ) → t < l → Good blocks n (deltas R) (alphasOf t)
     pub beta-mac : (t : ℕ) → t < l → Good blocks n (deltas R) (betasOf t)
 
-  -- and the permutation that all are lent is one; of the r strings nothing is asked
-  pub record Inputs : Type 0 where
-    pub boxes : Boxes
-    pub order-len : length permutation ≡ leaky l
-    pub order-perm : isPerm permutation ≡ true
+  -- "The joint seed is the XOR of all seeds"
+  unfoldable pub jointOf : List ℕ
+  jointOf = tab 32 (λ t. sum numbers n (λ b. getD (inputs b .seed) t 0))
+
+  -- "the permutation from the joint seed" (02, order 6)
+  abbrev pub orderOf : List ℕ
+  orderOf = order (box R 0) jointOf
 
 -- ---- what is read of them fits a Block
 module _ (R : Run) (X : Boxes R) (b : ℕ) (lb : b < R .n) where

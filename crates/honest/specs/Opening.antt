@@ -1,6 +1,6 @@
 -- Opening in an honest run: the inputs of demand 3 have no reason to be refused, what has one changes nothing, and what opening leaves is
 -- what the script says.
-use mathlib.Core.Path.{_≡_, refl, sym, ap, ap₂, _∙_, subst}
+use mathlib.Core.Path.{_≡_, refl, sym, ap, _∙_, subst}
 use mathlib.Core.Bool.{Bool, true, false, _&&_}
 use mathlib.Core.Logic.{_≢_}
 use mathlib.Core.List.{List, [], _∷_}
@@ -9,9 +9,8 @@ use native.Mathlib.Omega.{arith}
 use lib.ListN.{length, getD}
 use lib.Dec.{leb, eqb}
 use borrow.Author.Tests.{lt-ltb, le-leb, eq-eqb, ne-eqb, eqb-true}
-use Rattle.lists.specs.Pick.{pick, by-eq}
+use Rattle.lists.specs.Pick.{pick, pick-then, by-eq}
 use Rattle.lists.specs.All.{allOf, all-of}
-use Rattle.lists.specs.Over.{tab, length-tab, getD-tab}
 use Rattle.lists.specs.Bytes.{Bytes}
 use Rattle.algebra.specs.Sum.{neq, Same, apart, apart?}
 use Rattle.algebra.specs.Share.{total, Good}
@@ -22,8 +21,6 @@ use Rattle.share.specs.ShareLaws as Shares
 use Rattle.share.specs.Lent.{lentLen, keptOf}
 use Rattle.share.specs.LentLaws.{bytes-kept, valid-faults}
 use Rattle.share.specs.Parties.{sharedAt, lentShared, shareOf, good-at, total-at, kept-agree}
-use Rattle.permutation.specs.Permutation.{isPerm}
-use Rattle.permutation.specs.PermutationLaws.{perm-of}
 use Rattle.plan.specs.Plan.{InRange, leaky, bitsCount, msgLen}
 use Rattle.engine.specs.declared.Frame.{Frame}
 use Rattle.engine.specs.Step.{frame, Loan, Accepted, Refused, outcome}
@@ -35,7 +32,7 @@ use Rattle.engine.specs.PlainSession.{AlikeSend, alike-same, HonestOpening}
 use Rattle.rounds.specs.Area.{BITS, KEY-SUMS, workLen, at, keep}
 use Rattle.rounds.specs.Opening.{Args, listsDue, buffersDue, masksFault, orFault, bytesFault, lengthsFault, reason}
 use Rattle.rounds.specs.Opening.{kept, section, area, spec}
-use Rattle.rounds.specs.Table.{noLoan, lent, held, written}
+use Rattle.rounds.specs.Table.{lent, held, written}
 use Rattle.rounds.specs.Fabitn.{rFits}
 use Rattle.rounds.specs.Fabitn as Fabitn
 use Rattle.rounds.specs.FabitnLaws.{abit-alike, sums-alike}
@@ -44,7 +41,7 @@ use Rattle.alone.specs.Opening.{Lens, first-seven, spec-takes}
 use Rattle.alone.specs.Opening as A
 use Rattle.honest.specs.Subject.{opener, subject}
 use Rattle.honest.specs.Script as S
-use Rattle.honest.specs.Inputs.{Run, box, deltas, Own, Opened, Inputs}
+use Rattle.honest.specs.Inputs.{Run, box, deltas, Own, Opened, Boxes}
 use Rattle.honest.specs.Base.{stored}
 
 -- ---- no reason to refuse
@@ -111,7 +108,7 @@ lens-of a o = record {
 own-frame : (f : Frame) (a : Args) → Own f a → Own (a .party) a
 own-frame f a o = subst (λ (f : Frame). Own f a) (sym (o .party)) o
 
--- ---- what demand 3 asks of a call of opening, and of the r Blocks and the permutation
+-- ---- what demand 3 asks of a call of opening, and of the r Blocks
 -- "work areas and buffers hold anything": the inputs of a with another work area and outgoing buffer
 abbrev pub lend : Args → List ℕ → List ℕ → Args
 lend a work out = record {
@@ -128,7 +125,7 @@ lend a work out = record {
 }
 
 module _ (R : Run) where
-  open Run R using (n, l, inputs, strings, permutation)
+  open Run R using (n, l, inputs, strings)
 
   -- a is box b's opening: its inputs, and lent buffers of due length
   pub record Given (b : ℕ) (a : Args) : Type 0 where
@@ -136,15 +133,10 @@ module _ (R : Run) where
     pub work-len : length (a .work) ≡ workLen (box R b)
     pub out-len : length (a .out) ≡ (n - 1) * msgLen n l 1
 
-  -- "its r Blocks and permutation, where due, equal the other boxes'": they are due with the calls that write rounds 6 and 21. "Demand 3's
-  -- equal r strings are the Blocks lent or drawn, whichever form each box got." (02, order 4)
+  -- "its r Blocks .., where due, equal the other boxes'": they are due with the call that writes round 6. "Demand 3's equal r strings are
+  -- the Blocks lent or drawn, whichever form each box got." (02, order 4)
   pub record Agree (j : ℕ) (q : Loan) : Type 0 where
     pub r-is : j ≡ 6 → Fabitn.strings l (q .r) ≡ Fabitn.strings l strings
-    pub perm-is : j ≡ 21 → q .perm ≡ permutation
-
--- Where the list that all boxes are lent is no permutation, none accepts it (18): the script then runs with some other one.
-unfoldable pub orderFor : ℕ → List ℕ → List ℕ
-orderFor l p = pick (eqb (length p) (leaky l) && isPerm p) p (tab (leaky l) (λ t. t))
 
 -- the run of the script: the rounds go by the inputs as they are kept
 abbrev pub played : Run → Run
@@ -153,30 +145,7 @@ played R = record {
   l = R .l;
   inputs = λ b. kept (R .inputs b);
   strings = R .strings;
-  permutation = orderFor (R .l) (R .permutation);
 }
-
-pub order-for : (l : ℕ) (p : List ℕ) → (length (orderFor l p) ≡ leaky l) × (isPerm (orderFor l p) ≡ true)
-unfolding orderFor
-order-for l p = go (eqb (length p) (leaky l)) refl (isPerm p) refl
-  where
-    same-order : List ℕ
-    same-order = tab (leaky l) (λ t. t)
-
-    long : length same-order ≡ leaky l
-    long = length-tab (leaky l) (λ t. t)
-
-    at : (t : ℕ) → t < length same-order → getD same-order t 0 ≡ t
-    at t h = getD-tab (leaky l) t (λ t. t) 0 (omega (arith, long))
-
-    perm : isPerm same-order ≡ true
-    perm = perm-of same-order (λ t h. rw (at t h) h) (λ u t h k e. omega (arith, at u (omega arith), at t k))
-
-    go : (a : Bool) → eqb (length p) (leaky l) ≡ a → (b : Bool) → isPerm p ≡ b
-        → (length (pick (a && b) p same-order) ≡ leaky l) × (isPerm (pick (a && b) p same-order) ≡ true)
-    go true ea true eb = (eqb-true _ _ ea, eb)
-    go true ea false eb = (long, perm)
-    go false ea b eb = (long, perm)
 
 -- what the boxes keep of one list each, `count l` records, is what they were lent
 module _ (R : Run) (X : Opened R) (count : ℕ → ℕ) (files : ℕ → List ℕ) (bytes : (b : ℕ) → b < R .n → Bytes (files b))
@@ -198,95 +167,60 @@ module _ (R : Run) (X : Opened R) (count : ℕ → ℕ) (files : ℕ → List �
   pub total-keeps : total n (sharedAt keeps (t * recordLen n)) ≡ total n (lentShared files (t * lentLen n))
   total-keeps = total-at n (lentShared files (t * lentLen n)) keeps (t * recordLen n) keeps-lent
 
-pub inputs-for : (R : Run) → Opened R → Inputs (played R)
-inputs-for R X = record {
-  boxes = record {
-    range = X .range;
-    own = λ b lb. record {
-      seed-len = X .own b lb .seed-len;
-      pairs-len = X .own b lb .pairs-len;
-      delta-bytes = X .own b lb .delta-bytes;
-      bits-bytes = bytes-kept _ _ (R .inputs b .bits) _;
-      alpha-bytes = bytes-kept _ _ (R .inputs b .alpha) _;
-      beta-bytes = bytes-kept _ _ (R .inputs b .beta) _;
-    };
-    bits-mac = λ t lt. good-keeps R X bitsCount (λ b. R .inputs b .bits) (λ b lb. X .own b lb .bits-bytes) t lt (X .bits-mac t lt);
-    alpha-mac = λ t lt. good-keeps R X (λ l. l) (λ b. R .inputs b .alpha) (λ b lb. X .own b lb .alpha-bytes) t lt (X .alpha-mac t lt);
-    beta-mac = λ t lt. good-keeps R X (λ l. l) (λ b. R .inputs b .beta) (λ b lb. X .own b lb .beta-bytes) t lt (X .beta-mac t lt);
+pub boxes-for : (R : Run) → Opened R → Boxes (played R)
+boxes-for R X = record {
+  range = X .range;
+  own = λ b lb. record {
+    seed-len = X .own b lb .seed-len;
+    pairs-len = X .own b lb .pairs-len;
+    delta-bytes = X .own b lb .delta-bytes;
+    bits-bytes = bytes-kept _ _ (R .inputs b .bits) _;
+    alpha-bytes = bytes-kept _ _ (R .inputs b .alpha) _;
+    beta-bytes = bytes-kept _ _ (R .inputs b .beta) _;
   };
-  order-len = order-for (R .l) (R .permutation) .0;
-  order-perm = order-for (R .l) (R .permutation) .1;
+  bits-mac = λ t lt. good-keeps R X bitsCount (λ b. R .inputs b .bits) (λ b lb. X .own b lb .bits-bytes) t lt (X .bits-mac t lt);
+  alpha-mac = λ t lt. good-keeps R X (λ l. l) (λ b. R .inputs b .alpha) (λ b lb. X .own b lb .alpha-bytes) t lt (X .alpha-mac t lt);
+  beta-mac = λ t lt. good-keeps R X (λ l. l) (λ b. R .inputs b .beta) (λ b lb. X .own b lb .beta-bytes) t lt (X .beta-mac t lt);
 }
 
--- ---- the loans: what passes 17 and 18 and agrees is what the script lends; of r, the strings are
+-- ---- the loans: what passes 17 and agrees is what the script lends; of r, the strings are
 empty : (x : List ℕ) → eqb (length x) 0 ≡ true → x ≡ []
 empty [] h = refl
 empty (a ∷ x) h = absurd (let e : suc (length x) ≡ 0 = eqb-true _ _ h in omega arith)
 
-abbrev loan : List ℕ → List ℕ → Loan
-loan r perm = record { r = r; perm = perm }
-
-none-lent : (q : Loan) → noLoan q ≡ 0 → q ≡ loan [] []
-unfolding noLoan
-none-lent q h = go (eqb (length (q .r)) 0) refl (eqb (length (q .perm)) 0) refl h
-  where
-    go : (a : Bool) → eqb (length (q .r)) 0 ≡ a → (b : Bool) → eqb (length (q .perm)) 0 ≡ b → _≡_ {A = ℕ} (pick (a && b) 0 17) 0
-        → q ≡ loan [] []
-    go true ea true eb h = ap₂ loan (empty (q .r) ea) (empty (q .perm) eb)
-    go true ea false eb h = absurd (omega arith)
-    go false ea b eb h = absurd (omega arith)
+abbrev loan : List ℕ → Loan
+loan r = record { r = r }
 
 module _ (R : Run) (q : Loan) where
-  open Run R using (l, strings, permutation)
+  open Run R using (l, strings)
 
   -- the r Blocks, lent or drawn
-  agrees-r : (n : ℕ) (perm : List ℕ) → Fabitn.strings l (q .r) ≡ Fabitn.strings l strings
-      → AlikeSend (subject .send 6) n l q (loan strings perm)
+  agrees-r : (n : ℕ) → Fabitn.strings l (q .r) ≡ Fabitn.strings l strings → AlikeSend (subject .send 6) n l q (loan strings)
   unfolding held written
-  agrees-r n perm e = record {
+  agrees-r n e = record {
     keep = λ i w.
         ap (λ (x : List ℕ). keep (frame n l i) KEY-SUMS x w) (sums-alike (frame n l i) (q .r) strings (at (frame n l i) BITS w) e);
     write = λ i r w. abit-alike (frame n l i) (q .r) strings (at (frame n l i) BITS w) e r;
   }
 
-  -- the permutation
-  agrees-perm : _≡_ {A = ℕ} (pick (eqb (length (q .r)) 0 && eqb (length (q .perm)) (leaky l)) (pick (isPerm (q .perm)) 0 18) 17) 0
-      → q .perm ≡ permutation → q ≡ loan [] (orderFor l permutation)
-  unfolding orderFor
-  agrees-perm h e = go (eqb (length (q .r)) 0) refl (eqb (length (q .perm)) (leaky l)) refl (isPerm (q .perm)) refl h
-    where
-      go : (a : Bool) → eqb (length (q .r)) 0 ≡ a → (b : Bool) → eqb (length (q .perm)) (leaky l) ≡ b → (c : Bool) → isPerm (q .perm) ≡ c
-          → _≡_ {A = ℕ} (pick (a && b) (pick c 0 18) 17) 0
-          → q ≡ loan [] (pick (eqb (length permutation) (leaky l) && isPerm permutation) permutation (tab (leaky l) (λ t. t)))
-      go true ea true eb true ec h =
-          ap₂ loan (empty (q .r) ea)
-          (e ∙ ap (λ b. pick b permutation (tab (leaky l) (λ t. t)))
-          (sym (ap (λ (p : List ℕ). eqb (length p) (leaky l) && isPerm p) (sym e) ∙ ap₂ _&&_ eb ec)))
-      go true ea true eb false ec h = absurd (omega arith)
-      go true ea false eb c ec h = absurd (omega arith)
-      go false ea b eb c ec h = absurd (omega arith)
-
   -- what the script lends
   abbrev lends : ℕ → Loan
-  lends j = loan (pick (eqb j 6) strings []) (pick (eqb j 21) (orderFor l permutation) [])
+  lends j = loan (pick (eqb j 6) strings [])
 
   -- where no r is due
-  agrees-rest : (n j : ℕ) → j ≢ 6 → lent j n l q ≡ 0 → (j ≡ 21 → q .perm ≡ permutation) → q ≡ lends j
+  agrees-rest : (n j : ℕ) → j ≢ 6 → lent j n l q ≡ 0 → q ≡ lends j
   unfolding lent
-  agrees-rest n j ne h g = go (eqb j 6) refl (eqb j 21) refl h
+  agrees-rest n j ne h = go (eqb j 6) refl h
     where
-      go : (a : Bool) → eqb j 6 ≡ a → (b : Bool) → eqb j 21 ≡ b
-          → pick a (pick (rFits l (length (q .r)) && eqb (length (q .perm)) 0) 0 17)
-          (pick b (pick (eqb (length (q .r)) 0 && eqb (length (q .perm)) (leaky l)) (pick (isPerm (q .perm)) 0 18) 17) (noLoan q)) ≡ 0
-          → q ≡ loan (pick a strings []) (pick b (orderFor l permutation) [])
-      go true ea b eb h = absurd (ne (eqb-true j 6 ea))
-      go false ea true eb h = agrees-perm h (g (eqb-true j 21 eb))
-      go false ea false eb h = none-lent q h
+      go : (a : Bool) → eqb j 6 ≡ a → _≡_ {A = ℕ} (pick (pick a (rFits l (length (q .r))) (eqb (length (q .r)) 0)) 0 17) 0
+          → q ≡ loan (pick a strings [])
+      go true ea h = absurd (ne (eqb-true j 6 ea))
+      go false ea h = ap loan (empty (q .r) (pick-then (eqb (length (q .r)) 0) 0 17 0 (λ e. omega arith) h .0))
 
   pub agrees : (n j : ℕ) → lent j n l q ≡ 0 → Agree R j q → AlikeSend (subject .send j) n l q (lends j)
   agrees n j h g =
-      by-eq _ j 6 (λ e. subst (λ j. AlikeSend (subject .send j) n l q (lends j)) (sym e) (agrees-r n _ (g .r-is e)))
-      (λ ne. alike-same (subject .send j) n l q (lends j) (agrees-rest n j ne h (g .perm-is)))
+      by-eq _ j 6 (λ e. subst (λ j. AlikeSend (subject .send j) n l q (lends j)) (sym e) (agrees-r n (g .r-is e)))
+      (λ ne. alike-same (subject .send j) n l q (lends j) (agrees-rest n j ne h))
 
 -- ---- what opening owes
 spec-refuses : (a : Args) → reason a ≢ 0
@@ -295,7 +229,7 @@ unfolding spec
 spec-refuses a ne = rw (ne-eqb (reason a) 0 ne) refl
 
 module _ (R : Run) (X : Opened R) where
-  open Run R using (n, l, inputs, strings, permutation)
+  open Run R using (n, l, inputs)
 
   -- what box b's opening writes: the commitment of its seed
   abbrev pub firstOut : ℕ → List ℕ

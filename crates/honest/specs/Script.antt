@@ -21,7 +21,7 @@ unfoldable pub use Rattle.alone.specs.Holds.{since}
 use Rattle.honest.specs.Inputs.{Run, box, deltas}
 
 module _ (R : Run) where
-  open Run R using (inputs, strings, permutation)
+  open Run R using (inputs, strings)
 
   -- ---- what the boxes were opened with
   abbrev recs : ℕ → List ℕ
@@ -106,7 +106,7 @@ module _ (R : Run) where
 
   -- ---- `faand`
   unfoldable pub perms : ℕ → List ℕ
-  perms i = Buckets.permBytes (box R i) permutation
+  perms i = Buckets.permBytes (box R i) (joint i)
 
   unfoldable pub sent21 : ℕ → ℕ → List ℕ
   sent21 j r = Buckets.dvalueMsg (box R j) (recs j) (perms j) r
@@ -153,7 +153,7 @@ module _ (R : Run) where
 
   abbrev pub script : Script
   script = record {
-    loan = λ k. record { r = pick (eqb k 6) strings []; perm = pick (eqb k 21) permutation [] };
+    loan = λ k. record { r = pick (eqb k 6) strings [] };
     ready = λ t s. leb (since s) t;
     val = λ t i s. holds i s;
     sent = sent;

@@ -1,5 +1,5 @@
 -- The premises of demand 3 can be met: inputs that are all zero but for the records' labels keep them, and with strings, lent or as a seed,
--- and a permutation of due length no call has a reason.
+-- no call has a reason.
 use mathlib.Core.Path.{_≡_, refl, sym, ap, _∙_, subst}
 use mathlib.Core.Bool.{Bool, true, false, _&&_}
 use mathlib.Core.List.{List, []}
@@ -20,20 +20,19 @@ use Rattle.share.specs.ShareLaws.{SmallShare, small-share-nil}
 use Rattle.share.specs.Lent.{lentLen, lentOf}
 use Rattle.share.specs.LentLaws.{length-lentOf, bytes-lentOf, lent-row, Valid, lent-valid}
 use Rattle.share.specs.Parties.{lentShared, share-of-nil, good-lent, lent-written}
-use Rattle.permutation.specs.Permutation.{isPerm}
 use Rattle.plan.specs.Plan.{InRange, leaky, bitsCount, rLen, msgLen}
 use Rattle.engine.specs.Step.{frame, Loan}
 use Rattle.engine.specs.Honest.{Lawful}
 use Rattle.engine.specs.PlainSession.{Supply}
 use Rattle.rounds.specs.Area.{workLen}
 use Rattle.rounds.specs.Opening.{Args}
-use Rattle.rounds.specs.Table.{noLoan, lent}
+use Rattle.rounds.specs.Table.{lent}
 use Rattle.rounds.specs.Fabitn.{rFits}
 use Rattle.rounds.specs.Fabitn as Fabitn
 use Rattle.rounds.specs.FabitnLaws.{strings-all, seed-long, fits-all, fits-seed}
 use Rattle.honest.specs.Subject.{opener, subject}
 use Rattle.honest.specs.Inputs.{Run, box, Opened}
-use Rattle.honest.specs.Opening.{lend, Given, Agree, orderFor}
+use Rattle.honest.specs.Opening.{lend, Given, Agree}
 
 -- ---- zero inputs
 abbrev zeros : ℕ → List ℕ
@@ -57,9 +56,9 @@ zeroInputs n l b = record {
   out = zeros ((n - 1) * msgLen n l 1);
 }
 
--- with any r and a permutation of due length
+-- with any r
 abbrev pub zeroRun : ℕ → ℕ → List ℕ → Run
-zeroRun n l r = record { n = n; l = l; inputs = zeroInputs n l; strings = r; permutation = orderFor l [] }
+zeroRun n l r = record { n = n; l = l; inputs = zeroInputs n l; strings = r }
 
 zero-at : (c k : ℕ) → getD (zeros c) k 0 ≡ 0
 zero-at zero k = refl
@@ -112,33 +111,27 @@ zero-boxes n l range r = record {
   beta-mac = λ t lt. blanks-good n l t _ lt;
 }
 
--- ---- lent buffers, strings and a permutation
+-- ---- lent buffers and strings
 -- box b is lent `forms b` as r: each as long as it should, and all of them the run's strings
 pub record Forms (R : Run) (forms : ℕ → List ℕ) : Type 0 where
   pub fits : (b : ℕ) → b < R .n → rFits (R .l) (length (forms b)) ≡ true
   pub same : (b : ℕ) → b < R .n → Fabitn.strings (R .l) (forms b) ≡ Fabitn.strings (R .l) (R .strings)
 
-module _ (R : Run) (forms : ℕ → List ℕ) (F : Forms R forms) (ho : length (R .permutation) ≡ leaky (R .l))
-    (perm : isPerm (R .permutation) ≡ true) where
-  open Run R using (n, l, inputs, permutation)
+module _ (R : Run) (forms : ℕ → List ℕ) (F : Forms R forms) where
+  open Run R using (n, l, inputs)
 
   -- what box b is lent for round j
   abbrev lends : ℕ → ℕ → Loan
-  lends b j = record { r = pick (eqb j 6) (forms b) []; perm = pick (eqb j 21) permutation [] }
+  lends b j = record { r = pick (eqb j 6) (forms b) [] }
 
-  -- it passes 17 and 18
+  -- it passes 17
   lent-none : (b j : ℕ) → b < n → lent j n l (lends b j) ≡ 0
-  unfolding lent noLoan
-  lent-none b j lb = go (eqb j 6) refl (eqb j 21) refl
+  unfolding lent
+  lent-none b j lb = go (eqb j 6)
     where
-      go : (x : Bool) → eqb j 6 ≡ x → (y : Bool) → eqb j 21 ≡ y
-          → (let q : Loan = record { r = pick x (forms b) []; perm = pick y permutation [] } in
-          pick x (pick (rFits l (length (q .r)) && eqb (length (q .perm)) 0) 0 17)
-          (pick y (pick (eqb (length (q .r)) 0 && eqb (length (q .perm)) (leaky l)) (pick (isPerm (q .perm)) 0 18) 17) (noLoan q)) ≡ 0)
-      go true ex true ey = absurd (omega (arith, eqb-true j 6 ex, eqb-true j 21 ey))
-      go true ex false ey = rw (F .fits b lb) refl
-      go false ex true ey = rw (eq-eqb (length permutation) (leaky l) ho, perm) refl
-      go false ex false ey = refl
+      go : (x : Bool) → _≡_ {A = ℕ} (pick (pick x (rFits l (length (pick x (forms b) []))) (eqb (length (pick x (forms b) [])) 0)) 0 17) 0
+      go true = rw (F .fits b lb) refl
+      go false = refl
 
   pub supply : (W : Lawful subject n l) → Supply subject n l opener (Agree R) (Given R) W
   supply W = record {
@@ -146,7 +139,7 @@ module _ (R : Run) (forms : ℕ → List ℕ) (F : Forms R forms) (ho : length (
     lends = lends;
     given = λ b lb. record { inputs-are = refl; work-len = length-replicate {A = ℕ} _ 0; out-len = length-replicate {A = ℕ} _ 0 };
     valid = lent-none;
-    agree = λ b j lb. record { r-is = λ e. rw e (F .same b lb); perm-is = λ e. rw e refl };
+    agree = λ b j lb. record { r-is = λ e. rw e (F .same b lb) };
   }
 
   pub supply-r : (W : Lawful subject n l) (b : ℕ) → supply W .lends b 6 .r ≡ forms b

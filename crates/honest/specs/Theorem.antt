@@ -1,6 +1,6 @@
 -- DEMAND 3. The premises on the inputs are in Premises.antt, the lists of calls in engine/World.antt; the claim stands here. It is proved
 -- of every list; and there are lists that meet its premises and end with all boxes done, also where one box is lent a seed and the others
--- all strings.
+-- all strings. It has no premise on the permutation: all boxes draw it from the one joint seed that they tossed (Toss.antt, `one-joint`).
 use mathlib.Core.Path.{_≡_, refl, sym, ap, ap₂, _∙_, subst}
 use mathlib.Core.Bool.{Bool, true, false, _&&_}
 use mathlib.Core.Logic.{_≢_, _↔_}
@@ -20,7 +20,6 @@ use Rattle.block.specs.Group.{blocks}
 use Rattle.share.specs.Record.{bitAt}
 use Rattle.share.specs.Lent.{lentLen, lentAt}
 use Rattle.share.specs.Parties.{lentShared}
-use Rattle.permutation.specs.Permutation.{isPerm}
 use Rattle.plan.specs.Plan.{InRange, leaky, rLen}
 use Rattle.engine.specs.Step.{Loan, Lent, Protocol}
 use Rattle.engine.specs.World.{In, All, Box, Call, opening, turn, Scene, start, runs, FairList, AllRight, Done}
@@ -37,9 +36,9 @@ use Rattle.rounds.specs.Fabitn as Fabitn
 use Rattle.rounds.specs.FabitnLaws.{seed-long}
 use Rattle.honest.specs.Subject.{opener, subject}
 use Rattle.honest.specs.Script as S
-use Rattle.honest.specs.Inputs.{Run, box, deltas, lentAlphas, lentBetas, Opened, Boxes, Inputs}
+use Rattle.honest.specs.Inputs.{Run, box, deltas, lentAlphas, lentBetas, Opened, Boxes}
 use Rattle.honest.specs.Course.{lawful}
-use Rattle.honest.specs.Opening.{Given, Agree, played, order-for, total-keeps, inputs-for, honest-opening}
+use Rattle.honest.specs.Opening.{Given, Agree, played, total-keeps, boxes-for, honest-opening}
 use Rattle.honest.specs.Supply.{zeroRun, Forms, supply, supply-r, oneSeed, one-seed}
 use Rattle.honest.specs.Premises.{Premises, opened-of, zero-premises}
 use Rattle.honest.specs.Values.{LeakyTriples}
@@ -56,9 +55,8 @@ use Rattle.honest.specs.Results.{length-result, good-result, total-resul
 abbrev pub session : Protocol
 session = protocolOf subject
 
--- ---- WHAT IS CLAIMED, of a run: n boxes with one l, box b opened with `inputs b`, all lent the same r strings and the same permutation.
+-- ---- WHAT IS CLAIMED, of a run: n boxes with one l, box b opened with `inputs b`, all lent the same r strings, of which nothing is asked.
 -- "Demand 3's equal r strings are the Blocks lent or drawn, whichever form each box got." (02, order 4)
--- Of these two nothing is asked: a list that is no permutation is refused by every box, with 18.
 module _ (R : Run) (P : Premises R) where
   open Run R using (n, l, inputs)
 
@@ -109,11 +107,8 @@ pub record LentAs (b : ℕ) (x : List ℕ) (cs : List (Call Args)) : Type 0 wher
   pub each : All (LentR b x) cs
 
 -- ---- all rounds are honest
-module _ (R : Run) (I : Inputs R) where
+module _ (R : Run) (X : Boxes R) where
   open Run R using (n, l)
-
-  abbrev X : Boxes R
-  X = I .boxes
 
   pub honest : Honest subject (S.script R) n l
   unfolding plainAfter echoIn mem allOf
@@ -133,7 +128,7 @@ module _ (R : Run) (I : Inputs R) where
         (also (recv-15 R X)
         (also (recv-17 R X)
         (also (recv-19 R X)
-        (also (recv-21 R I)
+        (also (recv-21 R X)
         tt)))))))))))));
     send =
         (also (send-3 R X)
@@ -147,8 +142,8 @@ module _ (R : Run) (I : Inputs R) where
         (also (send-15 R X)
         (also (send-17 R X)
         (also (send-19 R X)
-        (also (send-21 R I)
-        (also (send-22 R I)
+        (also (send-21 R X)
+        (also (send-22 R X)
         tt)))))))))))));
     lists =
         (also (list-1 R X)
@@ -160,7 +155,7 @@ module _ (R : Run) (I : Inputs R) where
         (also (list-17 R X)
         (also (list-19 R X)
         tt))))))));
-    last = last-22 R I (leaky-triple R X);
+    last = last-22 R X (leaky-triple R X);
   }
 
 steps-are : (two : Bool) → stepsOf subject two ≡ pick two 14 22
@@ -189,23 +184,23 @@ and-is true b = refl
 and-is false b = refl
 
 module _ (R : Run) (P : Premises R) where
-  open Run R using (n, l, inputs, permutation)
+  open Run R using (n, l, inputs)
 
   abbrev O : Opened R
   O = opened-of R P
 
-  -- with the inputs as they are kept, and some other permutation where that is none
+  -- with the inputs as they are kept
   abbrev R′ : Run
   R′ = played R
 
-  abbrev I′ : Inputs R′
-  I′ = inputs-for R O
+  abbrev X′ : Boxes R′
+  X′ = boxes-for R O
 
   abbrev W : Lawful subject n l
   W = lawful n l (O .range)
 
   abbrev H : Honest subject (S.script R′) n l
-  H = honest R′ I′
+  H = honest R′ X′
 
   abbrev opens : HonestOpening subject (S.script R′) n l opener (Agree R) (Given R) W
   opens = honest-opening R O W
@@ -214,7 +209,7 @@ module _ (R : Run) (P : Premises R) where
   duty = dutyOf subject (S.script R′) n l opener (Agree R) (Given R) W H opens
 
   abbrev triples : LeakyTriples R′
-  triples = leaky-triple R′ (I′ .boxes)
+  triples = leaky-triple R′ X′
 
   abbrev result : ℕ → List ℕ
   result b = S.resultOf R′ b
@@ -228,14 +223,14 @@ module _ (R : Run) (P : Premises R) where
       → lentAt (result j) (t * lentLen n) .mac k
       ≡ blocks .op (lentAt (result k) (t * lentLen n) .key j) (sel blocks (bitAt (result j) (t * lentLen n)) (deltas R k))
   unfolding lentShared lentAt
-  mac-rule j k lj lk ne t lt = good-result R′ I′ t lt triples j k lj lk ne
+  mac-rule j k lj lk ne t lt = good-result R′ X′ t lt triples j k lj lk ne
 
   and-rule : (t : ℕ) → t < l
       → sum bits n (λ b. bitAt (result b) (t * lentLen n))
       ≡ (sum bits n (λ b. bitAt (inputs b .alpha) (t * lentLen n)) && sum bits n (λ b. bitAt (inputs b .beta) (t * lentLen n)))
   unfolding lentShared
   and-rule t lt =
-      total-result R′ I′ t lt triples
+      total-result R′ X′ t lt triples
       ∙ ap₂ (sel bits)
       (total-keeps R O (λ l. l) (λ b. inputs b .alpha) (λ b lb. O .own b lb .alpha-bytes) t lt)
       (total-keeps R O (λ l. l) (λ b. inputs b .beta) (λ b lb. O .own b lb .beta-bytes) t lt)
@@ -252,7 +247,7 @@ module _ (R : Run) (P : Premises R) where
         (λ d. h .0 d ∙ steps-are (eqb n 2), λ r. h .1 (r ∙ sym (steps-are (eqb n 2))));
     records = λ b x e d.
         let p = wrote-is cs fair b x e d in
-        ap length (p .1) ∙ length-result R′ I′ b (p .0);
+        ap length (p .1) ∙ length-result R′ X′ b (p .0);
     macs = λ j k x y e g ne d d′ t lt.
         let p = wrote-is cs fair j x e d in
         let q = wrote-is cs fair k y g d′ in
@@ -263,11 +258,10 @@ module _ (R : Run) (P : Premises R) where
         ∙ and-rule t lt;
   }
 
-  -- ---- its premises can be met, and all boxes come to be done, whichever form of the strings each box is lent, where the permutation is
-  -- one of due length
-  module _ (forms : ℕ → List ℕ) (F : Forms R forms) (ho : length permutation ≡ leaky l) (hp : isPerm permutation ≡ true) where
+  -- ---- its premises can be met, and all boxes come to be done, whichever form of the strings each box is lent
+  module _ (forms : ℕ → List ℕ) (F : Forms R forms) where
     abbrev supplied : Supply subject n l opener (Agree R) (Given R) W
-    supplied = supply R forms F ho hp W
+    supplied = supply R forms F W
 
     abbrev cast : Cast (scene R P)
     cast = castOf subject n l opener (Agree R) (Given R) W supplied
@@ -275,7 +269,7 @@ module _ (R : Run) (P : Premises R) where
     r-lent : (b : ℕ) (q : Loan) → q ≡ cast .lends b 5 → q .r ≡ forms b
     r-lent b q e =
         ap (λ (q : Loan). q .r) (e ∙ cast-lends subject n l opener (Agree R) (Given R) W supplied b 5)
-        ∙ ap (λ j. supplied .lends b j .r) (fabitn-next (eqb n 2)) ∙ supply-r R forms F ho hp W b
+        ∙ ap (λ j. supplied .lends b j .r) (fabitn-next (eqb n 2)) ∙ supply-r R forms F W b
 
     as-lent : (b : ℕ) (cs : List (Call Args)) → All (AsCast (scene R P) duty cast) cs → All (LentR b (forms b)) cs
     as-lent b [] h = tt
@@ -317,8 +311,7 @@ module _ (n l : ℕ) (r : InRange n l) (seed : List ℕ) (h : length seed ≡ 16
       × ((b : ℕ) → b < n → (x : Box) × Stands (zeroRun n l seed) (zero-premises n l r seed) cs b x × Done session (x .session))
       × LentAs 0 seed cs × ((b : ℕ) → 0 < b → b < n → LentAs b (Fabitn.strings l seed) cs) × (length (Fabitn.strings l seed) ≡ rLen l)
   some-run =
-      let s = some-list (zeroRun n l seed) (zero-premises n l r seed) (oneSeed l seed) (one-seed n l seed h) (order-for l [] .0)
-      (order-for l [] .1) in (
+      let s = some-list (zeroRun n l seed) (zero-premises n l r seed) (oneSeed l seed) (one-seed n l seed h) in (
         s .0,
         s .1,
         s .2,

@@ -1,4 +1,4 @@
--- Rounds 1, 3, 4 and 5 in an honest run: every commitment opens, and the seeds are those of the script.
+-- Rounds 1, 3, 4 and 5 in an honest run: every commitment opens, the seeds are those of the script, and all boxes hold one joint seed.
 use mathlib.Core.Path.{_≡_, refl, sym, ap, _∙_}
 use mathlib.Core.Logic.{_≢_}
 use mathlib.Core.List.{List, [], _∷_, _++_}
@@ -7,7 +7,7 @@ use native.Mathlib.Nat.{le-refl}
 use native.Mathlib.Omega.{arith}
 use lib.ListN.{length, getD, take}
 use lib.Seq.{take-all, drop-at}
-use lib.Bits.{bitXor}
+use lib.Bits.{bitXor, xor-comm}
 use Rattle.lists.specs.Pick.{pick}
 use Rattle.lists.specs.All.{allOf}
 use Rattle.lists.specs.Over.{tab, length-tab, cat}
@@ -15,7 +15,7 @@ use Rattle.lists.specs.Tab.{tab-getD}
 use Rattle.lists.specs.Rows.{chunk, length-chunk, tab-ext}
 use Rattle.lists.specs.Same.{same?, same-eq}
 use Rattle.algebra.specs.Group.{numbers}
-use Rattle.algebra.specs.Sum.{others-ext}
+use Rattle.algebra.specs.Sum.{others, others-ext, others-all}
 use Rattle.block.specs.Block.{le8, xorInplace}
 use Rattle.block.specs.Trip.{length-le8}
 use Rattle.message.specs.declared.Kind.the-variants.{Items}
@@ -37,7 +37,7 @@ use Rattle.alone.specs.Base.{rows-ext, length-rows, chunk-rows}
 use Rattle.blake3.specs.ByteLaws.{length-hash}
 use Rattle.rounds.specs.EchoLaws.{length-hashVec}
 use Rattle.honest.specs.Script as S
-use Rattle.honest.specs.Inputs.{Run, box, Boxes}
+use Rattle.honest.specs.Inputs.{Run, box, Boxes, jointOf}
 use Rattle.honest.specs.Base.{Receives, Sends, Hashes, list-form, list-len, Fit, seed-at, pairs-at, comms-at, pair-comms-at}
 use Rattle.honest.specs.Base.{keep-none, keep-one}
 
@@ -190,6 +190,17 @@ module _ (R : Run) (X : Boxes R) where
     keeps = λ i li w K m M. keep-one R (due 3) (before 4) i li K JOINT _ refl fit-joint
         (ap (λ (x : List ℕ). jointSeed (box R i) x m) (seed-at R K) ∙ joint-ext (box R i) (inputs i .seed) m _ M);
   }
+
+  -- after the toss all boxes hold one joint seed: each has heard the seeds of all others
+  pub one-joint : (i : ℕ) → i < n → S.joint R i ≡ jointOf R
+  unfolding S.joint S.sent3 jointSeed jointOf
+  one-joint i li =
+      tab-ext 32 _ _ (λ t lt.
+      let seed : ℕ → ℕ = λ k. getD (inputs k .seed) t 0 in
+      ap (bitXor (seed i))
+      (others-ext numbers i n (λ k. getD (told (verMsg (inputs k .seed))) t 0) seed
+      (λ k lk ne. ap (λ (x : List ℕ). getD x t 0) (told-seed k lk (verMsg (inputs k .seed)) refl)))
+      ∙ xor-comm (seed i) (others numbers i n seed) ∙ others-all numbers i n seed li)
 
   -- ---- round 4
   pub send-4 : Sends R 4

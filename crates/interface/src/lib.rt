@@ -110,7 +110,7 @@ fn section_or_0(n: u32, l: u32, s: usize) -> usize
     }
 }
 
-// The joint seed, from which r and the permutation are drawn.
+// The joint seed, from which the seed of r may be taken.
 pub fn joint_seed_at(n: u32, l: u32) -> usize
     ensures { λ r. ⌜ r ≡ jointAt n l ⌝ }
 {

@@ -2,7 +2,7 @@
 // The calls promise what `opening`, `session` and `combine` promise, refused calls included; the rest tells a host the lengths of what it
 // lends.
 ghost use mathlib.Core.Path.{_≡_};
-ghost use Rattle.plan.specs.Plan.{within, outLen, bitsLen, sharesLen, masksLen, pairsLen, rDue, permDue};
+ghost use Rattle.plan.specs.Plan.{within, outLen, bitsLen, sharesLen, masksLen, pairsLen, rDue};
 ghost use Rattle.engine.specs.Step.{frame};
 ghost use Rattle.rounds.specs.Area.{workLen};
 ghost use Rattle.rounds.specs.Combine as Combine;
@@ -81,12 +81,11 @@ pub extern "C" fn nuzsdike_round(
     lens: &[usize],
     missing: &[u8],
     r: &[u8],
-    perm: &[u32],
     work: &mut [u8],
     out: &mut [u8],
 ) -> u64
     ensures { λ a. ⌜ exported a (now (session .exit)) (now (work .exit)) (now (out .exit)) ≡ roundC (now (session .entry)) round
-        (given (now (incoming .entry)) (now (starts .entry)) (now (lens .entry)) (now (missing .entry)) (now (r .entry)) (now (perm .entry)) (now (out .entry)))
+        (given (now (incoming .entry)) (now (starts .entry)) (now (lens .entry)) (now (missing .entry)) (now (r .entry)) (now (out .entry)))
         (now (work .entry)) ⌝ }
 {
     if session.len() != 4 {
@@ -101,7 +100,6 @@ pub extern "C" fn nuzsdike_round(
         lens,
         missing,
         r,
-        perm,
         work,
         out,
     );
@@ -185,13 +183,6 @@ pub extern "C" fn nuzsdike_r_len(n: u32, l: u32, round: u32) -> usize
 }
 
 #[no_mangle]
-pub extern "C" fn nuzsdike_perm_len(n: u32, l: u32, round: u32) -> usize
-    ensures { λ r. ⌜ r ≡ permDue n l round ⌝ }
-{
-    plan::perm_due(n as usize, l as usize, round as usize)
-}
-
-#[no_mangle]
 pub extern "C" fn nuzsdike_record_len(n: u32) -> usize
     ensures { λ r. ⌜ r ≡ recordBytes n ⌝ }
 {
@@ -200,7 +191,7 @@ pub extern "C" fn nuzsdike_record_len(n: u32) -> usize
 
 // ---- where what a host needs lies in the work area
 
-// The joint seed, from which r and the permutation are drawn.
+// The joint seed, from which the seed of r may be taken.
 #[no_mangle]
 pub extern "C" fn nuzsdike_joint_seed_at(n: u32, l: u32) -> usize
     ensures { λ r. ⌜ r ≡ jointAt n l ⌝ }

@@ -7,7 +7,7 @@ use Prim.Native.Nat.{ℕ, _-_, _*_, _≤_}
 use native.Mathlib.Omega.{arith}
 use lib.ListN.{length}
 use lib.Dec.{leb, eqb}
-use borrow.Author.Tests.{le-leb, eqb-true, ne-eqb}
+use borrow.Author.Tests.{le-leb, ne-eqb}
 use Rattle.lists.specs.Pick.{pick}
 use Rattle.lists.specs.Rows.{chunk}
 use Rattle.lists.specs.Over.{length-cat}
@@ -15,7 +15,6 @@ use Rattle.lists.specs.All.{allOf, true-false, of-all}
 use Rattle.block.specs.declared.Block.{Block}
 use Rattle.block.specs.Block.{blockAt}
 use Rattle.block.specs.Trip.{length-bytesOf}
-use Rattle.permutation.specs.Permutation.{isPerm}
 use Rattle.plan.specs.Plan.{echo?, leaky, msgLen}
 use Rattle.plan.specs.PlanLaws.{Rest}
 use Rattle.engine.specs.declared.Frame.{Frame}
@@ -40,23 +39,14 @@ use Rattle.plain.specs.Plain.{plain}
 use Rattle.plain.specs.Held.{Held}
 
 -- ---- what is lent with the call
-taken : (a b : Bool) → _≡_ {A = ℕ} (pick (a && b) 0 17) 0 → a ≡ true
-taken true b h = refl
-taken false b h = absurd (omega (arith, h))
-
-taken-next : (a b c : Bool) → _≡_ {A = ℕ} (pick (a && b) (pick c 0 18) 17) 0 → b ≡ true
-taken-next true true c h = refl
-taken-next true false c h = absurd (omega (arith, h))
-taken-next false b c h = absurd (omega (arith, h))
+taken : (a : Bool) → _≡_ {A = ℕ} (pick a 0 17) 0 → a ≡ true
+taken true h = refl
+taken false h = absurd (omega (arith, h))
 
 module _ (f : Frame) (q : Loan) (k : ℕ) (h : lent k (f .n) (f .l) q ≡ 0) where
   pub strings-lent : k ≡ 6 → rFits (f .l) (length (q .r)) ≡ true
   unfolding lent
-  strings-lent e = taken _ _ (sym (ap (λ j. lent j (f .n) (f .l) q) e) ∙ h)
-
-  pub perm-lent : k ≡ 21 → length (q .perm) ≡ leaky (f .l)
-  unfolding lent
-  perm-lent e = eqb-true _ _ (taken-next (eqb (length (q .r)) 0) _ (isPerm (q .perm)) (sym (ap (λ j. lent j (f .n) (f .l) q) e) ∙ h))
+  strings-lent e = taken _ (sym (ap (λ j. lent j (f .n) (f .l) q) e) ∙ h)
 
 -- ---- the round with number k is round j
 module _ (f : Frame) (q : Loan) (w : List ℕ) (k : ℕ) where

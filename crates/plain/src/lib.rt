@@ -4,10 +4,9 @@
 ghost use mathlib.Core.Path.{_≡_};
 ghost use mathlib.Core.Bool.{true};
 ghost use mathlib.Core.Logic.{_≢_};
-ghost use mathlib.Core.List.{List};
-ghost use Prim.Native.Nat.{ℕ, _-_, _*_, _≤_};
+ghost use Prim.Native.Nat.{_-_, _*_, _≤_};
 ghost use lib.ListN.{length};
-ghost use Rattle.plan.specs.Plan.{FABITN, DVALUE, kindOf, countDue, msgLen, leaky};
+ghost use Rattle.plan.specs.Plan.{FABITN, kindOf, countDue, msgLen};
 ghost use Rattle.engine.specs.Step.{Loan, mask};
 ghost use Rattle.engine.specs.Area.{toOthers};
 ghost use Rattle.rounds.specs.Mail.{letter};
@@ -63,15 +62,15 @@ pub fn keep(work: &mut [u8], incoming: &[u8], mail: Mail, f: Frame, k: usize)
 }
 
 // What is kept when the messages of round k are made, of all rounds but `fabitn`.
-fn hold(work: &mut [u8], perm: &[u32], f: Frame, k: usize)
+fn hold(work: &mut [u8], f: Frame, k: usize)
     requires { ⌜ Work f (now work) ⌝ }
-    requires { ⌜ (k ≢ FABITN) × (k ≡ DVALUE → length (now perm) ≡ leaky (f .l)) ⌝ }
-    ensures { λ _. ⌜ ((r : List ℕ) → now (work .exit) ≡ Table.held k f (record { r = r; perm = now (perm .entry) }) (now (work .entry))) ⌝ }
+    requires { ⌜ k ≢ FABITN ⌝ }
+    ensures { λ _. ⌜ ((q : Loan) → now (work .exit) ≡ Table.held k f q (now (work .entry))) ⌝ }
 {
     match k {
         plan::HAAND => haand_rows::hold(work, f),
         plan::FLAAND_COMM => flaand_comm::hold(work, f),
-        plan::DVALUE => buckets::hold(work, perm, f),
+        plan::DVALUE => buckets::hold(work, f),
         plan::FAAND => triples::hold(work, f),
         _ => {}
     }
@@ -103,18 +102,18 @@ fn write(out: &mut [u8], work: &[u8], f: Frame, k: usize)
 }
 
 // The messages of round k are made: what they need is kept, then they are written. In `fabitn` both are made of the same strings.
-pub fn make(work: &mut [u8], out: &mut [u8], r: &[u8], perm: &[u32], f: Frame, k: usize)
+pub fn make(work: &mut [u8], out: &mut [u8], r: &[u8], f: Frame, k: usize)
     requires { ⌜ Work f (now work) ⌝ }
     requires { ⌜ (plain k ≡ true) × (length (now out) ≡ (f .n - 1) * msgLen (f .n) (f .l) k) ⌝ }
-    requires { ⌜ Table.lent k (f .n) (f .l) (record { r = now r; perm = now perm }) ≡ 0 ⌝ }
-    ensures { λ _. ⌜ (now (work .exit) ≡ Table.held k f (record { r = now (r .entry); perm = now (perm .entry) }) (now (work .entry)))
-        × (now (out .exit) ≡ toOthers (f .n) (f .i) (Table.written k f (record { r = now (r .entry); perm = now (perm .entry) })
-        (Table.held k f (record { r = now (r .entry); perm = now (perm .entry) }) (now (work .entry))))) ⌝ }
+    requires { ⌜ Table.lent k (f .n) (f .l) (record { r = now r }) ≡ 0 ⌝ }
+    ensures { λ _. ⌜ (now (work .exit) ≡ Table.held k f (record { r = now (r .entry) }) (now (work .entry)))
+        × (now (out .exit) ≡ toOthers (f .n) (f .i) (Table.written k f (record { r = now (r .entry) })
+        (Table.held k f (record { r = now (r .entry) }) (now (work .entry))))) ⌝ }
 {
     if k == plan::FABITN {
         fabitn::make(work, out, r, f);
     } else {
-        hold(work, perm, f, k);
+        hold(work, f, k);
         write(out, work, f, k);
     }
 }

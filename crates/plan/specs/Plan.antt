@@ -187,13 +187,9 @@ outLen n l k =
     (pick (eqb (writes n k) 0) 0
     (within n l ((n - 1) * msgLen n l (writes n k))))
 
--- "The r Blocks are lent with the call that writes `fabitn`, the permutation (32-bit numbers) with the one that writes `dvalue`; both are
--- empty otherwise": the bytes of r, and the numbers of the permutation
+-- "The r Blocks are lent with the call that writes `fabitn`": the bytes of r
 unfoldable pub rDue : ℕ → ℕ → ℕ → ℕ
 rDue n l k = pick (eqb (writes n k) FABITN) (within n l (rLen l)) 0
-
-unfoldable pub permDue : ℕ → ℕ → ℕ → ℕ
-permDue n l k = pick (eqb (writes n k) DVALUE) (within n l (leaky l)) 0
 
 -- what one box sends to one other in the rounds up to k, and to all others in a session
 unfoldable pub sentUpTo : ℕ → ℕ → ℕ → ℕ

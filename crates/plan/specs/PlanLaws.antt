@@ -18,7 +18,7 @@ use Rattle.engine.specs.Area.{mem}
 use Rattle.engine.specs.Order.{echoIn, roundIn, nextIn}
 use Rattle.plan.specs.Plan.{theRounds, echo?, isRound, nextRound, order, writes, bucketSize, leaky, bitsCount, rBlocks, rLen}
 use Rattle.plan.specs.Plan.{kindOf, countDue, dmLen, listLen, Listed, msgLen, parties?, inRange, InRange, bitsLen, sharesLen}
-use Rattle.plan.specs.Plan.{masksLen, pairsLen, outLen, rDue, permDue, sentUpTo}
+use Rattle.plan.specs.Plan.{masksLen, pairsLen, outLen, rDue, sentUpTo}
 
 -- ---- the order of the rounds
 
@@ -72,9 +72,9 @@ order-first n = go (eqb n 2)
     go true = refl
     go false = refl
 
--- which call writes fabitn, and which dvalue
+-- which call writes fabitn
 lent? : Bool → ℕ → Bool
-lent? two k = Bool·beq (eqb (writesIf two k) 6) (eqb k 5) && Bool·beq (eqb (writesIf two k) 21) (eqb k (pick two 19 20))
+lent? two k = Bool·beq (eqb (writesIf two k) 6) (eqb k 5)
 
 lents : (two : Bool) → allOf 23 (lent? two) ≡ true
 unfolding allOf lent? writesIf roundIn nextIn echoIn mem
@@ -91,32 +91,16 @@ beq-true true false h = absurd (true-false (sym h))
 beq-true false true h = absurd (true-false (sym h))
 beq-true false false h = refl
 
--- "the call that writes `fabitn`" is the one for round 5, "the one that writes `dvalue`" that for round 20, or 19 for two parties
+-- "the call that writes `fabitn`" is the one for round 5
 pub writes-fabitn : (n k : ℕ) → eqb (writes n k) 6 ≡ eqb k 5
 unfolding writes lent? writesIf
 writes-fabitn n k = go (ltb k 23) refl
   where
     go : (b : Bool) → ltb k 23 ≡ b → eqb (writes n k) 6 ≡ eqb k 5
-    go true e = beq-true _ _ (and-first _ _ (of-all 23 (lent? (eqb n 2)) (lents (eqb n 2)) k (ltb-true k 23 e)))
+    go true e = beq-true _ _ (of-all 23 (lent? (eqb n 2)) (lents (eqb n 2)) k (ltb-true k 23 e))
     go false e =
         let h : 22 < k = omega (arith, ltb-false k 23 e) in
         ap (λ w. eqb w 6) (writes-past n k h) ∙ sym (ne-eqb k 5 (omega arith))
-
-pub writes-dvalue : (n k : ℕ) → eqb (writes n k) 21 ≡ eqb k (pick (eqb n 2) 19 20)
-unfolding writes lent? writesIf
-writes-dvalue n k = go (ltb k 23) refl
-  where
-    far : (two : Bool) → 22 < k → eqb k (pick two 19 20) ≡ false
-    far true h = ne-eqb k 19 (omega arith)
-    far false h = ne-eqb k 20 (omega arith)
-
-    go : (b : Bool) → ltb k 23 ≡ b → eqb (writes n k) 21 ≡ eqb k (pick (eqb n 2) 19 20)
-    go true e =
-        beq-true _ _ (and-second (Bool·beq (eqb (writesIf (eqb n 2) k) 6) (eqb k 5)) _
-        (of-all 23 (lent? (eqb n 2)) (lents (eqb n 2)) k (ltb-true k 23 e)))
-    go false e =
-        let h : 22 < k = omega (arith, ltb-false k 23 e) in
-        ap (λ w. eqb w 21) (writes-past n k h) ∙ sym (far (eqb n 2) h)
 
 -- the next round, as the code finds it
 module _ (n k : ℕ) (b : Bool) (h : k < 22) (e : b ≡ echo? (k + 1)) where
@@ -235,10 +219,6 @@ module _ (n l : ℕ) (r : InRange n l) where
   pub r-due : (k : ℕ) → rDue n l k ≡ pick (eqb k 5) (rLen l) 0
   unfolding rDue
   r-due k = rw (writes-fabitn n k, in-range n l r) refl
-
-  pub perm-due : (k : ℕ) → permDue n l k ≡ pick (eqb k (pick (eqb n 2) 19 20)) (leaky l) 0
-  unfolding permDue
-  perm-due k = rw (writes-dvalue n k, in-range n l r) refl
 
 -- ---- the table of rounds, case by case: a round that is no echo, or none of them
 pub record Rest (k : ℕ) : Type 0 where

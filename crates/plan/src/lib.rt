@@ -9,8 +9,7 @@ ghost use lib.ListN.{getD};
 ghost use Rattle.engine.specs.Area.{nth};
 ghost use Rattle.plan.specs.Plan as S;
 ghost use Rattle.plan.specs.Plan.{echo?, isRound, nextRound, bucketSize, bitsCount, rBlocks, rLen, kindOf, countDue, dmLen, listLen};
-ghost use Rattle.plan.specs.Plan.{msgLen, parties?, inRange, InRange, Listed, bitsLen, sharesLen, masksLen, pairsLen, outLen, rDue};
-ghost use Rattle.plan.specs.Plan.{permDue, sentUpTo};
+ghost use Rattle.plan.specs.Plan.{msgLen, parties?, inRange, InRange, Listed, bitsLen, sharesLen, masksLen, pairsLen, outLen, rDue, sentUpTo};
 ghost use Rattle.plan.specs.Names.{names, roundName};
 use message::Kind;
 
@@ -276,16 +275,6 @@ pub fn r_due(n: usize, l: usize, k: usize) -> usize
         return 0;
     }
     if in_range(n, l) { r_len(l) } else { 0 }
-}
-
-// The numbers of the permutation that are lent with the call for round k.
-pub fn perm_due(n: usize, l: usize, k: usize) -> usize
-    ensures { λ r. ⌜ r ≡ permDue n l k ⌝ }
-{
-    if writes(n, k) != DVALUE {
-        return 0;
-    }
-    if in_range(n, l) { leaky(l) } else { 0 }
 }
 
 // The bytes that one box sends to one other.

@@ -87,7 +87,7 @@ HS = 17
 abbrev pub H-COMMS : ℕ
 H-COMMS = 18
 
--- the permutation, 4 bytes each, low byte first
+-- the permutation from the joint seed, 4 bytes each, low byte first
 abbrev pub PERM : ℕ
 PERM = 19
 

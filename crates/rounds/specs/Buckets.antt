@@ -1,8 +1,8 @@
 -- `faand` (document 01, "What each round means"; WRK17b, Pi_aAND): buckets of leaky ANDs, combined. Round 21. `recs` is the list of
 -- records, zs the rows with the own bits z, es the others' e, perm the permutation in bytes, `m k` the message of party k.
 use mathlib.Core.Bool.{Bool}
-use mathlib.Core.List.{List, [], _∷_, _++_}
-use Prim.Native.Nat.{ℕ, zero, suc, _+_, _-_, _*_, _/_, _%_}
+use mathlib.Core.List.{List, _++_}
+use Prim.Native.Nat.{ℕ, zero, suc, _+_, _-_, _*_, _%_}
 use lib.ListN.{getD}
 use Rattle.lists.specs.Pick.{pick}
 use Rattle.lists.specs.All.{allOf}
@@ -13,6 +13,8 @@ use Rattle.block.specs.declared.Block.{Block}
 use Rattle.block.specs.Block.{blockAt, eqBlock}
 use Rattle.block.specs.Group.{blocks}
 use Rattle.share.specs.Share.{Share, shares, recordOf}
+use Rattle.word.specs.Word.{wordAt, le4s}
+use Rattle.shuffle.specs.Shuffle.{permutation}
 use Rattle.encode.specs.Encode.{encode, dvalueItem}
 use Rattle.plan.specs.Plan.{leaky, bucketSize}
 use Rattle.engine.specs.declared.Frame.{Frame}
@@ -35,20 +37,18 @@ combine g d zero = g 0
 combine g d (suc e) = two (combine g d e) (g (suc e)) (d e)
 
 -- ---- the buckets
--- the permutation is kept as 32-bit numbers, low byte first
-unfoldable pub le4 : ℕ → List ℕ
-le4 v = v % 256 ∷ v / 0x100 % 256 ∷ v / 0x1_0000 % 256 ∷ v / 0x100_0000 % 256 ∷ []
+-- "the permutation from the joint seed" (02, order 6), of 0 to l·b − 1
+unfoldable pub order : Frame → List ℕ → List ℕ
+order f joint = permutation joint (leaky (f .l))
 
-unfoldable pub word4 : List ℕ → ℕ → ℕ
-word4 s at = ((getD s (at + 3) 0 * 256 + getD s (at + 2) 0) * 256 + getD s (at + 1) 0) * 256 + getD s at 0
-
+-- as it is kept: 32-bit numbers, low byte first
 unfoldable pub permBytes : Frame → List ℕ → List ℕ
-permBytes f p = cat (leaky (f .l)) (λ t. le4 (getD p t 0))
+permBytes f joint = le4s (leaky (f .l)) (order f joint)
 
 -- "Bucket j takes entries j·b onward of the permutation": its entry e. The numbers of a permutation are below l·b already; the remainder is
 -- for a work area that holds anything else, so that no entry points outside the runs.
 unfoldable pub entry : Frame → List ℕ → ℕ → ℕ → ℕ
-entry f perm j e = word4 perm ((j * bucketSize (f .l) + e) * 4) % leaky (f .l)
+entry f perm j e = wordAt ((j * bucketSize (f .l) + e) * 4) perm % leaky (f .l)
 
 -- how many later entries a bucket has
 unfoldable pub later : Frame → ℕ

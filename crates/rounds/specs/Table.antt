@@ -9,10 +9,9 @@ use Rattle.lists.specs.Rows.{chunk}
 use Rattle.block.specs.declared.Block.{Block}
 use Rattle.block.specs.Block.{blockAt}
 use Rattle.share.specs.Lent.{lentLen}
-use Rattle.permutation.specs.Permutation.{isPerm}
 use Rattle.message.specs.Format.{formOf}
 use Rattle.plan.specs.Plan.{RNG-COMM, RNG-VER, PAIR-COMM, PAIR-VER, FABITN, FASHARE-COMM, FASHARE-VER, FASHARE-DIBI, HAAND, FLAAND}
-use Rattle.plan.specs.Plan.{FLAAND-COMM, FLAAND-HASH, DVALUE, FAAND, theRounds, kindOf, countDue, msgLen, leaky}
+use Rattle.plan.specs.Plan.{FLAAND-COMM, FLAAND-HASH, DVALUE, FAAND, theRounds, kindOf, countDue, msgLen}
 use Rattle.engine.specs.declared.Frame.{Frame}
 use Rattle.engine.specs.Step.{Fault, none?, Loan}
 use Rattle.engine.specs.Plain.{Recv, Send, Table}
@@ -90,17 +89,10 @@ recv k = record {
 }
 
 -- ---- how the messages of each round are made
--- "both are empty otherwise"
-unfoldable pub noLoan : Loan → ℕ
-noLoan q = pick (eqb (length (q .r)) 0 && eqb (length (q .perm)) 0) 0 17
-
--- 17 or 18 of the r Blocks and the permutation: r, all strings or a seed, is due with the call that writes `fabitn`, the permutation with
--- the one that writes `dvalue`. k is what the call writes: a round, an echo too, or 0 for the results
+-- 17 of the r Blocks: all strings or a seed are due with the call that writes `fabitn`, and nothing with any other. k is what the call
+-- writes: a round, an echo too, or 0 for the results
 unfoldable pub lent : ℕ → ℕ → ℕ → Loan → ℕ
-lent k n l q =
-    pick (eqb k FABITN) (pick (Fabitn.rFits l (length (q .r)) && eqb (length (q .perm)) 0) 0 17)
-    (pick (eqb k DVALUE) (pick (eqb (length (q .r)) 0 && eqb (length (q .perm)) (leaky l)) (pick (isPerm (q .perm)) 0 18) 17)
-    (noLoan q))
+lent k n l q = pick (pick (eqb k FABITN) (Fabitn.rFits l (length (q .r))) (eqb (length (q .r)) 0)) 0 17
 
 -- what is kept when they are made
 unfoldable pub held : ℕ → Frame → Loan → List ℕ → List ℕ
@@ -108,7 +100,7 @@ held k f q w =
     pick (eqb k FABITN) (keep f KEY-SUMS (Fabitn.keySums f (q .r) (at f BITS w)) w)
     (pick (eqb k HAAND) (keep f LEAKY (Haand.leakyRows f (delta f w) (at f BITS w)) w)
     (pick (eqb k FLAAND-COMM) (keep f H-COMMS (Flaand.ownComms f (at f HS w) (at f H-COMMS w)) w)
-    (pick (eqb k DVALUE) (keep f PERM (Buckets.permBytes f (q .perm)) w)
+    (pick (eqb k DVALUE) (keep f PERM (Buckets.permBytes f (at f JOINT w)) w)
     (pick (eqb k FAAND) (keep f TRIPLES (Buckets.tripleRows f (delta f w) (at f BITS w) (at f ZS w) (at f ES w) (at f PERM w) (at f DS w)) w)
     w))))
 

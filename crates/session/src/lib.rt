@@ -1,5 +1,5 @@
 // The round call (document 01, "The call"): it joins what the crates below do for each round. First what is refused and leaves all as it
-// was (20, 19, 17, 18), then the form of each message (14, 13, 21, 6), then the content; an accepted call keeps what it received and writes the
+// was (20, 19, 17), then the form of each message (14, 13, 21, 6), then the content; an accepted call keeps what it received and writes the
 // messages of the next round, or the results. The definition is `roundSpec` of crate engine at the table of crate rounds.
 ghost use mathlib.Core.Path.{_≡_};
 ghost use mathlib.Core.Bool.{false};
@@ -99,22 +99,13 @@ fn finish(w: &mut [u8], out: &mut [u8], incoming: &[u8], mail: Mail, f: Frame)
 }
 
 // An accepted call for round k: what is kept, and what is written.
-fn step(
-    work: &mut [u8],
-    out: &mut [u8],
-    incoming: &[u8],
-    mail: Mail,
-    r: &[u8],
-    perm: &[u32],
-    f: Frame,
-    k: usize,
-)
+fn step(work: &mut [u8], out: &mut [u8], incoming: &[u8], mail: Mail, r: &[u8], f: Frame, k: usize)
     requires { ⌜ Let f k (now work) (now incoming) mail ⌝ }
     requires { ⌜ checkOf table k f (now work) (mask f (letter (now incoming) mail)) .code ≡ 0 ⌝ }
-    requires { ⌜ (length (now out) ≡ outLenOf table k f) × (lentOf table k (f .n) (f .l) (loan (now r) (now perm)) ≡ 0) ⌝ }
-    ensures { λ _. ⌜ (now (work .exit) ≡ keepOf table k f (loan (now (r .entry)) (now (perm .entry))) (now (work .entry))
+    requires { ⌜ (length (now out) ≡ outLenOf table k f) × (lentOf table k (f .n) (f .l) (loan (now r)) ≡ 0) ⌝ }
+    ensures { λ _. ⌜ (now (work .exit) ≡ keepOf table k f (loan (now (r .entry))) (now (work .entry))
         (mask f (letter (now (incoming .entry)) mail)))
-        × (now (out .exit) ≡ writeOf table k f (loan (now (r .entry)) (now (perm .entry))) (now (work .entry))
+        × (now (out .exit) ≡ writeOf table k f (loan (now (r .entry))) (now (work .entry))
         (mask f (letter (now (incoming .entry)) mail))) ⌝ }
 {
     let n = f.n;
@@ -125,7 +116,7 @@ fn step(
         broadcast::write(out, work, f);
     } else {
         keep_received(work, incoming, mail, f, k);
-        plain::make(work, out, r, perm, f, plan::next_round(n, k));
+        plain::make(work, out, r, f, plan::next_round(n, k));
     }
 }
 
@@ -143,7 +134,7 @@ fn fault(work: &[u8], incoming: &[u8], mail: Mail, missing: &[u8], f: Frame, k: 
 }
 
 // The call for round k of the session s, with the messages of the other parties: each in the incoming buffer from its start on, as long as
-// told, or marked missing. r and the permutation are empty but for the calls that write `fabitn` and `dvalue`.
+// told, or marked missing. r is empty but for the call that writes `fabitn`.
 pub fn round(
     s: Session,
     k: usize,
@@ -152,16 +143,15 @@ pub fn round(
     lens: &[usize],
     missing: &[u8],
     r: &[u8],
-    perm: &[u32],
     work: &mut [u8],
     out: &mut [u8],
 ) -> Answer
     ensures { λ a. ⌜ outcome (a .session) (replyOf (a .verdict)) (now (work .exit)) (now (out .exit)) ≡ roundSpec (protocolOf table) s k
-        (given (now (incoming .entry)) (now (starts .entry)) (now (lens .entry)) (now (missing .entry)) (now (r .entry)) (now (perm .entry)) (now (out .entry)))
+        (given (now (incoming .entry)) (now (starts .entry)) (now (lens .entry)) (now (missing .entry)) (now (r .entry)) (now (out .entry)))
         (now (work .entry)) ⌝ }
 {
     let f = s.party;
-    let code = admit::reason(s, k, incoming, starts, lens, missing, r, perm, work, out);
+    let code = admit::reason(s, k, incoming, starts, lens, missing, r, work, out);
     if code != 0 {
         return Answer {
             session: s,
@@ -178,7 +168,7 @@ pub fn round(
             verdict: Verdict::Refused(e.code, e.party),
         };
     }
-    step(work, out, incoming, mail, r, perm, f, k);
+    step(work, out, incoming, mail, r, f, k);
     let after = Session {
         party: f,
         due: plan::next_round(n, k),

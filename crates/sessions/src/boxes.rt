@@ -6,7 +6,6 @@ use crate::table::BITS;
 use crate::table::CLEAN;
 use crate::table::DUE;
 use crate::table::NUMBER;
-use crate::table::ORDER;
 use crate::table::OUT;
 use crate::table::OUT_LEN;
 use crate::table::PARTY;
@@ -133,22 +132,7 @@ fn flip(t: &mut Table, p: Play, i: usize, k: usize, len: usize) {
 
 // ---- the round call
 
-fn index(b: u8) -> u32 {
-    b as u32
-}
-
-// The permutation's numbers.
-fn order(t: &Table) -> [u32; 10] {
-    let mut perm = [0u32; 10];
-    let mut q = 0;
-    while q < 10 {
-        perm[q] = index(t[ORDER + q]);
-        q += 1;
-    }
-    perm
-}
-
-// The first n numbers, marks, or numbers of the permutation.
+// The first n numbers, or marks.
 fn firsts(s: &[usize; 3], n: usize) -> &[usize] {
     let t = &s[..];
     if t.len() < n {
@@ -158,14 +142,6 @@ fn firsts(s: &[usize; 3], n: usize) -> &[usize] {
 }
 
 fn marks(s: &[u8; 3], n: usize) -> &[u8] {
-    let t = &s[..];
-    if t.len() < n {
-        return t;
-    }
-    &t[0..n]
-}
-
-fn indices(s: &[u32; 10], n: usize) -> &[u32] {
     let t = &s[..];
     if t.len() < n {
         return t;
@@ -190,7 +166,6 @@ fn called(
     let starts = [letter(i, 0, len), letter(i, 1, len), letter(i, 2, len)];
     let lens = [len, len, len];
     let missing = [absent(t, 0, k), absent(t, 1, k), absent(t, 2, k)];
-    let perm = order(t);
     session::round(
         s,
         k,
@@ -199,7 +174,6 @@ fn called(
         firsts(&lens, n),
         marks(&missing, n),
         crate::table::part(t, STRINGS, plan::r_due(n, l, k)),
-        indices(&perm, plan::perm_due(n, l, k)),
         work,
         out,
     )

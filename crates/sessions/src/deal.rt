@@ -7,7 +7,6 @@ use crate::table::ALPHA;
 use crate::table::BETA;
 use crate::table::BITS;
 use crate::table::BITS_LEN;
-use crate::table::ORDER;
 use crate::table::SHARES_LEN;
 use crate::table::STRINGS;
 use crate::table::Table;
@@ -57,7 +56,7 @@ fn start(n: usize, l: usize, seed: u64) -> u64
 
 // Fills from the state x on, eight bytes to a word, and gives the state after it.
 fn fill(t: &mut Table, from: usize, len: usize, x: u64) -> u64
-    requires { ⌜ from + len ≤ 125068 ⌝ }
+    requires { ⌜ from + len ≤ 125058 ⌝ }
 {
     let mut y = x;
     let mut w = 0;
@@ -87,7 +86,7 @@ fn deltas(t: &mut Table, n: usize, x: u64) -> u64 {
 }
 
 fn to_bits(t: &mut Table, from: usize, len: usize)
-    requires { ⌜ from + len ≤ 125068 ⌝ }
+    requires { ⌜ from + len ≤ 125058 ⌝ }
 {
     let mut q = 0;
     while q < len {
@@ -123,7 +122,7 @@ fn seeds_of_all(t: &mut Table, n: usize, l: usize, x: u64) -> u64 {
 
 // 16 bytes: the sum of those at a and b.
 fn put_sum(t: &mut Table, to: usize, a: usize, b: usize)
-    requires { ⌜ (to + 16 ≤ 125068) × (a + 16 ≤ 125068) × (b + 16 ≤ 125068) ⌝ }
+    requires { ⌜ (to + 16 ≤ 125058) × (a + 16 ≤ 125058) × (b + 16 ≤ 125058) ⌝ }
 {
     let mut q = 0;
     while q < 16 {
@@ -234,78 +233,19 @@ fn lists(t: &mut Table, n: usize, l: usize, x: u64) -> u64
     shares(t, BETA, BETA + len, n, z)
 }
 
-// ---- the permutation
-
-// a · b.
-fn multiple(a: u64, b: usize) -> u64
-    requires { ⌜ (a < 4294967296) × (b ≤ 10) ⌝ }
-    ensures { λ r. ⌜ r ≤ 42949672960 ⌝ }
-{
-    let mut sum = 0;
-    let mut q = 0;
-    while q < b {
-        sum += a;
-        q += 1;
-    }
-    sum
-}
-
-// The word of a state, scaled to the numbers below `bound`.
-fn below(x: u64, bound: usize) -> usize
-    requires { ⌜ bound ≤ 10 ⌝ }
-{
-    let w = word(x);
-    let low = multiple(w % 0x1_0000_0000, bound) / 0x1_0000_0000;
-    ((multiple(w / 0x1_0000_0000, bound) + low) / 0x1_0000_0000) as usize
-}
-
-fn count_up(t: &mut Table) {
-    let mut q = 0;
-    while q < 10 {
-        t[ORDER + q] = q as u8;
-        q += 1;
-    }
-}
-
-fn swap(t: &mut Table, a: usize, b: usize)
-    requires { ⌜ (a < 10) × (b < 10) ⌝ }
-{
-    let x = t[ORDER + a];
-    t[ORDER + a] = t[ORDER + b];
-    t[ORDER + b] = x;
-}
-
-// The permutation of the numbers below len.
-fn permutation(t: &mut Table, len: usize, x: u64)
-    requires { ⌜ len ≤ 10 ⌝ }
-{
-    count_up(t);
-    let mut y = x;
-    let mut top = len;
-    while 1 < top {
-        y = next(y);
-        let j = below(y, top);
-        top -= 1;
-        if j <= top {
-            swap(t, top, j);
-        }
-    }
-}
-
 // ---- all
 
-// All boxes' inputs, r and the permutation.
+// All boxes' inputs, and r.
 pub(crate) fn inputs(t: &mut Table, n: usize, l: usize)
     requires { ⌜ (n ≤ 3) × (l ≤ 2) ⌝ }
 {
     let a = deltas(t, n, start(n, l, 32));
     let b = seeds_of_all(t, n, l, a);
     let c = lists(t, n, l, b);
-    let d = fill(
+    fill(
         t,
         STRINGS,
         crate::table::least(plan::r_due(n, l, 5), 3840),
         c,
     );
-    permutation(t, 5 * l, d);
 }

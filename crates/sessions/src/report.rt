@@ -96,7 +96,7 @@ pub(crate) fn round(t: &Table, n: usize, len: usize, k: usize) {
 
 // Whether 16 bytes are the sum of those at `key`, and those at `delta` where the bit is 1.
 fn is_mac(t: &Table, mac: usize, key: usize, delta: usize, bit: u8) -> bool
-    requires { ⌜ (mac + 16 ≤ 125068) × (key + 16 ≤ 125068) × (delta + 16 ≤ 125068) ⌝ }
+    requires { ⌜ (mac + 16 ≤ 125058) × (key + 16 ≤ 125058) × (delta + 16 ≤ 125058) ⌝ }
 {
     let mut good = true;
     let mut q = 0;

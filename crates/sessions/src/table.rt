@@ -1,10 +1,10 @@
 // One table holds all that a session has but its work areas, so that functions lend a single buffer on: a room for each of three boxes,
-// then r and the permutation. A room has the box's inputs, what it wrote, what it sent last, and its log; n is at most 3 and l at most 2.
+// then r. A room has the box's inputs, what it wrote, what it sent last, and its log; n is at most 3 and l at most 2.
 ghost use Prim.Native.Nat.{_+_, _≤_};
 
 pub type Table = [u8; TABLE_LEN];
 
-pub const TABLE_LEN: usize = 125068;
+pub const TABLE_LEN: usize = 125058;
 
 // Where the parts of a room start: of the inputs (deal.rt) the lists of records, behind them what was written and sent.
 pub const ALPHA: usize = 176;
@@ -33,8 +33,6 @@ pub const CLEAN: usize = 40405;
 
 // Behind the rooms.
 pub const STRINGS: usize = 121218;
-
-pub const ORDER: usize = 125058;
 
 // What there is room for.
 pub const SHARES_LEN: usize = 256;
@@ -86,7 +84,7 @@ pub(crate) fn part(s: &[u8], at: usize, len: usize) -> &[u8] {
 }
 
 pub(crate) fn copy(t: &mut Table, to: usize, from: usize, len: usize)
-    requires { ⌜ (to + len ≤ 125068) × (from + len ≤ 125068) ⌝ }
+    requires { ⌜ (to + len ≤ 125058) × (from + len ≤ 125058) ⌝ }
 {
     let mut q = 0;
     while q < len {
@@ -96,7 +94,7 @@ pub(crate) fn copy(t: &mut Table, to: usize, from: usize, len: usize)
 }
 
 pub(crate) fn store(t: &mut Table, to: usize, s: &[u8])
-    requires { ⌜ to ≤ 125068 ⌝ }
+    requires { ⌜ to ≤ 125058 ⌝ }
 {
     let mut q = 0;
     while q < s.len() {

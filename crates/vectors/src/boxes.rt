@@ -100,7 +100,7 @@ fn letters(t: &Table, r: Turn, i: usize) -> Mail {
 // The same by the rules; bytes are changed where they lie.
 pub(crate) fn delivered(t: &mut Table, p: Play, r: Turn, i: usize) -> Mail {
     let mut now = letters(t, r, i);
-    let end = crate::table::least(p.order, 2000000000);
+    let end = crate::table::least(p.hashes, 2000000000);
     let mut at = p.rules;
     while at < end {
         now = ruled(t, crate::table::word(t, at), i, r.k, now);
@@ -165,22 +165,7 @@ fn opened(t: &Table, n: usize, i: usize, l: usize, work: &mut [u8], out: &mut [u
     )
 }
 
-fn index(b: u8) -> u32 {
-    b as u32
-}
-
-// The permutation's numbers.
-fn order(t: &Table, from: usize) -> [u32; 35] {
-    let mut perm = [0u32; 35];
-    let mut q = 0;
-    while q < 35 {
-        perm[q] = index(crate::table::get(t, crate::table::sum(from, q)));
-        q += 1;
-    }
-    perm
-}
-
-// The first n numbers, marks, or numbers of the permutation.
+// The first n numbers, or marks.
 fn firsts(s: &[usize; 8], n: usize) -> &[usize] {
     let t = &s[..];
     if t.len() < n {
@@ -197,30 +182,13 @@ fn marks(s: &[u8; 8], n: usize) -> &[u8] {
     &t[0..n]
 }
 
-fn indices(s: &[u32; 35], n: usize) -> &[u32] {
-    let t = &s[..];
-    if t.len() < n {
-        return t;
-    }
-    &t[0..n]
-}
-
-fn called(
-    t: &Table,
-    s: Session,
-    k: usize,
-    mail: Mail,
-    from: usize,
-    work: &mut [u8],
-    out: &mut [u8],
-) -> Answer {
+fn called(t: &Table, s: Session, k: usize, mail: Mail, work: &mut [u8], out: &mut [u8]) -> Answer {
     let f = s.party;
     let n = f.n;
     let l = f.l;
     let starts = mail.starts;
     let lens = mail.lens;
     let missing = mail.missing;
-    let perm = order(t, from);
     session::round(
         s,
         k,
@@ -229,7 +197,6 @@ fn called(
         firsts(&lens, n),
         marks(&missing, n),
         crate::table::part(t, STRINGS, plan::r_due(n, l, k)),
-        indices(&perm, plan::perm_due(n, l, k)),
         work,
         out,
     )
@@ -255,5 +222,5 @@ pub(crate) fn call(
         party: Frame { n: n, i: i, l: l },
         due: due,
     };
-    answered(called(t, s, k, mail, p.order, work, out), n, i, l)
+    answered(called(t, s, k, mail, work, out), n, i, l)
 }

@@ -22,8 +22,8 @@ mod report;
 mod table;
 mod turns;
 
-// The lists' marks, NZVECT03 and NZCOMB03, low byte first.
-const SESSIONS: u64 = 0x3330544345565a4e;
+// The lists' marks, NZVECT04 and NZCOMB03, low byte first.
+const SESSIONS: u64 = 0x3430544345565a4e;
 
 const COMBININGS: u64 = 0x3330424d4f435a4e;
 
@@ -57,7 +57,7 @@ fn replay(t: &mut Table, works: &mut Works, at: usize, end: usize)
     let good = (p.leaky == table::product(l, plan::bucket_size(l)))
         & (table::sum(p.ends, table::product(4, p.n)) == end);
     report::note(t, 0, 0, report::unless(good, RECORD, 0));
-    let place = if p.rules == p.order { HONEST } else { DAMAGED };
+    let place = if p.rules == p.hashes { HONEST } else { DAMAGED };
     table::count(t, place, 1);
     table::put_block(t, DUE, Block(0, 0));
     record::strings(t, p.seed);

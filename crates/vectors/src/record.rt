@@ -10,14 +10,13 @@ use blake3::Digest;
 use block::Block;
 use share::LABEL;
 
-// How many boxes, results and leaky ANDs; the seed; and where rules, permutation, hashes and ends start.
+// How many boxes, results and leaky ANDs; the seed; and where rules, hashes and ends start.
 pub struct Play {
     pub n: usize,
     pub l: usize,
     pub leaky: usize,
     pub seed: u64,
     pub rules: usize,
-    pub order: usize,
     pub hashes: usize,
     pub ends: usize,
 }
@@ -31,8 +30,7 @@ pub(crate) fn parse(t: &Table, at: usize) -> Play
     let l = crate::table::field(w, 5);
     let leaky = crate::table::product(l, crate::table::field(w, 6));
     let rules = at + 16;
-    let order = rules + 8 * crate::table::field(w, 7);
-    let hashes = crate::table::sum(order, leaky);
+    let hashes = rules + 8 * crate::table::field(w, 7);
     let rows = if n == 2 { 480 * n } else { 736 * n };
     Play {
         n: n,
@@ -40,7 +38,6 @@ pub(crate) fn parse(t: &Table, at: usize) -> Play
         leaky: leaky,
         seed: crate::table::word(t, at + 8),
         rules: rules,
-        order: order,
         hashes: hashes,
         ends: crate::table::sum(hashes, rows),
     }

@@ -4,26 +4,25 @@ use std::{
     env, fmt,
     io::{self, BufRead},
     net::{SocketAddr, TcpListener, ToSocketAddrs},
-    path::{Path, PathBuf},
+    path::PathBuf,
     process::ExitCode,
     time::{Duration, Instant},
 };
 
 use nuzsdike_host::{
     args::Args,
-    files::{self, Common, Header},
+    files::{self, Header},
     round_name, sys,
     transport::{Cause, LineError, Lines, Notice, Place, Who},
-    Call, Form, Inputs, Lent, Mail, Refusal, Session, Step,
+    Call, Form, Inputs, Mail, Refusal, Session, Step,
 };
 
 const USAGE: &str = "\
-usage: nuzsdike-box --inputs FILE --common FILE --results FILE --listen ADDRESS --peers LIST [--r FORM] [--timeout SECONDS]
+usage: nuzsdike-box --inputs FILE --results FILE --listen ADDRESS --peers LIST [--r FORM] [--timeout SECONDS]
 
 Runs one box of a session. Exit status: 0 done, 1 refused or a line failed, 2 bad words.
 
   --inputs FILE      own inputs, as the dealer writes them; they tell n, l and the own number
-  --common FILE      the permutation, the same for all boxes
   --results FILE     takes the result records once all boxes are done
   --listen ADDRESS   own address, as 127.0.0.1:7000; port 0 takes a free one and prints it
   --peers LIST       every box's address by number, with commas, the own one too; - reads the list from standard input
@@ -58,7 +57,6 @@ impl From<io::Error> for Failure {
 
 struct Options {
     inputs: PathBuf,
-    common: PathBuf,
     results: PathBuf,
     listen: String,
     peers: String,
@@ -69,7 +67,6 @@ struct Options {
 fn options(args: &Args) -> Result<Options, String> {
     Ok(Options {
         inputs: args.need("inputs")?.into(),
-        common: args.need("common")?.into(),
         results: args.need("results")?.into(),
         listen: args.need("listen")?.into(),
         peers: args.need("peers")?.into(),
@@ -79,7 +76,7 @@ fn options(args: &Args) -> Result<Options, String> {
 }
 
 fn main() -> ExitCode {
-    let names = ["inputs", "common", "results", "listen", "peers", "r", "timeout"];
+    let names = ["inputs", "results", "listen", "peers", "r", "timeout"];
     let options = match Args::parse(env::args().skip(1), &names) {
         Ok(None) => {
             print!("{USAGE}");
@@ -109,7 +106,6 @@ fn run(options: &Options, number: &mut Option<usize>) -> Result<(), Failure> {
     let begin = Instant::now();
     let (header, inputs) = files::load(&options.inputs, files::read_inputs)?;
     *number = Some(header.i);
-    let common = common(&options.common, header)?;
     let Header { n, i, l, id, .. } = header;
     println!("box {i} read {:.6}", begin.elapsed().as_secs_f64());
 
@@ -128,7 +124,7 @@ fn run(options: &Options, number: &mut Option<usize>) -> Result<(), Failure> {
 
     let mut lines = Lines::connect(Who { n, i, l, id }, &listener, &peers, options.timeout).map_err(Failure::Line)?;
     drop(listener);
-    match session(header, inputs, &common, options.form, &mut lines) {
+    match session(header, inputs, options.form, &mut lines) {
         Ok((results, totals)) => {
             lines.close().map_err(Failure::Line)?;
             files::write_results(&options.results, header, &results)?;
@@ -158,15 +154,6 @@ fn place(refusal: &Refusal) -> Place {
     }
 }
 
-/// What all boxes have in common, of the same deal as the inputs.
-fn common(path: &Path, inputs: Header) -> Result<Common, Failure> {
-    let (header, common) = files::load(path, files::read_common)?;
-    match (header.n, header.l, header.id) == (inputs.n, inputs.l, inputs.id) {
-        true => Ok(common),
-        false => Err(Failure::Host(format!("{} belongs to another deal than the inputs", path.display()))),
-    }
-}
-
 fn addresses(list: &str, n: usize) -> Result<Vec<SocketAddr>, Failure> {
     let resolve = |word: &str| {
         let found = word.trim().to_socket_addrs().ok().and_then(|mut found| found.next());
@@ -187,7 +174,7 @@ struct Totals {
 }
 
 /// The session itself: opening, and then one exchange and one call for each round.
-fn session(header: Header, inputs: Inputs, common: &Common, form: Form, lines: &mut Lines) -> Result<(Vec<u8>, Totals), Failure> {
+fn session(header: Header, inputs: Inputs, form: Form, lines: &mut Lines) -> Result<(Vec<u8>, Totals), Failure> {
     let (i, plan) = (header.i, header.plan());
     let (begin, cpu) = (Instant::now(), sys::cpu_time());
     let (mut session, mut outgoing) = Session::open(plan, i, &inputs).map_err(Failure::Refused)?;
@@ -214,9 +201,8 @@ fn session(header: Header, inputs: Inputs, common: &Common, form: Form, lines: &
         drop(outgoing);
 
         let r = if plan.r_len(round) != 0 { session.r(form) } else { vec![] };
-        let lent = Lent { r: &r, perm: if plan.perm_len(round) != 0 { &common.perm } else { &[] } };
         let (begin, cpu) = (Instant::now(), sys::cpu_time());
-        let step = session.round(&mail, lent).map_err(Failure::Refused)?;
+        let step = session.round(&mail, &r).map_err(Failure::Refused)?;
         let (call, cpu) = (begin.elapsed(), sys::cpu_time() - cpu);
         println!(
             "box {i} round {round} sent {sent} received {received} wait {:.6} call {:.6} name {}",

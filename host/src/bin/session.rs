@@ -93,10 +93,6 @@ impl Folder {
         self.path.join(format!("box-{i}.inputs"))
     }
 
-    fn common(&self) -> PathBuf {
-        self.path.join("common")
-    }
-
     fn results(&self, i: usize) -> PathBuf {
         self.path.join(format!("box-{i}.results"))
     }
@@ -196,10 +192,8 @@ fn run(options: &Options) -> Result<(), String> {
 fn deal(options: &Options, folder: &Folder) -> io::Result<()> {
     let open = |path: &Path| files::create(path).map(|file| BufWriter::with_capacity(1 << 20, file));
     let mut boxes: Vec<_> = (0..options.plan.n).map(|i| open(&folder.inputs(i))).collect::<Result<_, _>>()?;
-    let mut common = open(&folder.common())?;
-    dealer::deal(options.plan, options.seed, &mut boxes, &mut common)?;
-    boxes.iter_mut().try_for_each(|file| file.flush())?;
-    common.flush()
+    dealer::deal(options.plan, options.seed, &mut boxes)?;
+    boxes.iter_mut().try_for_each(|file| file.flush())
 }
 
 enum Event {
@@ -224,8 +218,6 @@ fn start(options: &Options, folder: &Folder, sender: Sender<(usize, Event)>) -> 
             .args(["--listen", "127.0.0.1:0", "--peers", "-", "--r", form(options.r, i), "--timeout", &options.timeout.to_string()])
             .arg("--inputs")
             .arg(folder.inputs(i))
-            .arg("--common")
-            .arg(folder.common())
             .arg("--results")
             .arg(folder.results(i))
             .stdin(Stdio::piped())

@@ -40,17 +40,12 @@ impl Deal {
         fs::create_dir_all(&folder).unwrap();
         let deal = Deal { plan: Plan::new(n, l), folder };
         let mut boxes: Vec<_> = (0..n).map(|i| files::create(&deal.inputs(i)).unwrap()).map(std::io::BufWriter::new).collect();
-        let mut common = std::io::BufWriter::new(files::create(&deal.common()).unwrap());
-        dealer::deal(deal.plan, seed, &mut boxes, &mut common).unwrap();
+        dealer::deal(deal.plan, seed, &mut boxes).unwrap();
         deal
     }
 
     pub fn inputs(&self, i: usize) -> PathBuf {
         self.folder.join(format!("{i}.inputs"))
-    }
-
-    pub fn common(&self) -> PathBuf {
-        self.folder.join("common")
     }
 
     /// Box i's bit in a record of the list of bits.
@@ -110,8 +105,6 @@ impl Process {
             .args(words)
             .arg("--inputs")
             .arg(deal.inputs(i))
-            .arg("--common")
-            .arg(deal.common())
             .arg("--results")
             .arg(&results)
             .stdin(Stdio::piped())

@@ -63,7 +63,6 @@ pub fn round(
     lens: &[usize],
     missing: &[u8],
     r: &[u8],
-    perm: &[u32],
     work: &mut [u8],
     out: &mut [u8],
 ) -> u64 {
@@ -83,8 +82,6 @@ pub fn round(
             missing.len(),
             r.as_ptr(),
             r.len(),
-            perm.as_ptr(),
-            perm.len(),
             work.as_mut_ptr(),
             work.len(),
             out.as_mut_ptr(),
@@ -133,7 +130,6 @@ numbers! {
     masks_len = nuzsdike_masks_len(n, l);
     pairs_len = nuzsdike_pairs_len(n);
     r_len = nuzsdike_r_len(n, l, round);
-    perm_len = nuzsdike_perm_len(n, l, round);
     next_round = nuzsdike_next_round(n, round);
     record_bytes = nuzsdike_record_len(n);
     bucket_size = nuzsdike_bucket_size(l);

@@ -7,7 +7,7 @@ use std::collections::BTreeMap;
 use oracle::{
     BIT_AT, ENTRY, HEAD, N_AT, Party, Session, Share, SplitMix, cpu_time,
     damage::{message_len, rounds},
-    kept, kept_len, labelled, mac_at, put_label, record_len, shares,
+    kept, kept_len, labelled, mac_at, put_label, record_len, shares, shuffle,
 };
 
 /// How our session ended for one party.
@@ -30,6 +30,8 @@ pub struct Ran {
     pub probes: usize,
     /// Bit i: party i was lent r's seed, and not the strings.
     pub seeded: u8,
+    /// Boxes whose work area has the permutation that their joint seed draws.
+    pub permutations: usize,
     /// CPU time of each party, its calls alone.
     pub nanoseconds: Vec<u64>,
     /// CPU time of each round call, by round and party.
@@ -43,7 +45,7 @@ pub enum Care {
     Time,
     /// The same in fresh memory, whose pages the system makes when a call first touches them.
     TimeFresh,
-    /// Memory after each refusal and at the end.
+    /// Memory after each refusal and at the end, and the permutation.
     Ends,
     /// Also what the work area holds, parts that lie anywhere, and calls that a host gets wrong.
     All,
@@ -57,6 +59,15 @@ impl Care {
 
 /// The round whose call is lent r.
 const R_DUE: u8 = 5;
+
+/// The round whose messages the permutation goes into: the call before it draws that.
+const DVALUE: u8 = 21;
+
+/// Sections of docs/WORK_AREA.md, by number.
+const JOINT: usize = 8;
+const PAIRWISE: usize = 10;
+const PERM: usize = 19;
+const SECTIONS: usize = 24;
 
 /// Where records of ours hold other shares than these, by value; their heads are left to `wrong_heads`.
 pub fn other_shares(records: &[u8], due: &[Share], n: usize) -> Vec<String> {
@@ -106,14 +117,12 @@ pub fn lengths(s: &Session) -> Vec<String> {
     is("pairs", ffi::pairs_len(n), 32 * n);
     is("record", ffi::record_bytes(n), record_len(n));
     is("bucket", ffi::bucket_size(l), s.b());
-    is("joint seed", ffi::joint_seed_at(n, l), section(s, 8).start);
-    is(
-        "pairwise seeds",
-        ffi::pairwise_seeds_at(n, l),
-        section(s, 10).start,
-    );
+    let end = section(s, SECTIONS - 1).end;
+    is("work area", ffi::work_len(n, l), end);
+    let (joint, pairwise) = (ffi::joint_seed_at(n, l), ffi::pairwise_seeds_at(n, l));
+    is("joint seed", joint, section(s, JOINT).start);
+    is("pairwise seeds", pairwise, section(s, PAIRWISE).start);
     let all: Vec<u8> = rounds(n).collect();
-    let perm_due = if n == 2 { 19 } else { 20 };
     let mut before = 0;
     for round in &all {
         let len = message_len(*round, n, l, s.b());
@@ -123,8 +132,6 @@ pub fn lengths(s: &Session) -> Vec<String> {
         before = (*round).into();
         let r = if *round == R_DUE { s.r.len() } else { 0 };
         is("r", ffi::r_len(n, l, before), r);
-        let perm = if *round == perm_due { l * s.b() } else { 0 };
-        is("permutation", ffi::perm_len(n, l, before), perm);
     }
     is("results", ffi::out_len(n, l, 22), l * record_len(n));
     is("next", ffi::next_round(n, 22), 0);
@@ -148,7 +155,6 @@ struct Lent {
     lens: Vec<usize>,
     missing: Vec<u8>,
     r: Vec<u8>,
-    perm: Vec<u32>,
 }
 
 impl Host<'_> {
@@ -176,17 +182,16 @@ impl Host<'_> {
             &t.lens,
             &t.missing,
             &t.r,
-            &t.perm,
             work,
             out,
         ))
     }
 }
 
-/// The bytes of the sections of docs/WORK_AREA.md up to the pairwise seeds: start and length.
+/// The bytes of a section of docs/WORK_AREA.md: start and length.
 fn section(s: &Session, number: usize) -> std::ops::Range<usize> {
     let (n, l, lb, record) = (s.n, s.l, s.l * s.b(), kept_len(s.n));
-    let lens = [
+    let lens: [usize; SECTIONS] = [
         16,
         32,
         32 * n,
@@ -198,6 +203,19 @@ fn section(s: &Session, number: usize) -> std::ops::Range<usize> {
         32,
         32 * n,
         32 * n,
+        n * 120 * 16,
+        n * 40 * 96,
+        n * 40 * (1 + 16 * (n - 1)),
+        lb * (32 + 18 * n),
+        lb * 17,
+        n * lb,
+        lb * 16,
+        n * lb * 32,
+        lb * 4,
+        l * (s.b() - 1),
+        l * 2 * record,
+        2,
+        n * 16,
     ];
     let start = lens[..number].iter().sum();
     start..start + lens[number]
@@ -227,7 +245,7 @@ fn spoil(g: &mut SplitMix, s: &Session, i: usize, round: u8, t: &mut Lent) -> (u
     let n = s.n;
     let other = (i + 1 + g.below(n - 1)) % n;
     let due = usize::from(round);
-    match g.below(9) {
+    match g.below(7) {
         0 => {
             let wrong = [0, due + 1, due - 1, 23, usize::MAX, g.below(30)];
             let wrong = wrong[g.below(6)];
@@ -251,36 +269,15 @@ fn spoil(g: &mut SplitMix, s: &Session, i: usize, round: u8, t: &mut Lent) -> (u
             (due, 17)
         }
         5 => {
-            if t.perm.is_empty() {
-                t.perm.push(0);
-            } else {
-                t.perm.pop();
-            }
-            (due, 17)
-        }
-        6 => {
             t.missing[other] = 0;
             t.starts[other] = t.incoming.len() - t.lens[other].min(t.incoming.len());
             t.lens[other] = t.incoming.len() - t.starts[other] + 1;
             (due, 17)
         }
-        7 => {
+        _ => {
             t.missing[other] = 0;
             (t.starts[other], t.lens[other]) = (usize::MAX - g.below(2), 1 + g.below(3));
             (due, 17)
-        }
-        _ if t.perm.is_empty() => {
-            t.perm.push(0);
-            (due, 17)
-        }
-        _ => {
-            let at = g.below(t.perm.len());
-            t.perm[at] = match g.below(3) {
-                0 => t.perm[(at + 1) % t.perm.len()],
-                1 => t.perm.len() as u32,
-                _ => u32::MAX,
-            };
-            (due, 18)
         }
     }
 }
@@ -399,6 +396,7 @@ pub fn run(
     let work_len = ffi::work_len(n, l);
     let mut broken = vec![];
     let mut probes = 0;
+    let mut permutations = 0;
     let mut nanoseconds = vec![0; n];
     let mut calls = BTreeMap::new();
     let mut sent: BTreeMap<(u8, usize), Vec<u8>> = BTreeMap::new();
@@ -550,9 +548,6 @@ pub fn run(
                     _ => s.r.clone(),
                 };
             }
-            if round == if n == 2 { 19 } else { 20 } {
-                t.perm = s.permutation.clone();
-            }
 
             let out_len = ffi::out_len(n, l, round.into());
             h.out = dirt(g, out_len);
@@ -593,12 +588,22 @@ pub fn run(
             }
             if let Some(outcome) = seeds.filter(|_| care == Care::All) {
                 if round == 3
-                    && outcome.joint_seeds[i].is_none_or(|its| h.work[section(s, 8)] != its)
+                    && outcome.joint_seeds[i].is_none_or(|its| h.work[section(s, JOINT)] != its)
                 {
                     broken.push(format!("party {i}: another joint seed"));
                 }
-                if round == 5 && outcome.pair_seeds[i].concat() != h.work[section(s, 10)] {
+                if round == 5 && outcome.pair_seeds[i].concat() != h.work[section(s, PAIRWISE)] {
                     broken.push(format!("party {i}: other pairwise seeds"));
+                }
+            }
+            if next == Some(DVALUE) && !care.times() {
+                let joint_seed = h.work[section(s, JOINT)].try_into().unwrap();
+                let due = shuffle::drawn(&joint_seed, l * s.b());
+                let kept = h.work[section(s, PERM)].as_chunks().0.iter();
+                if kept.copied().map(u32::from_le_bytes).eq(due) {
+                    permutations += 1;
+                } else {
+                    broken.push(format!("party {i}: another permutation"));
                 }
             }
             match next {
@@ -626,6 +631,7 @@ pub fn run(
         broken,
         probes,
         seeded,
+        permutations,
         nanoseconds,
         calls,
     }

@@ -302,7 +302,6 @@ fn session(s: &Session, rules: &[Rule], e: &Expectation) -> Vec<u8> {
     out.extend([s.n, s.l, s.b(), rules.len()].map(|x| x as u8));
     out.extend(s.seed.to_le_bytes());
     out.extend(rules.iter().flat_map(rule));
-    out.extend(s.permutation.iter().map(|t| u8::try_from(*t).unwrap()));
     for round in rounds(s.n) {
         for i in 0..s.n {
             match e.sent.get(&(round, i)) {
@@ -358,7 +357,7 @@ fn sessions() -> (usize, usize, Vec<u8>) {
     let beside = list.len();
     list.extend(tails().into_iter().map(plain));
     list.extend(unopened().into_iter().map(odd));
-    let mut out = b"NZVECT03".to_vec();
+    let mut out = b"NZVECT04".to_vec();
     out.extend((list.len() as u32).to_le_bytes());
     out.extend([0; 4]);
     let mut ends: BTreeMap<(u8, u8), usize> = BTreeMap::new();

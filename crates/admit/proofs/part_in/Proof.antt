@@ -7,7 +7,7 @@ use Rattle.admit.proofs.part_in.Statement.{statement}
 use Rattle.admit.proofs.part_in.Tie as tie
 
 abbrev mail : tie.Start → Lent
-mail s = given (now (s .args .incoming)) (now (s .args .starts)) (now (s .args .lens)) (now (s .args .missing)) [] [] []
+mail s = given (now (s .args .incoming)) (now (s .args .starts)) (now (s .args .lens)) (now (s .args .missing)) [] []
 
 returns : tie.Need-returns
 returns c =

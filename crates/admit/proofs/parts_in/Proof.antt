@@ -9,13 +9,13 @@ use Rattle.admit.proofs.parts_in.Statement.{statement}
 use Rattle.admit.proofs.parts_in.Tie as tie
 
 abbrev Inv-loop : tie.InvT-loop
-Inv-loop incoming starts lens missing n i k₀ k = (k ≤ n) × (allOf k (fits i (given incoming starts lens missing [] [] [])) ≡ true)
+Inv-loop incoming starts lens missing n i k₀ k = (k ≤ n) × (allOf k (fits i (given incoming starts lens missing [] [])) ≡ true)
 
 abbrev μ-loop : tie.MeasureT-loop
 μ-loop incoming starts lens missing n i k₀ k = n - k
 
 abbrev mail : tie.Start Inv-loop μ-loop → Lent
-mail s = given (now (s .args .incoming)) (now (s .args .starts)) (now (s .args .lens)) (now (s .args .missing)) [] [] []
+mail s = given (now (s .args .incoming)) (now (s .args .starts)) (now (s .args .lens)) (now (s .args .missing)) [] []
 
 loop-holds : tie.Need-loop-holds Inv-loop μ-loop
 loop-holds c = let s = c .before .before .before .before in (search needs, all-zero (fits (s .args .i) (mail s)))

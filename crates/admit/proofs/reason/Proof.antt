@@ -14,11 +14,11 @@ use Rattle.admit.proofs.reason.Tie as tie
 abbrev all : tie.Start → Lent
 all s =
     given (now (s .args .incoming)) (now (s .args .starts)) (now (s .args .lens)) (now (s .args .missing)) (now (s .args .r))
-    (now (s .args .perm)) (now (s .args .out))
+    (now (s .args .out))
 
 module _ (c : tie.After-alive) where
   abbrev s : tie.Start
-  s = c .before .before .before .before .before .before .before .before .before .before
+  s = c .before .before .before .before .before .before .before .before .before
 
 returns : tie.Need-returns
 returns c =
@@ -73,7 +73,7 @@ module _ (c : tie.After-parts-in) where
   parts =
       c .parts-in .ensures (p .args .s .party .l)
       ∙ parts-any (now (p .args .incoming)) (now (p .args .starts)) (now (p .args .lens)) (now (p .args .missing)) (now (p .args .r))
-      (now (p .args .perm)) (now (p .args .out))
+      (now (p .args .out))
       (p .args .s .party)
 
 returns-4 : tie.Need-returns-4

@@ -1,6 +1,6 @@
 -- Each need is given by its path, and the steps as a law on numbers: `search` and `cc` over ten calls took four times as long.
 use Rattle.blake3_core.specs.Compress as S
-use Rattle.blake3_core.specs.Word.{rotr, plus}
+use Rattle.word.specs.Word.{rotr, plus, quadAt, put}
 use Prim.Native.Nat.{ℕ, _*_, _<_}
 use mathlib.Core.Path.{_≡_, ap, _∙_}
 use lib.Bits.{bitXor}
@@ -27,14 +27,14 @@ start c =
     c .before .before .before .before .before .before .before .before .before .before .before .before .before .before .before .before
 
 returns : tie.Need-returns
-unfolding S.g S.put S.quarter
+unfolding S.g S.quarter quadAt put
 returns c =
     let b = c .before .before .before .before .before in
     let s = start c .args in
     let v = now (s .v) in
     let x = getD (now (s .m)) (s .p) 0 in
     let y = getD (now (s .m)) (s .q) 0 in
-    ap (λ q. S.put v (s .i) (s .j) (s .k) (s .l) q)
+    ap (λ q. put v (s .i) (s .j) (s .k) (s .l) q)
     (half 8 7 y _ _ _ _ (c .before .before .before .before .add4 .ensures) (c .before .before .before .add5 .ensures)
     (c .before .before .rotr8 .ensures) (c .before .add6 .ensures) (c .rotr7 .ensures)
     ∙ ap (λ q. S.half 8 7 y q)

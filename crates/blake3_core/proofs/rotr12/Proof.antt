@@ -1,5 +1,5 @@
-use Rattle.blake3_core.specs.Word.{rotr}
-use Rattle.blake3_core.proofs.Rotate.{turned}
+use Rattle.word.specs.Word.{rotr}
+use Rattle.word.specs.WordLaws.{turned}
 use Rattle.blake3_core.proofs.rotr12.Statement.{statement}
 use Rattle.blake3_core.proofs.rotr12.Tie as tie
 

@@ -2,7 +2,8 @@ use Rattle.lists.specs.Kit.{_≡_, ap, ap₂, _∙_, _+_, _*_, _≤_, arith, le
 use Prim.Native.Nat.{_%_}
 use Rattle.plan.specs.Plan.{bucketSize, leaky}
 use Rattle.plan.specs.PlanLaws.{leaky-most}
-use Rattle.rounds.specs.Buckets.{word4, entry}
+use Rattle.word.specs.Word.{wordAt}
+use Rattle.rounds.specs.Buckets.{entry}
 use Rattle.buckets.specs.Entries.{leaky-some, place-inside}
 use Rattle.buckets.proofs.entry.Statement.{statement}
 use Rattle.buckets.proofs.entry.Tie as tie
@@ -31,19 +32,20 @@ add-at c = omega (arith, inside c, few c)
 mul-at-2 : tie.Need-mul-at-2
 mul-at-2 c = omega (arith, inside c, few c)
 
-word4-requires : tie.Need-word4-requires
-word4-requires c κs = inside c
+load-requires : tie.Need-load-requires
+load-requires c κs = omega (arith, inside c)
 
 rem-result : tie.Need-rem-result
 rem-result c =
-    let a = s (c .before .before) in
+    let a = s (c .before .before .before) in
     omega (arith, c .leaky .ensures, leaky-some (a .args .f .l) (a .pre .0 .range .one))
 
 returns : tie.Need-returns
 unfolding entry
 returns c =
-    let b = c .before .before in
-    ap₂ _%_ (c .before .word4 .ensures ∙ ap (λ k. word4 (now (s b .args .perm)) ((k + s b .args .e) * 4)) (same b)) (c .leaky .ensures)
+    let b = c .before .before .before in
+    ap₂ _%_ (c .before .wide .ensures ∙ c .before .before .load .ensures ∙ ap (λ k. wordAt ((k + s b .args .e) * 4) (now (s b .args .perm))) (same b))
+    (c .leaky .ensures)
 
 pub entry-spec : {M : Type 1} → statement M
-entry-spec = tie.close (tie.spec (λ c κs. search needs) mul-at add-at mul-at-2 word4-requires (λ c κs. search needs) rem-result returns)
+entry-spec = tie.close (tie.spec (λ c κs. search needs) mul-at add-at mul-at-2 load-requires (λ c κs. search needs) (λ c κs. search needs) rem-result returns)

@@ -12,15 +12,15 @@ use Rattle.nuzsdike.proofs.nuzsdike_round.Tie as tie
 
 returns : tie.Need-returns
 returns c =
-    let a = c .before .before .before .before .before .before .before .before .before .before .before .args in
+    let a = c .before .before .before .before .before .before .before .before .before .before .args in
     rounds-not (now (a .session)) (a .round)
-    (given (now (a .incoming)) (now (a .starts)) (now (a .lens)) (now (a .missing)) (now (a .r)) (now (a .perm)) (now (a .out)))
+    (given (now (a .incoming)) (now (a .starts)) (now (a .lens)) (now (a .missing)) (now (a .r)) (now (a .out)))
     (now (a .work)) (c .before .if1 .taken) (c .packed .result) (c .packed .ensures)
 
 store-requires : tie.Need-store-requires
 store-requires c κs =
-    let a = c .before .before .before .before .before .before .before .before .before .before .before .before .before .before .before .before .before .before .before .before .before .args in
-    let q = (given (now (a .incoming)) (now (a .starts)) (now (a .lens)) (now (a .missing)) (now (a .r)) (now (a .perm)) (now (a .out))) in
+    let a = c .before .before .before .before .before .before .before .before .before .before .before .before .before .before .before .before .before .before .before .before .args in
+    let q = (given (now (a .incoming)) (now (a .starts)) (now (a .lens)) (now (a .missing)) (now (a .r)) (now (a .out))) in
     let l = c .before .before .before .before .before .before .before .before .before in (
       c .before .before .before .before .before .before .before .before .before .before .before .if1 .left,
       subst (λ (s : Session). Narrow s)
@@ -30,8 +30,8 @@ store-requires c κs =
 
 answer-requires : tie.Need-answer-requires
 answer-requires c κs =
-    let a = c .before .before .before .before .before .before .before .before .before .before .before .before .before .before .before .before .before .before .before .before .before .before .before .before .args in
-    let q = (given (now (a .incoming)) (now (a .starts)) (now (a .lens)) (now (a .missing)) (now (a .r)) (now (a .perm)) (now (a .out))) in
+    let a = c .before .before .before .before .before .before .before .before .before .before .before .before .before .before .before .before .before .before .before .before .before .before .before .args in
+    let q = (given (now (a .incoming)) (now (a .starts)) (now (a .lens)) (now (a .missing)) (now (a .r)) (now (a .out))) in
     let l = c .before .before .before .before .before .before .before .before .before .before .before .before in
     subst (λ (v : Reply). named v ≤ NO-PARTY)
     (sym (ap (λ (o : Outcome). o .reply) (c .before .before .before .before .before .before .before .before .before .round .ensures)))
@@ -39,14 +39,14 @@ answer-requires c κs =
 
 returns-2 : tie.Need-returns-2
 returns-2 c =
-    let a = c .before .before .before .before .before .before .before .before .before .before .before .before .before .before .before .before .before .before .before .before .before .before .before .before .before .args in
-    let q = (given (now (a .incoming)) (now (a .starts)) (now (a .lens)) (now (a .missing)) (now (a .r)) (now (a .perm)) (now (a .out))) in
+    let a = c .before .before .before .before .before .before .before .before .before .before .before .before .before .before .before .before .before .before .before .before .before .before .before .before .args in
+    let q = (given (now (a .incoming)) (now (a .starts)) (now (a .lens)) (now (a .missing)) (now (a .r)) (now (a .out))) in
     let l = c .before .before .before .before .before .before .before .before .before .before .before .before .before in
     let o = c .before .before .before .before .before .before .before .before .before .before in
     rounds (now (a .session)) (a .round) q (now (a .work))
     (c .before .before .before .before .before .before .before .before .before .before .before .before .before .before .before .if1 .left)
     (c .answer .result) (c .before .before .before .store .last .0)
-    (o .round .last .1 .1 .1 .1 .1 .1 .1 .1 .0) (o .round .last .1 .1 .1 .1 .1 .1 .1 .1 .1 .0) (o .round .result .session) (replyOf (o .round .result .verdict))
+    (o .round .last .1 .1 .1 .1 .1 .1 .1 .0) (o .round .last .1 .1 .1 .1 .1 .1 .1 .1 .0) (o .round .result .session) (replyOf (o .round .result .verdict))
     (c .answer .ensures) (c .before .before .before .store .ensures)
     (o .round .ensures ∙ ap (λ (s : Session). roundSpec (protocolOf table) s (a .round) q (now (a .work))) (l .load .ensures .0))
 

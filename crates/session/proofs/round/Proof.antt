@@ -16,18 +16,18 @@ use Rattle.session.proofs.round.Tie as tie
 abbrev lent : tie.Start → Lent
 lent s =
     given (now (s .args .incoming)) (now (s .args .starts)) (now (s .args .lens)) (now (s .args .missing)) (now (s .args .r))
-    (now (s .args .perm)) (now (s .args .out))
+    (now (s .args .out))
 
 returns : tie.Need-returns
 unfolding replyOf
 returns c =
-    let s = c .before .before .before .before .before .before .before .before .before .before .before .before .before in
+    let s = c .before .before .before .before .before .before .before .before .before .before .before .before in
     call-refused (s .args .s) (s .args .k) (lent s) (now (s .args .work)) (c .before .reason .result) (c .before .reason .ensures)
     (c .if1 .taken)
 
 -- ---- a call that has no reason
 abbrev start : tie.Else1 → tie.Start
-start e = e .before .before .before .before .before .before .before .before .before .before .before .before .before
+start e = e .before .before .before .before .before .before .before .before .before .before .before .before
 
 let-in : (e : tie.Else1) → Admitted (start e .args .s) (start e .args .k) (lent (start e)) (now (start e .args .work))
 let-in e =
@@ -43,7 +43,7 @@ parts : (m : tie.After-mail-of) → let a = start (m .before) .args in
 parts m =
     let a = start (m .before) .args in
     subst (λ (x : Mail). partsIn (a .s .party) (posted (now (a .incoming)) x (now (a .missing))) ≡ true) (sym (m .mail-of .ensures))
-    (parts-posted (a .s .party) (now (a .incoming)) (now (a .starts)) (now (a .lens)) (now (a .missing)) (now (a .r)) (now (a .perm))
+    (parts-posted (a .s .party) (now (a .incoming)) (now (a .starts)) (now (a .lens)) (now (a .missing)) (now (a .r))
     (now (a .out)) (let-in (m .before) .parts-in))
 
 fault-requires : tie.Need-fault-requires
@@ -66,7 +66,7 @@ found x =
     let r = x .fault .result in
     subst (Finds (r .code) (r .party))
     (ap (λ (m : Mail). faultOf (ruleOf table (a .k)) f (posted (now (a .incoming)) m (now (a .missing))) (now (a .work))) (x .before .before .mail-of .ensures)
-    ∙ fault-posted f (now (a .incoming)) (now (a .starts)) (now (a .lens)) (now (a .missing)) (now (a .r)) (now (a .perm)) (now (a .out))
+    ∙ fault-posted f (now (a .incoming)) (now (a .starts)) (now (a .lens)) (now (a .missing)) (now (a .r)) (now (a .out))
     (a .k) (now (a .work)))
     (x .fault .ensures)
 
@@ -113,7 +113,7 @@ returns-3 c =
     (c .next-round .result) (c .next-round .ensures)
     (mask f (letter (now (a .incoming)) (m .mail-of .result)))
     (ap (λ (y : Mail). mask f (letter (now (a .incoming)) y)) (m .mail-of .ensures)
-    ∙ letters-are f (now (a .incoming)) (now (a .starts)) (now (a .lens)) (now (a .missing)) (now (a .r)) (now (a .perm)) (now (a .out)))
+    ∙ letters-are f (now (a .incoming)) (now (a .starts)) (now (a .lens)) (now (a .missing)) (now (a .r)) (now (a .out)))
     (p .step .last .0) (p .step .last .1 .0) (p .step .ensures .0) (p .step .ensures .1)
 
 pub round-spec : {M : Type 1} → statement M

@@ -21,28 +21,28 @@ module _ (s : tie.Start) where
   told = mask (s .args .f) (letter (now (s .args .incoming)) (s .args .mail))
 
   abbrev lent : Loan
-  lent = loan (now (s .args .r)) (now (s .args .perm))
+  lent = loan (now (s .args .r))
 
   below : s .args .k ≢ 22 → s .args .k < 22
   below ne = omega (arith, round-low (s .args .f .n) (s .args .k) (s .pre .0 .round), ne)
 
 finish-requires : tie.Need-finish-requires
 finish-requires c κs =
-    let s = c .before .before .before .before .before .before .before .before in
+    let s = c .before .before .before .before .before .before .before in
     let a = s .args in
     let e = c .before .before .if1 .taken in
     (subst (λ j. Let (a .f) j (now (a .work)) (now (a .incoming)) (a .mail)) e (s .pre .0), s .pre .1 .1 .0 ∙ out-last (a .f) (a .k) e)
 
 to-echo-requires : tie.Need-to-echo-requires
 to-echo-requires c κs =
-    let s = c .before .before .before .before .before .before in
+    let s = c .before .before .before .before .before in
     round-low (s .args .f .n) (s .args .k) (s .pre .0 .round)
 
 write-requires : tie.Need-write-requires
 write-requires c κs =
     let h = c .before .before .before .before in
     let t = c .before .before .before .before .before .before .before in
-    let s = c .before .before .before .before .before .before .before .before .before .before .before .before .before .before in
+    let s = c .before .before .before .before .before .before .before .before .before .before .before .before .before in
     let a = s .args in (
       record { ranges = s .pre .0 .work .ranges; whole = h .hold-echo .kept .0 ∙ s .pre .0 .work .whole },
       s .pre .1 .1 .0
@@ -53,7 +53,7 @@ write-requires c κs =
 keep-received-requires : tie.Need-keep-received-requires
 keep-received-requires c κs =
     let t = c .before .before in
-    let s = c .before .before .before .before .before .before .before .before .before in
+    let s = c .before .before .before .before .before .before .before .before in
     let a = s .args in (
       s .pre .0,
       λ e. ap (λ (x : Fault). x .code)
@@ -65,7 +65,7 @@ make-requires : tie.Need-make-requires
 make-requires c κs =
     let h = c .before .before .before .before .before in
     let t = c .before .before .before .before .before .before .before .before in
-    let s = c .before .before .before .before .before .before .before .before .before .before .before .before .before .before .before in
+    let s = c .before .before .before .before .before .before .before .before .before .before .before .before .before .before in
     let a = s .args in
     let f = a .f in
     let low = below s (t .before .if1 .left) in
@@ -85,7 +85,7 @@ make-requires c κs =
 returns : tie.Need-returns
 returns c =
     let e = c .before .before .before .before in
-    let s = c .before .before .before .before .before .before .before .before .before .before .before .before .before in
+    let s = c .before .before .before .before .before .before .before .before .before .before .before .before in
     let a = s .args in
     let w = now (a .work) in
     let is = c .before .before .before .before .before .before .before .if1 .taken in
@@ -95,7 +95,7 @@ returns-2 : tie.Need-returns-2
 returns-2 c =
     let h = c .before .before .before .before .before .before .before in
     let t = c .before .before .before .before .before .before .before .before .before .before in
-    let s = c .before .before .before .before .before .before .before .before .before .before .before .before .before .before .before .before .before in
+    let s = c .before .before .before .before .before .before .before .before .before .before .before .before .before .before .before .before in
     let a = s .args in
     let f = a .f in
     let w = now (a .work) in
@@ -111,7 +111,7 @@ returns-3 c =
     let p = c .before .before .before .before in
     let h = c .before .before .before .before .before .before .before .before .before .before in
     let t = c .before .before .before .before .before .before .before .before .before .before .before .before .before in
-    let s = c .before .before .before .before .before .before .before .before .before .before .before .before .before .before .before .before .before .before .before .before in
+    let s = c .before .before .before .before .before .before .before .before .before .before .before .before .before .before .before .before .before .before .before in
     let a = s .args in
     let f = a .f in
     let w = now (a .work) in

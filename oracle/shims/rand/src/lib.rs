@@ -1,4 +1,4 @@
-//! rand 0.10's names. `random` and `shuffle` give recorded values; the rest is traits.
+//! rand 0.10's names. `random` gives recorded values, `shuffle` is that of document 02, order 6; the rest is traits.
 pub mod rand_core;
 
 pub mod distr {
@@ -31,22 +31,39 @@ pub mod prelude {
 }
 
 pub mod seq {
-    /// The recorded permutation in place of a shuffle.
-    pub trait SliceRandom {
-        fn shuffle<R>(&mut self, rng: &mut R);
+    /// A generator that tells the words of its seed, from the first on, whatever was drawn before.
+    pub trait Words {
+        fn words(&self) -> impl Iterator<Item = u32>;
     }
 
-    impl SliceRandom for [usize] {
-        fn shuffle<R>(&mut self, _: &mut R) {
-            let permutation = recorded::permutation();
-            assert_eq!(
-                self.len(),
-                permutation.len(),
-                "oracle: length of the permutation"
-            );
-            for (entry, &p) in self.iter_mut().zip(permutation.iter()) {
-                *entry = p as usize;
+    /// How many words are passed over at one index at most.
+    const MOST: usize = 64;
+
+    /// The shuffle of document 02, order 6, by these words. Says how many it passed over.
+    pub fn shuffle<T>(list: &mut [T], mut words: impl Iterator<Item = u32>) -> usize {
+        let mut word = || u64::from(words.next().expect("oracle: words for a shuffle"));
+        let mut all = 0;
+        for t in (1..list.len()).rev() {
+            let count = t as u64 + 1;
+            let multiple = (1 << 32) / count * count;
+            let (mut w, mut passed) = (word(), 0);
+            while w >= multiple && passed < MOST {
+                (w, passed) = (word(), passed + 1);
             }
+            list.swap(t, (w % count) as usize);
+            all += passed;
+        }
+        all
+    }
+
+    /// rand's shuffle is another; the source is given the order's, from the seed of its own toss.
+    pub trait SliceRandom {
+        fn shuffle<R: Words>(&mut self, rng: &mut R);
+    }
+
+    impl<T> SliceRandom for [T] {
+        fn shuffle<R: Words>(&mut self, rng: &mut R) {
+            shuffle(self, rng.words());
         }
     }
 }

@@ -1,8 +1,8 @@
 //! rand_chacha 0.3's `ChaCha20Rng` behind rand 0.10's traits.
-use std::convert::Infallible;
+use std::{convert::Infallible, iter};
 
 use chacha::rand_core::{RngCore, SeedableRng as _};
-use rand::{SeedableRng, TryCryptoRng, TryRng};
+use rand::{SeedableRng, TryCryptoRng, TryRng, seq::Words};
 
 #[derive(Clone, Debug)]
 pub struct ChaCha20Rng(chacha::ChaCha20Rng);
@@ -39,3 +39,12 @@ impl TryRng for ChaCha20Rng {
 }
 
 impl TryCryptoRng for ChaCha20Rng {}
+
+// Its counter has 64 bits and its nonce the other 64: from 0 on, with a nonce of zeros, the blocks are those of RFC 8439
+// for as long as a counter of 32 bits lasts.
+impl Words for ChaCha20Rng {
+    fn words(&self) -> impl Iterator<Item = u32> {
+        let mut rng = chacha::ChaCha20Rng::from_seed(self.get_seed());
+        iter::repeat_with(move || rng.next_u32())
+    }
+}

@@ -1,4 +1,4 @@
-//! The recorded values that stand for `random`, the r strings and the shuffle.
+//! The recorded values that stand for `random` and the r strings.
 //!
 //! One party's values are put in place while that party runs, and taken out after.
 use std::{cell::RefCell, mem, sync::Arc};
@@ -11,15 +11,13 @@ pub struct Values {
     /// The Blocks for `AesRng`, the same for every party; `None` where it is to draw them by AES.
     pub r: Option<Arc<Vec<u8>>>,
     pub r_used: usize,
-    pub permutation: Arc<Vec<u32>>,
-    pub shuffled: bool,
 }
 
 impl Values {
     /// Whether every value was taken: it shows that the draws came in the expected order.
     pub fn used_up(&self) -> bool {
         let r_len = self.r.as_ref().map_or(0, |r| r.len());
-        self.drawn == self.draws.len() && self.r_used == r_len && self.shuffled
+        self.drawn == self.draws.len() && self.r_used == r_len
     }
 }
 
@@ -55,16 +53,5 @@ pub fn r_block() -> Option<[u8; 16]> {
         let block = r[v.r_used..end].try_into().unwrap();
         v.r_used = end;
         Some(block)
-    })
-}
-
-/// The recorded permutation, to be taken once.
-pub fn permutation() -> Arc<Vec<u32>> {
-    VALUES.with(|v| {
-        let mut v = v.borrow_mut();
-        let v = v.as_mut().expect("oracle: no recorded values in place");
-        assert!(!v.shuffled, "oracle: more than one shuffle");
-        v.shuffled = true;
-        v.permutation.clone()
     })
 }
