@@ -14,6 +14,7 @@ use Rattle.lists.specs.Pick.{pick}
 use Rattle.lists.specs.Over.{tab, length-tab, getD-tab}
 use Rattle.shuffle.specs.Permutation.{isPerm}
 use Rattle.shuffle.specs.PermutationLaws.{perm-of, perm-below, perm-distinct}
+use Rattle.shuffle.specs.Turns.{MOST}
 use Rattle.shuffle.specs.Shuffle.{PASSED, keyWord, multiple, used, swap, down, shuffled, permutation}
 
 -- ---- a swap
@@ -203,5 +204,5 @@ unfolding shuffled
 words-few w v n h = few w v (n - 1) 0 (tab n (λ k. k)) (λ k l r. h k (omega arith))
 
 -- so the counter of 32 bits never wraps
-pub counter-fits : (n c : ℕ) → n ≤ 2 ^ 26 → c < 65 * (n - 1) → c / 16 < 2 ^ 32
+pub counter-fits : (n c : ℕ) → n ≤ MOST → c < 65 * (n - 1) → c / 16 < 2 ^ 32
 counter-fits n c h l = omega arith

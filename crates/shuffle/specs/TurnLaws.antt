@@ -25,7 +25,7 @@ use Rattle.chacha20_lanes.specs.Lanes.{laneOf}
 use Rattle.chacha20_lanes.specs.LaneLaws.{lane-word}
 use Rattle.shuffle.specs.Shuffle.{keyWord, multiple, used, swap, down, shuffled, permutation}
 use Rattle.shuffle.specs.declared.Turn.{Turn}
-use Rattle.shuffle.specs.Turns.{Kept, rest, size, Less, LessBy, Went, Goes, Taken, Blocks}
+use Rattle.shuffle.specs.Turns.{MOST, Kept, rest, size, Less, LessBy, Went, Goes, Taken, Blocks}
 
 -- ---- numbers of four bytes
 kept-set : (n k v : ℕ) (p s x : List ℕ) → Kept n p s → k < n → v < 2 ^ 32 → x ≡ le4 v
@@ -299,7 +299,7 @@ unfolding le4s
 started n = cat-ext n le4 _ (λ j l. ap le4 (sym (getD-tab n j (λ k. k) 0 l)))
 
 -- no block is left to be taken
-module _ (n : ℕ) (most : n ≤ 2 ^ 26) where
+module _ (n : ℕ) (most : n ≤ MOST) where
   start-kept : (x : List ℕ) → x ≡ le4s n (tab n (λ k. k)) → Kept n (tab n (λ k. k)) x
   start-kept x e =
       record { long = length-tab n (λ k. k); small = λ k l. rw (getD-tab n k (λ k. k) 0 l) (omega arith); bytes = e }

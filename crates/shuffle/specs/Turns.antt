@@ -7,6 +7,10 @@ use Rattle.word.specs.Word.{wordList, le4s}
 use Rattle.shuffle.specs.declared.Turn.{Turn}
 use Rattle.shuffle.specs.Shuffle.{keyWord, used, swap, down}
 
+-- the longest list that is drawn: its words are so few that the counter of 32 bits never wraps (Always.antt, counter-fits)
+abbrev pub MOST : ℕ
+MOST = 2 ^ 26
+
 -- the bytes s are n numbers, those of p
 pub record Kept (n : ℕ) (p s : List ℕ) : Type 0 where
   pub long : length p ≡ n

@@ -1,5 +1,5 @@
 // The permutation from the joint seed (document 02, order 6), drawn where it is kept: numbers of four bytes, low byte first. From it rounds
-// 21 and 22 take their buckets. The joint seed is told to all boxes in round 3, so its words may be branched on and used as indices.
+// 21 and 22 take their buckets. All boxes know the joint seed from round 3 on, so its words may be branched on and used as indices.
 //
 // A word costs one division: with r = w mod m the m numbers from w − r on all lie below 2^32, or w is to be passed over.
 ghost use mathlib.Core.Path.{_≡_};
@@ -19,6 +19,9 @@ use word::BYTES;
 // How many words may be passed over at one index.
 const PASSED: usize = 64;
 
+// How many words of 32 bits there are.
+const WORDS: usize = 0x1_0000_0000;
+
 // Where the shuffle stands: the index, and how many words may still be passed over at it.
 struct Turn {
     t: usize,
@@ -27,7 +30,7 @@ struct Turn {
 
 // "Start with 0 to l·b − 1 in order."
 fn start(section: &mut [u8], n: usize)
-    requires { ⌜ (length (now section) ≡ n * 4) × (n ≤ 2 ^ 26) ⌝ }
+    requires { ⌜ (length (now section) ≡ n * 4) × (n ≤ T.MOST) ⌝ }
     ensures { λ _. ⌜ now (section .exit) ≡ le4s n (tab n (λ k. k)) ⌝ }
 {
     let mut t = 0;
@@ -59,12 +62,12 @@ fn fits(w: usize, r: usize, m: usize) -> bool
     requires { ⌜ (r ≡ w % m) × (1 ≤ m) × (m ≤ 2 ^ 32) × (w < 2 ^ 32) ⌝ }
     ensures { λ b. ⌜ b ≡ ltb w (S.multiple m) ⌝ }
 {
-    w - r + m <= 0x1_0000_0000
+    w - r + m <= WORDS
 }
 
 // Word v is taken: it is used, or passed over.
 fn step(section: &mut [u8], v: u32, s: Turn) -> Turn
-    requires { ⌜ (1 ≤ s .t) × (s .t ≤ 2 ^ 26) × (s .t * 4 + 4 ≤ length (now section)) × (s .left ≤ 64) ⌝ }
+    requires { ⌜ (1 ≤ s .t) × (s .t ≤ T.MOST) × (s .t * 4 + 4 ≤ length (now section)) × (s .left ≤ 64) ⌝ }
     ensures { λ r. ⌜ T.Less s r ⌝ }
     ensures { λ r. ⌜ ((w : ℕ → ℕ) (c : ℕ) → w c ≡ v → T.Goes w 1 c s r (now (section .entry)) (now (section .exit))) ⌝ }
 {
@@ -88,7 +91,7 @@ fn step(section: &mut [u8], v: u32, s: Turn) -> Turn
 
 // The words of a block are taken, until the last index is passed.
 fn block(section: &mut [u8], words: [u32; 16], s: Turn) -> Turn
-    requires { ⌜ (s .t ≤ 2 ^ 26) × (s .t * 4 + 4 ≤ length (now section)) × (s .left ≤ 64) ⌝ }
+    requires { ⌜ (s .t ≤ T.MOST) × (s .t * 4 + 4 ≤ length (now section)) × (s .left ≤ 64) ⌝ }
     ensures { λ r. ⌜ T.LessBy 16 s r ⌝ }
     ensures { λ r. ⌜ ((w : ℕ → ℕ) (c : ℕ) → ((k : ℕ) → k < 16 → w (c + k) ≡ getD words k 0) → T.Goes w 16 c s r (now (section .entry)) (now (section .exit))) ⌝ }
 {
@@ -103,7 +106,7 @@ fn block(section: &mut [u8], words: [u32; 16], s: Turn) -> Turn
 
 // The words of four blocks are taken.
 fn window(section: &mut [u8], key: &[u32; 8], counter: u32, s: Turn) -> Turn
-    requires { ⌜ (counter + 4 ≤ 2 ^ 32) × (s .t ≤ 2 ^ 26) × (s .t * 4 + 4 ≤ length (now section)) × (s .left ≤ 64) ⌝ }
+    requires { ⌜ (counter + 4 ≤ 2 ^ 32) × (s .t ≤ T.MOST) × (s .t * 4 + 4 ≤ length (now section)) × (s .left ≤ 64) ⌝ }
     ensures { λ r. ⌜ T.LessBy 64 s r ⌝ }
     ensures { λ r. ⌜ ((k : List ℕ) → now (key .entry) ≡ wordList 8 k → T.Goes (S.keyWord k) 64 (counter * 16) s r (now (section .entry)) (now (section .exit))) ⌝ }
 {
@@ -121,7 +124,7 @@ fn window(section: &mut [u8], key: &[u32; 8], counter: u32, s: Turn) -> Turn
 
 // The permutation of 0 to n − 1, from the words of the key. Four blocks at a time.
 pub fn draw(section: &mut [u8], key: &[u32; 8], n: usize)
-    requires { ⌜ (length (now section) ≡ n * 4) × (1 ≤ n) × (n ≤ 2 ^ 26) ⌝ }
+    requires { ⌜ (length (now section) ≡ n * 4) × (1 ≤ n) × (n ≤ T.MOST) ⌝ }
     ensures { λ _. ⌜ ((k : List ℕ) → now (key .entry) ≡ wordList 8 k → now (section .exit) ≡ le4s n (S.permutation k n)) ⌝ }
 {
     start(section, n);
