@@ -107,11 +107,11 @@ int main(int argc, char **argv) {
         for (size_t k = 0; k <= LAST; k++) least[form][k] = 1e18;
     for (size_t turn = 0; turn < times * (last - first + 1); turn++) {
         size_t form = first + turn % (last - first + 1);
-        uint32_t session[MOST][NUZSDIKE_SESSION];
+        uint32_t session[MOST][NUZSDIKE_SESSION], told[NUZSDIKE_TOLD];
         for (uint32_t i = 0; i < n; i++) {
             touch_other();
             double t = now();
-            uint64_t a = nuzsdike_open(session[i], NUZSDIKE_SESSION, n, i, l, delta[i], 16, seed[i], 32, pairs[i], pairs_len, bits[i], bits_len, alpha[i], shares, beta[i], shares,
+            uint64_t a = nuzsdike_open(session[i], NUZSDIKE_SESSION, n, i, &l, 1, delta[i], 16, seed[i], 32, pairs[i], pairs_len, bits[i], bits_len, alpha[i], shares, beta[i], shares,
                                        masks[i], masks_len, work[i], work_len, out[i], nuzsdike_out_len(n, l, 0));
             t = now() - t;
             if (a) return fprintf(stderr, "opening refused: %u\n", NUZSDIKE_CODE(a)), 1;
@@ -131,7 +131,7 @@ int main(int argc, char **argv) {
                 touch_other();
                 double t = now();
                 uint64_t a = nuzsdike_round(session[i], NUZSDIKE_SESSION, k, in, n * len, starts, n, lens, n, missing, n, lent, lent_len, work[i], work_len, out[i],
-                                            nuzsdike_out_len(n, l, k));
+                                            nuzsdike_out_len(n, l, k), told, NUZSDIKE_TOLD);
                 t = now() - t;
                 if (a) return fprintf(stderr, "round %u refused: %u\n", k, NUZSDIKE_CODE(a)), 1;
                 if (!i && t < least[form][k]) least[form][k] = t;

@@ -16,7 +16,7 @@ enum { N = 2 };
 /* What a box brings along, and what it has during a session. */
 struct box {
     uint8_t delta[16], seed[32], *pairs, *bits, *alpha, *beta, *masks; /* secret, fresh for each session */
-    uint32_t session[NUZSDIKE_SESSION];
+    uint32_t session[NUZSDIKE_SESSION], told[NUZSDIKE_TOLD];
     uint8_t *work, *out, *in, r[NUZSDIKE_R_SEED]; /* in: the other's message, copied as a network would */
 };
 
@@ -94,7 +94,8 @@ int main(int argc, char **argv) {
 
     for (uint32_t i = 0; i < N; i++) {
         struct box *p = &box[i];
-        uint64_t answer = nuzsdike_open(p->session, NUZSDIKE_SESSION, N, i, l, p->delta, 16, p->seed, 32, p->pairs, nuzsdike_pairs_len(N), p->bits,
+        /* one batch, of all l ANDs */
+        uint64_t answer = nuzsdike_open(p->session, NUZSDIKE_SESSION, N, i, &l, 1, p->delta, 16, p->seed, 32, p->pairs, nuzsdike_pairs_len(N), p->bits,
                                         bits_len, p->alpha, shares_len, p->beta, shares_len, p->masks, masks_len, p->work, work_len, p->out,
                                         nuzsdike_out_len(N, l, 0));
         if (answer) refused(answer, i, 0);
@@ -109,11 +110,16 @@ int main(int argc, char **argv) {
             size_t starts[N] = {0}, lens[N] = {len, len}; /* one incoming message; the own entry is ignored */
             uint8_t missing[N] = {0};
             uint64_t answer = nuzsdike_round(box[i].session, NUZSDIKE_SESSION, round, box[i].in, len, starts, N, lens, N, missing, N, box[i].r, r_len,
-                                             box[i].work, work_len, box[i].out, nuzsdike_out_len(N, l, round));
+                                             box[i].work, work_len, box[i].out, nuzsdike_out_len(N, l, round), box[i].told, NUZSDIKE_TOLD);
             if (answer) refused(answer, i, round);
         }
     }
 
+    for (size_t i = 0; i < N; i++)
+        if (box[i].told[0] != 0 || box[i].told[1] != l) { /* the one batch starts at the first record */
+            fprintf(stderr, "two: box %zu is told another batch\n", i);
+            return 1;
+        }
     /* The results lie in out. A checker that sees both boxes: heads, MAC rule and AND. */
     for (size_t t = 0; t < l; t++) {
         size_t at = t * record;

@@ -7,11 +7,11 @@
  *   secrets control   a jump and an address that do depend on a secret: memcheck has to see both
  * Before N, `strings` lends r as strings; else it is a seed, from which the library draws.
  *
- * Secret: delta, the seeds of the tosses, the bits, MACs and keys of share records, and the masks. Public: n, i, l, and so records' labels;
- * r in either form (bytes of a seed are indices of AES' tables, and may be), and what is on the line. So what a call wrote to the outgoing
- * buffer is declared defined before it is carried over; the results stay undefined but for their labels, and are looked at by nobody. The
- * joint seed is public too, once a box has accepted round 3: all boxes opened their seeds there and know it. In the work area it is declared
- * defined then, and so are the words that the library draws from it and the permutation: these may decide jumps and addresses.
+ * Secret: delta, the seeds of the tosses, the bits, MACs and keys of share records, and the masks. Public: n, i, the counts of the batches and
+ * so l, and records' labels; r in either form (bytes of a seed are indices of AES' tables, and may be), and what is on the line. So what a call
+ * wrote to the outgoing buffer is declared defined before it is carried over; the results stay undefined but for their labels, and are looked at
+ * by nobody. The joint seed is public too, once a box has accepted round 3: all boxes opened their seeds there and know it. In the work area it
+ * is declared defined then, and so are the words that the library draws from it and the permutation: these may decide jumps and addresses.
  */
 #include <stdio.h>
 #include <stdlib.h>
@@ -115,7 +115,7 @@ int main(int argc, char **argv) {
     size_t pairs_len = nuzsdike_pairs_len(n), r_len = 0;
     for (uint32_t k = 1; k; k = nuzsdike_next_round(n, k)) r_len += nuzsdike_r_len(n, l, k);
     uint8_t *r = random_bytes(r_len), *delta[MOST], *seed[MOST], *pairs[MOST], *masks[MOST], *bits[MOST], *alpha[MOST], *beta[MOST], *work[MOST], *out[MOST];
-    uint32_t session[MOST][NUZSDIKE_SESSION];
+    uint32_t session[MOST][NUZSDIKE_SESSION], told[NUZSDIKE_TOLD];
     for (size_t i = 0; i < n; i++) {
         delta[i] = random_bytes(16), seed[i] = random_bytes(32), pairs[i] = random_bytes(pairs_len), masks[i] = random_bytes(masks_len);
         for (size_t k = 0; k < masks_len; k++) masks[i][k] &= 1;
@@ -124,6 +124,9 @@ int main(int argc, char **argv) {
     deal(n, delta, bits, bits_len / record);
     deal(n, delta, alpha, l);
     deal(n, delta, beta, l);
+    /* two batches, where there are as many ANDs */
+    uint32_t counts[2] = {l > 1 ? l / 2 : l, l - l / 2};
+    size_t batches = l > 1 ? 2 : 1;
     for (size_t i = 0; i < n; i++) {
         hide(delta[i], 16), hide(seed[i], 32), hide(pairs[i], pairs_len), hide(masks[i], masks_len);
         hide_records(bits[i], bits_len, record), hide_records(alpha[i], shares_len, record), hide_records(beta[i], shares_len, record);
@@ -132,8 +135,8 @@ int main(int argc, char **argv) {
     for (uint32_t i = 0; i < n; i++) {
         out[i] = buffer(nuzsdike_out_len(n, l, 0));
         VALGRIND_PRINTF("CALL open\n");
-        uint64_t answer = nuzsdike_open(session[i], NUZSDIKE_SESSION, n, i, l, delta[i], 16, seed[i], 32, pairs[i], pairs_len, bits[i], bits_len, alpha[i],
-                                        shares_len, beta[i], shares_len, masks[i], masks_len, work[i], work_len, out[i], nuzsdike_out_len(n, l, 0));
+        uint64_t answer = nuzsdike_open(session[i], NUZSDIKE_SESSION, n, i, counts, batches, delta[i], 16, seed[i], 32, pairs[i], pairs_len, bits[i], bits_len,
+                                        alpha[i], shares_len, beta[i], shares_len, masks[i], masks_len, work[i], work_len, out[i], nuzsdike_out_len(n, l, 0));
         VALGRIND_PRINTF("CALL none\n");
         show(&answer, sizeof answer), show(session[i], sizeof session[i]); /* an answer is public */
         if (answer) return fprintf(stderr, "opening: refused %u\n", NUZSDIKE_CODE(answer)), 1;
@@ -156,7 +159,7 @@ int main(int argc, char **argv) {
             if (lent && !strings) lent = NUZSDIKE_R_SEED;
             VALGRIND_PRINTF("CALL round %u\n", round);
             uint64_t answer = nuzsdike_round(session[i], NUZSDIKE_SESSION, round, incoming[i], n * len, starts, n, lens, n, missing, n, r,
-                                             lent, work[i], work_len, next[i], out_len);
+                                             lent, work[i], work_len, next[i], out_len, told, NUZSDIKE_TOLD);
             VALGRIND_PRINTF("CALL none\n");
             show(&answer, sizeof answer), show(session[i], sizeof session[i]);
             if (round == TOSSED && !answer) show(work[i] + nuzsdike_joint_seed_at(n, l), JOINT_SEED);

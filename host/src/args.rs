@@ -45,12 +45,25 @@ impl Args {
     /// A number within bounds, digits alone.
     pub fn number<T: FromStr + PartialOrd + Display>(&self, name: &str, least: T, most: T) -> Result<Option<T>, String> {
         let Some(value) = self.get(name) else { return Ok(None) };
-        let digits = !value.is_empty() && value.bytes().all(|byte| byte.is_ascii_digit());
-        match value.parse() {
-            Ok(number) if digits && least <= number && number <= most => Ok(Some(number)),
+        match digits(value) {
+            Some(number) if least <= number && number <= most => Ok(Some(number)),
             _ => Err(format!("--{name} takes a number from {least} to {most}, not '{value}'")),
         }
     }
+
+    /// Numbers of 32 bits with commas between, at least one.
+    pub fn numbers(&self, name: &str) -> Result<Option<Vec<u32>>, String> {
+        let Some(value) = self.get(name) else { return Ok(None) };
+        let numbers: Option<Vec<u32>> = value.split(',').map(digits).collect();
+        let wrong = || format!("--{name} takes numbers of 32 bits with commas between, as 100,250,50, not '{value}'");
+        numbers.map(Some).ok_or_else(wrong)
+    }
+}
+
+/// A number, of digits alone.
+fn digits<T: FromStr>(word: &str) -> Option<T> {
+    let digits = !word.is_empty() && word.bytes().all(|byte| byte.is_ascii_digit());
+    digits.then(|| word.parse().ok()).flatten()
 }
 
 #[cfg(test)]
@@ -77,6 +90,19 @@ mod tests {
         assert_eq!(args.choice("l", &["one", "ten"]), Ok("ten"));
         assert_eq!(args.choice("l", &["one", "two"]), Err("--l takes one or two, not 'ten'".into()));
         assert!(args.choice("l", &["tens", ""]).is_err());
+    }
+
+    #[test]
+    fn lists_are_taken() {
+        let list = |value: &str| parse(&["--l", value]).unwrap().unwrap().numbers("l");
+        assert_eq!(list("100,250,50"), Ok(Some(vec![100, 250, 50])));
+        assert_eq!(list("7"), Ok(Some(vec![7])));
+        // what a session takes is the library's to say
+        assert_eq!(list("0,4294967295"), Ok(Some(vec![0, u32::MAX])));
+        assert_eq!(parse(&[]).unwrap().unwrap().numbers("l"), Ok(None));
+        for value in ["", ",", "1,", ",1", "1,,2", "1, 2", "1;2", "-1", "+1", "1,x", "4294967296"] {
+            assert!(list(value).is_err(), "'{value}'");
+        }
     }
 
     #[test]

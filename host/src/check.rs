@@ -2,7 +2,7 @@
 
 use std::{error, fmt};
 
-use crate::{key_at, mac_at, record_head, record_len, Plan, ENTRY, RECORD_HEAD};
+use crate::{key_at, mac_at, record_head, record_len, Batch, Plan, ENTRY, RECORD_HEAD};
 
 /// One box's part.
 #[derive(Clone, Copy)]
@@ -11,6 +11,15 @@ pub struct Outputs<'a> {
     pub alpha: &'a [u8],
     pub beta: &'a [u8],
     pub results: &'a [u8],
+}
+
+impl<'a> Outputs<'a> {
+    /// Its part of a batch, in a session of n boxes.
+    pub fn of_batch(&self, n: usize, batch: Batch) -> Outputs<'a> {
+        let len = record_len(n);
+        let part = |list: &'a [u8]| &list[batch.first * len..][..batch.count * len];
+        Outputs { delta: self.delta, alpha: part(self.alpha), beta: part(self.beta), results: part(self.results) }
+    }
 }
 
 /// What was found right.

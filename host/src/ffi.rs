@@ -4,7 +4,9 @@
 #[cfg(not(target_pointer_width = "64"))]
 compile_error!("libnuzsdike.a is for 64-bit machines");
 
-pub const SESSION: usize = 4;
+pub const BATCHES: usize = 16;
+pub const SESSION: usize = 20;
+pub const TOLD: usize = 32;
 pub const R_SEED: usize = 16;
 
 /// A number for the interface. What 32 bits do not hold is above every limit, and so is the largest that they hold.
@@ -18,7 +20,8 @@ unsafe extern "C" {
         session_len: usize,
         n: u32,
         i: u32,
-        l: u32,
+        counts: *const u32,
+        counts_len: usize,
         delta: *const u8,
         delta_len: usize,
         seed: *const u8,
@@ -57,6 +60,8 @@ unsafe extern "C" {
         work_len: usize,
         out: *mut u8,
         out_len: usize,
+        told: *mut u32,
+        told_len: usize,
     ) -> u64;
 
     pub fn nuzsdike_combine(
@@ -71,6 +76,7 @@ unsafe extern "C" {
         out_len: usize,
     ) -> u64;
 
+    pub fn nuzsdike_sum(counts: *const u32, counts_len: usize) -> u64;
     pub fn nuzsdike_work_len(n: u32, l: u32) -> usize;
     pub fn nuzsdike_out_len(n: u32, l: u32, round: u32) -> usize;
     pub fn nuzsdike_message_len(n: u32, l: u32, round: u32) -> usize;

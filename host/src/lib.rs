@@ -4,14 +4,14 @@
 //! A session, with any transport:
 //!
 //! ```text
-//! let (mut session, mut outgoing) = Session::open(plan, i, &inputs)?;
+//! let (mut session, mut outgoing) = Session::open(n, i, &counts, &inputs)?;
 //! loop {
 //!     // send outgoing.to(k) to every other box k; gather the others' messages of the round that is due
-//!     let mut mail = Mail::new(plan, i, session.due());
+//!     let mut mail = Mail::new(session.plan(), i, session.due());
 //!     ...
 //!     match session.round(&mail, r)? {
 //!         Step::Send(next) => outgoing = next,
-//!         Step::Done(results) => break,
+//!         Step::Done { results, batches } => break,
 //!     }
 //! }
 //! ```
@@ -82,6 +82,25 @@ pub const fn key_at(k: usize) -> usize {
     mac_at(k) + 16
 }
 
+/// The most batches that a session has.
+pub const BATCHES: usize = ffi::BATCHES;
+
+/// The l of a session that is opened with these counts, their sum; or why opening would refuse them.
+pub fn sum(counts: &[u32]) -> Result<usize, Reason> {
+    // Sound: a slice of ours, read only.
+    let answer = unsafe { ffi::nuzsdike_sum(counts.as_ptr(), counts.len()) };
+    // A sum fits in 32 bits; a refusal is an answer that names no party, above them.
+    u32::try_from(answer).map(|l| l as usize).map_err(|_| Reason(answer as u8))
+}
+
+/// A batch of a session: where its results lie among all.
+#[derive(Clone, Copy, Debug, PartialEq, Eq)]
+pub struct Batch {
+    /// The position of the first record, from 0.
+    pub first: usize,
+    pub count: usize,
+}
+
 /// The numbers of a session of n boxes for l ANDs. Every length is the library's own answer; all are 0 where opening would refuse n or l.
 #[derive(Clone, Copy, Debug, PartialEq, Eq)]
 pub struct Plan {
@@ -93,6 +112,11 @@ pub struct Plan {
 impl Plan {
     pub fn new(n: usize, l: usize) -> Self {
         Plan { n, l }
+    }
+
+    /// For batches of these counts; l is 0 where opening would refuse them.
+    pub fn of_batches(n: usize, counts: &[u32]) -> Self {
+        Plan { n, l: sum(counts).unwrap_or(0) }
     }
 
     pub fn work_len(self) -> usize {
@@ -308,11 +332,11 @@ pub enum Form {
 pub enum Step {
     /// The messages of the next round.
     Send(Outgoing),
-    /// The results: l share records. The session is over and its work area zero.
-    Done(Vec<u8>),
+    /// The results: l share records, batch after batch. The session is over and its work area zero.
+    Done { results: Vec<u8>, batches: Vec<Batch> },
 }
 
-/// A session of one box: the library's four numbers and the work area. It neither waits nor starts a thread.
+/// A session of one box: the library's numbers and the work area. It neither waits nor starts a thread.
 pub struct Session {
     plan: Plan,
     i: usize,
@@ -321,15 +345,18 @@ pub struct Session {
 }
 
 impl Session {
-    /// Opens a session for box i, and gives the messages of round 1. The inputs are copied to the work area and may be dropped.
-    pub fn open(plan: Plan, i: usize, inputs: &Inputs) -> Result<(Session, Outgoing), Refusal> {
+    /// Opens a session for box i of n, for batches of these counts, and gives the messages of round 1. The inputs are copied to the work area and may
+    /// be dropped. The boxes' counts have to have one sum and need not be the same.
+    pub fn open(n: usize, i: usize, counts: &[u32], inputs: &Inputs) -> Result<(Session, Outgoing), Refusal> {
+        let plan = Plan::of_batches(n, counts);
         let mut session = Session { plan, i, state: [0; ffi::SESSION], work: sys::work_area(plan.work_len()) };
-        let outgoing = session.open_again(plan, i, inputs)?;
+        let outgoing = session.open_again(n, i, counts, inputs)?;
         Ok((session, outgoing))
     }
 
     /// Opens another session in the memory of this one, which is over then. Where that is refused, this one goes on as it was.
-    pub fn open_again(&mut self, plan: Plan, i: usize, inputs: &Inputs) -> Result<Outgoing, Refusal> {
+    pub fn open_again(&mut self, n: usize, i: usize, counts: &[u32], inputs: &Inputs) -> Result<Outgoing, Refusal> {
+        let plan = Plan::of_batches(n, counts);
         let mut bytes = vec![0; plan.out_len(0)];
         // Sound: each pair is a slice's pointer (never null, in Rust) and its length; what is written is borrowed mutably and so overlaps
         // nothing; the library keeps no pointer.
@@ -337,9 +364,10 @@ impl Session {
             ffi::nuzsdike_open(
                 self.state.as_mut_ptr(),
                 self.state.len(),
-                ffi::number(plan.n),
+                ffi::number(n),
                 ffi::number(i),
-                ffi::number(plan.l),
+                counts.as_ptr(),
+                counts.len(),
                 inputs.delta.as_ptr(),
                 inputs.delta.len(),
                 inputs.seed.as_ptr(),
@@ -364,7 +392,7 @@ impl Session {
             return Err(Refusal::new(answer, Call::Open, self.due() == 0));
         }
         (self.plan, self.i) = (plan, i);
-        Ok(Outgoing { round: self.due(), n: plan.n, i, bytes })
+        Ok(Outgoing { round: self.due(), n, i, bytes })
     }
 
     /// The call for the round of `mail`. r is empty unless `Plan::r_len` asks for it; then it is a seed or the strings that it draws, the same at
@@ -372,6 +400,7 @@ impl Session {
     pub fn round(&mut self, mail: &Mail, r: &[u8]) -> Result<Step, Refusal> {
         let round = mail.round;
         let mut bytes = vec![0; self.plan.out_len(round)];
+        let mut told = [0; ffi::TOLD];
         // Sound: as in `open`.
         let answer = unsafe {
             ffi::nuzsdike_round(
@@ -392,13 +421,15 @@ impl Session {
                 self.work.len(),
                 bytes.as_mut_ptr(),
                 bytes.len(),
+                told.as_mut_ptr(),
+                told.len(),
             )
         };
         if answer != 0 {
             return Err(Refusal::new(answer, Call::Round(round), self.due() == 0));
         }
         match self.due() {
-            0 => Ok(Step::Done(bytes)),
+            0 => Ok(Step::Done { results: bytes, batches: batches(&told) }),
             due => Ok(Step::Send(Outgoing { round: due, n: self.plan.n, i: self.i, bytes })),
         }
     }
@@ -450,6 +481,12 @@ impl Session {
     pub fn is_wiped(&self) -> bool {
         self.work.iter().all(|byte| *byte == 0)
     }
+}
+
+/// The batches that the last call tells: pairs of first position and count, of which unused ones count nothing.
+fn batches(told: &[u32]) -> Vec<Batch> {
+    let pairs = told.chunks_exact(2).map(|pair| Batch { first: pair[0] as usize, count: pair[1] as usize });
+    pairs.filter(|batch| batch.count != 0).collect()
 }
 
 impl Drop for Session {

@@ -4,12 +4,12 @@ use std::{error, fmt};
 
 use crate::{round_title, Call};
 
-/// Number, name, and what it says. The names of 1 to 12 are those of the Rust that the session is carried over from; 13 to 22 have none
+/// Number, name, and what it says. The names of 1 to 12 are those of the Rust that the session is carried over from; 13 to 23 have none
 /// there, and are named here.
-const REASONS: [(&str, &str); 22] = [
+const REASONS: [(&str, &str); 23] = [
     ("InvalidBitValue", "a bit byte above 1"),
     ("CommitmentCouldNotBeOpened", "what was opened is not what was committed to"),
-    ("EmptyVector", "l is 0, or an echo lacks a needed entry"),
+    ("EmptyVector", "a batch is 0, or an echo lacks a needed entry"),
     ("ConversionErr", "a record's own entry is not zero, or a dm has another length than is due"),
     ("EmptyBucket", "nothing to combine"),
     ("InvalidLength", "a list of shares, or a count in a message, is not the one due"),
@@ -29,9 +29,10 @@ const REASONS: [(&str, &str); 22] = [
     ("SessionOver", "the session is done or ended"),
     ("BytesAfterValue", "a message has bytes after its value"),
     ("WrongLabel", "a record says another n or another box's number, or its filler is not zero"),
+    ("BadBatches", "no batch, or more than 16"),
 ];
 
-/// Why a call was refused: document 01's number, or 21 or 22 of document 02.
+/// Why a call was refused: document 01's number, or 21 to 23 of document 02.
 #[derive(Clone, Copy, Debug, PartialEq, Eq, Hash)]
 pub struct Reason(pub u8);
 

@@ -79,10 +79,10 @@ fn the_worked_example() {
 #[test]
 fn the_names_of_refusals() {
     let rows = table(&doc("REFUSALS.md"), "| no. | name |");
-    for number in 1..=22u8 {
+    for number in 1..=23u8 {
         let row = rows.iter().find(|row| row[0] == number.to_string()).unwrap_or_else(|| panic!("no {number}"));
         assert!(row[1].is_empty() || row[1] == Reason(number).name(), "{row:?}");
     }
-    assert_eq!(rows.len(), 22);
-    assert_eq!((Reason(22).name(), Reason(23).name()), ("WrongLabel", "Unknown"));
+    assert_eq!(rows.len(), 23);
+    assert_eq!((Reason(23).name(), Reason(24).name()), ("BadBatches", "Unknown"));
 }

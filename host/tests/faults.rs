@@ -557,6 +557,20 @@ fn shares_of_box_1_in_box_2() {
     });
 }
 
+/// A list of batches that opening refuses, though its sum is l: the others hear of it.
+#[test]
+fn batches_that_opening_refuses() {
+    let deal = Deal::new(3, 2, 53);
+    let words: [&[&str]; 3] = [&[], &["--batches", "1,0,1"], &[]];
+    let boxes = words.iter().enumerate().map(|(i, words)| Process::start_with(&deal, i, words)).collect();
+    let ends = end(introduce(boxes, |_, _, address| address));
+    let errors = errors(&ends);
+    has(errors[1], &["refused 3 EmptyVector at opening, names box 1: a batch is 0"]);
+    for error in [errors[0], errors[2]] {
+        has(error, &["it ended the session, because box 1 refused 3 EmptyVector at opening, naming box 1"]);
+    }
+}
+
 #[test]
 fn files_that_are_none() {
     let deal = Deal::new(2, 2, 52);

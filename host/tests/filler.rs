@@ -3,101 +3,19 @@
 
 mod raw;
 
-use nuzsdike_host::{dealer, Plan};
-use raw::{ffi, split, Answer, State, MARK};
-
-/// A message for a box, or none.
-type Letter = Option<Vec<u8>>;
-
-/// All boxes of a session, before the calls for a round.
-struct Boxes {
-    plan: Plan,
-    states: Vec<State>,
-}
+use raw::{Boxes, Letter, MARK};
 
 impl Boxes {
-    fn new(n: usize, l: usize, seed: u64) -> Self {
-        let plan = Plan::new(n, l);
-        let inputs = dealer::deal_in_memory(plan, seed);
-        let mut states = vec![State::new(plan); n];
-        for (i, state) in states.iter_mut().enumerate() {
-            assert_eq!(state.open(plan, i, &inputs[i]), (0, 0));
-        }
-        Boxes { plan, states }
-    }
-
-    fn due(state: &State) -> usize {
-        // Sound: a slice of ours, read only.
-        unsafe { ffi::nuzsdike_due(state.session.as_ptr(), state.session.len()) as usize }
-    }
-
-    /// The round that is due.
-    fn round(&self) -> usize {
-        Self::due(&self.states[0])
-    }
-
-    /// What box i is to be given, by sender; nothing of its own.
-    fn letters(&self, i: usize) -> Vec<Letter> {
-        let len = self.plan.message_len(self.round());
-        let place = |k: usize| if i < k { i } else { i - 1 };
-        (0..self.plan.n).map(|k| (k != i).then(|| self.states[k].out[place(k) * len..][..len].to_vec())).collect()
-    }
-
-    /// The call for a round: its number and party. The messages lie apart, with other bytes before and behind each.
-    fn call(&self, state: &mut State, round: usize, letters: &[Letter]) -> Answer {
-        let (mut incoming, mut starts, mut lens, mut missing) = (vec![7; 3], vec![], vec![], vec![]);
-        for letter in letters {
-            let letter = letter.as_deref();
-            starts.push(incoming.len());
-            lens.push(letter.map_or(0, <[u8]>::len));
-            missing.push(letter.map_or(1, |_| 0));
-            incoming.extend_from_slice(letter.unwrap_or(&[]));
-            incoming.extend([7; 40]);
-        }
-        // Sound: takes numbers.
-        let joint_seed = unsafe { ffi::nuzsdike_joint_seed_at(ffi::number(self.plan.n), ffi::number(self.plan.l)) };
-        let r = if self.plan.r_len(round) != 0 { state.work[joint_seed..][..ffi::R_SEED].to_vec() } else { vec![] };
-        state.out = vec![MARK; self.plan.out_len(round)];
-        // Sound: pointers and counts are those of slices that outlive the call, and what is written overlaps nothing.
-        split(unsafe {
-            ffi::nuzsdike_round(
-                state.session.as_mut_ptr(),
-                state.session.len(),
-                ffi::number(round),
-                incoming.as_ptr(),
-                incoming.len(),
-                starts.as_ptr(),
-                starts.len(),
-                lens.as_ptr(),
-                lens.len(),
-                missing.as_ptr(),
-                missing.len(),
-                r.as_ptr(),
-                r.len(),
-                state.work.as_mut_ptr(),
-                state.work.len(),
-                state.out.as_mut_ptr(),
-                state.out.len(),
-            )
-        })
-    }
-
-    /// What a copy of box i answers to these, and what is left of it.
-    fn answers(&self, i: usize, letters: &[Letter]) -> (Answer, State) {
-        let mut state = self.states[i].clone();
-        (self.call(&mut state, self.round(), letters), state)
-    }
-
-    /// A copy of box i refuses these with this number, names k, and is over: no round due, a work area of zeros, an outgoing buffer as it was, and 20 for
-    /// the next call, which changes nothing.
+    /// A copy of box i refuses these with this number, names k, and is over: no round due, a work area of zeros, buffers for messages and batches as they
+    /// were, and 20 for the next call, which changes nothing.
     #[track_caller]
     fn refuses(&self, i: usize, letters: &[Letter], number: u8, k: usize) {
         let (answer, mut state) = self.answers(i, letters);
         let round = self.round();
         assert_eq!(answer, (number, k as u64), "n {}, box {i}, round {round}", self.plan.n);
-        assert_eq!(Self::due(&state), 0);
+        assert_eq!(state.due(), 0);
         assert!(state.work.iter().all(|byte| *byte == 0), "round {round}: the work area is not zero");
-        assert!(state.out.iter().all(|byte| *byte == MARK), "round {round}: a refused call wrote");
+        assert!(state.out.iter().all(|byte| *byte == MARK) && state.told == self.states[i].told, "round {round}: a refused call wrote");
         let before = state.clone();
         assert_eq!(self.call(&mut state, round, &self.letters(i)), (20, i as u64));
         assert!(state == before, "round {round}: 20 changed something");
@@ -109,16 +27,6 @@ impl Boxes {
         let mut letters = self.letters(i);
         change(letters[k].as_mut().unwrap());
         self.refuses(i, &letters, number, k);
-    }
-
-    /// The round as it is meant: everybody's call is accepted.
-    fn step(&mut self) {
-        let round = self.round();
-        let calls: Vec<_> = (0..self.plan.n).map(|i| self.answers(i, &self.letters(i))).collect();
-        for (i, (answer, state)) in calls.into_iter().enumerate() {
-            assert_eq!(answer, (0, 0), "box {i}, round {round}");
-            self.states[i] = state;
-        }
     }
 }
 

@@ -4,7 +4,7 @@
 mod raw;
 
 use nuzsdike_host::{dealer, mac_at, record_head, record_len, Inputs, Plan, ENTRY, RECORD_HEAD};
-use raw::{combine, Answer, State, MARK};
+use raw::{combine, ffi, Answer, State, MARK};
 
 /// One of the lists of share records that a box brings.
 type List = fn(&mut Inputs) -> &mut Vec<u8>;
@@ -34,7 +34,7 @@ fn changed(plan: Plan, i: usize, change: impl FnOnce(&mut Inputs)) -> Inputs {
 fn open(plan: Plan, i: usize, inputs: &Inputs) -> Answer {
     let before = State::new(plan);
     let mut state = before.clone();
-    let answer = state.open(plan, i, inputs);
+    let answer = state.open(plan.n, i, &[ffi::number(plan.l)], inputs);
     assert_eq!(state == before, answer != (0, 0), "{answer:?}");
     answer
 }

@@ -5,8 +5,8 @@ mod drawn;
 use drawn::drawn;
 use nuzsdike_host::{
     check::{self, Checked, Outputs},
-    combine, dealer, key_at, mac_at, record_head, record_len, round_name, round_title, Call, Form, Inputs, Mail, Outgoing, Plan, Reason,
-    Refusal, Session, Step,
+    combine, dealer, key_at, mac_at, record_head, record_len, round_name, round_title, sum, Batch, Call, Form, Inputs, Mail, Outgoing,
+    Plan, Reason, Refusal, Session, Step, BATCHES,
 };
 
 /// All boxes of a session in memory, in step.
@@ -17,15 +17,28 @@ struct Run {
     forms: Vec<Form>,
     sessions: Vec<Session>,
     outgoing: Vec<Outgoing>,
+    /// The batches that each box tells, at the end.
+    batches: Vec<Vec<Batch>>,
+}
+
+/// The list of one batch.
+fn one(l: usize) -> [u32; 1] {
+    [l as u32]
 }
 
 impl Run {
     fn new(n: usize, l: usize, seed: u64) -> Self {
-        let plan = Plan::new(n, l);
+        Self::with_batches(&vec![one(l).to_vec(); n], seed)
+    }
+
+    /// A list of counts for each box.
+    fn with_batches(lists: &[Vec<u32>], seed: u64) -> Self {
+        let n = lists.len();
+        let plan = Plan::of_batches(n, &lists[0]);
         let inputs = dealer::deal_in_memory(plan, seed);
-        let open = |(i, inputs)| Session::open(plan, i, inputs).unwrap_or_else(|refusal| panic!("{refusal}"));
+        let open = |(i, inputs)| Session::open(n, i, &lists[i], inputs).unwrap_or_else(|refusal| panic!("{refusal}"));
         let (sessions, outgoing) = inputs.iter().enumerate().map(open).unzip();
-        Run { plan, inputs, forms: vec![Form::Seed; n], sessions, outgoing }
+        Run { plan, inputs, forms: vec![Form::Seed; n], sessions, outgoing, batches: vec![] }
     }
 
     /// What box i is to be given for the round that is due.
@@ -54,7 +67,10 @@ impl Run {
         for (i, mail) in mails.iter().enumerate() {
             match self.call(i, mail).unwrap_or_else(|refusal| panic!("box {i}: {refusal}")) {
                 Step::Send(outgoing) => self.outgoing[i] = outgoing,
-                Step::Done(records) => results.push(records),
+                Step::Done { results: records, batches } => {
+                    results.push(records);
+                    self.batches.push(batches);
+                }
             }
         }
         (!results.is_empty()).then_some(results)
@@ -97,6 +113,7 @@ fn sessions_of_two_to_eight_boxes() {
         };
         assert_eq!(rounds, if n == 2 { 14 } else { 22 });
         assert_eq!(run.check(&results), Ok(Checked { ands: 12, macs: 12 * n * (n - 1) }));
+        assert_eq!(run.batches, vec![vec![Batch { first: 0, count: 12 }]; n]);
         for session in &run.sessions {
             assert!(session.due() == 0 && session.is_wiped());
         }
@@ -104,6 +121,21 @@ fn sessions_of_two_to_eight_boxes() {
         let again = Mail::new(run.plan, 1, 22);
         refused(run.call(1, &again), 20, 1, true);
     }
+}
+
+/// Boxes with other batches and one sum: each is told its own, and their results are right.
+#[test]
+fn batches_are_told() {
+    let lists = [vec![1, 4, 2], vec![7], vec![1; 7]];
+    let mut run = Run::with_batches(&lists, 21);
+    let results = loop {
+        if let Some(results) = run.step() {
+            break results;
+        }
+    };
+    assert_eq!(run.check(&results), Ok(Checked { ands: 7, macs: 42 }));
+    let told: Vec<Vec<_>> = run.batches.iter().map(|batches| batches.iter().map(|batch| (batch.first, batch.count)).collect()).collect();
+    assert_eq!(told, [vec![(0, 1), (1, 4), (5, 2)], vec![(0, 7)], (0..7).map(|first| (first, 1)).collect()]);
 }
 
 /// Both bits occur as results: the check is not one of zeros alone.
@@ -148,6 +180,19 @@ fn lengths_are_those_of_the_documents() {
     }
 }
 
+#[test]
+fn a_list_has_a_sum_or_a_refusal() {
+    assert_eq!(BATCHES, 16);
+    for (counts, l) in [(&[7][..], 7), (&[100, 250, 50], 400), (&[18_750; 16], 300_000)] {
+        assert_eq!(sum(counts), Ok(l));
+        assert_eq!(Plan::of_batches(3, counts), Plan::new(3, l));
+    }
+    for (counts, number) in [(&[][..], 23), (&[1; 17], 23), (&[300_000, 1], 16), (&[u32::MAX, 2], 16), (&[0], 3), (&[5, 0, 5], 3)] {
+        assert_eq!(sum(counts), Err(Reason(number)));
+        assert_eq!(Plan::of_batches(3, counts), Plan::new(3, 0));
+    }
+}
+
 /// The head by hand: bit, n, own number, 29 zero bytes; then the entries.
 #[test]
 fn a_record_has_a_head_and_entries() {
@@ -177,7 +222,7 @@ fn rounds_have_order_and_names() {
 fn opening_refuses() {
     let plan = Plan::new(3, 2);
     let deal = || dealer::deal_in_memory(plan, 3).remove(1);
-    let open = |plan, i, inputs: &Inputs| Session::open(plan, i, inputs).map(drop);
+    let open = |plan: Plan, i, inputs: &Inputs| Session::open(plan.n, i, &one(plan.l), inputs).map(drop);
     assert!(open(plan, 1, &deal()).is_ok());
     for n in [0, 1, 9] {
         refused(open(Plan::new(n, 2), 1, &deal()), 15, 1, true);
@@ -185,6 +230,11 @@ fn opening_refuses() {
     refused(open(plan, 3, &deal()), 15, 3, true);
     refused(open(Plan::new(3, 300_001), 1, &deal()), 16, 1, true);
     refused(open(Plan::new(3, 0), 1, &deal()), 3, 1, true);
+    // Batches. (tests/batches.rs looks closer.)
+    assert!(Session::open(3, 1, &[1, 1], &deal()).is_ok());
+    refused(Session::open(3, 1, &[], &deal()), 23, 1, true);
+    refused(Session::open(3, 1, &[1; 17], &deal()), 23, 1, true);
+    refused(Session::open(3, 1, &[2, 0], &deal()), 3, 1, true);
     // Another box's number: the records say whose they are. (tests/labels.rs looks closer.)
     refused(open(plan, 0, &deal()), 22, 0, true);
 
@@ -342,7 +392,7 @@ fn a_refused_opening_leaves_a_live_session() {
             let mut bad = |plan: Plan, i, change: fn(&mut Inputs), number| {
                 let mut inputs = dealer::deal_in_memory(run.plan, 12).remove(1);
                 change(&mut inputs);
-                refused(run.sessions[1].open_again(plan, i, &inputs), number, i, false);
+                refused(run.sessions[1].open_again(plan.n, i, &one(plan.l), &inputs), number, i, false);
                 assert!(run.sessions[1].due() == round && run.sessions[1].work() == work);
             };
             bad(run.plan, n, |_| {}, 15);
@@ -354,7 +404,9 @@ fn a_refused_opening_leaves_a_live_session() {
             bad(run.plan, 1, |inputs| inputs.beta[2] = 0, 22);
             bad(run.plan, 1, |inputs| inputs.beta[mac_at(1)] = 1, 4);
             // Another box's inputs.
-            refused(run.sessions[1].open_again(run.plan, 1, &again[0]), 22, 1, false);
+            refused(run.sessions[1].open_again(n, 1, &one(run.plan.l), &again[0]), 22, 1, false);
+            // No batch.
+            refused(run.sessions[1].open_again(n, 1, &[], &again[1]), 23, 1, false);
             if let Some(results) = run.step() {
                 break results;
             }
@@ -368,7 +420,8 @@ fn a_refused_opening_leaves_a_live_session() {
 fn an_accepted_opening_replaces_a_session() {
     let mut run = Run::new(2, 2, 13).until(6);
     for i in 0..2 {
-        run.outgoing[i] = run.sessions[i].open_again(run.plan, i, &run.inputs[i]).unwrap_or_else(|refusal| panic!("{refusal}"));
+        let again = run.sessions[i].open_again(2, i, &[1, 1], &run.inputs[i]);
+        run.outgoing[i] = again.unwrap_or_else(|refusal| panic!("{refusal}"));
     }
     let results = loop {
         if let Some(results) = run.step() {
@@ -526,10 +579,12 @@ fn refusals_say_what_and_where() {
     assert_eq!(refusal, Refusal { reason: Reason(14), party: 2, call: Call::Round(9), over: true });
     assert_eq!(refusal.to_string(), "refused 14 MissingMessage in round 9 (echo of fashare comm), names box 2: a message is missing");
     assert_eq!(
-        [7, 18, 20, 21, 22, 23, 0].map(|number| Reason(number).name()),
-        ["InconsistentBroadcast", "NotAPermutation", "SessionOver", "BytesAfterValue", "WrongLabel", "Unknown", "Unknown"]
+        [7, 18, 20, 21, 22, 23, 24, 0].map(|number| Reason(number).name()),
+        ["InconsistentBroadcast", "NotAPermutation", "SessionOver", "BytesAfterValue", "WrongLabel", "BadBatches", "Unknown", "Unknown"]
     );
-    let refusal = Session::open(run.plan, 0, &run.inputs[2]).err().unwrap();
+    let refusal = Session::open(3, 0, &[], &run.inputs[0]).err().unwrap();
+    assert_eq!(refusal.to_string(), "refused 23 BadBatches at opening, names box 0: no batch, or more than 16");
+    let refusal = Session::open(3, 0, &one(run.plan.l), &run.inputs[2]).err().unwrap();
     assert_eq!(
         refusal.to_string(),
         "refused 22 WrongLabel at opening, names box 0: a record says another n or another box's number, or its filler is not zero"

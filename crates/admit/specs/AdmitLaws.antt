@@ -20,6 +20,8 @@ use Rattle.message.specs.Read as Read
 use Rattle.plan.specs.Plan as Plan
 use Rattle.plan.specs.Plan.{FABITN, DVALUE, echo?, isRound, nextRound, kindOf, countDue, msgLen, outLen, leaky, InRange}
 use Rattle.plan.specs.PlanLaws.{Rest, kind-rest, count-rest, out-len-last, out-len}
+use Rattle.batches.specs.Batches.{total, whole}
+use Rattle.batches.specs.BatchLaws.{whole-total}
 use Rattle.engine.specs.declared.Frame.{Frame}
 use Rattle.engine.specs.declared.Session.{Session}
 use Rattle.engine.specs.Step.{Lent, Loan, frame, other, mask, gone, part, inside, partsIn, lengthsDue, reasonOf, orElse, byParty, formFault}
@@ -305,10 +307,16 @@ fine-ranges f h =
 
 module _ (s : Session) (h : protocolOf table .alive s ≡ true) where
   pub alive-ranges : Ranged (s .party)
-  alive-ranges = fine-ranges (s .party) (and-first (fine (s .party)) _ h)
+  alive-ranges = fine-ranges (s .party) (and-first (fine (s .party)) _ (and-first (fine (s .party) && whole (s .party .l) (s .counts)) _ h))
+
+  -- its counts make l
+  pub alive-total : total (s .counts) ≡ s .party .l
+  alive-total =
+      whole-total (s .party .l) (s .counts)
+      (and-second (fine (s .party)) _ (and-first (fine (s .party) && whole (s .party .l) (s .counts)) _ h))
 
   pub alive-round : isRound (s .party .n) (s .due) ≡ true
-  alive-round = and-second (fine (s .party)) _ h
+  alive-round = and-second (fine (s .party) && whole (s .party .l) (s .counts)) _ h
 
 -- every party's work area is laid out the same
 work-any : (f : Frame) → workLen f ≡ workLen (frame (f .n) (f .l) 0)
@@ -340,7 +348,7 @@ reason-zero s k q w h = record {
   alive-is = al;
   ranges = alive-ranges s al;
   due-is = du;
-  round-holds = ap (isRound (s .party .n)) du ∙ and-second (fine (s .party)) _ al;
+  round-holds = ap (isRound (s .party .n)) du ∙ alive-round s al;
   work-whole = eqb-true _ _ (and-first a b s2) ∙ work-is (s .party);
   out-whole = eqb-true _ _ (and-second a b s2);
   starts-n = eqb-true _ _ (and-second (a && b) c s3);

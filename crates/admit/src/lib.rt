@@ -30,8 +30,10 @@ pub fn alive(s: Session) -> bool
     ensures { λ r. ⌜ r ≡ protocolOf table .alive s ⌝ }
 {
     let party = s.party;
+    let counts = s.counts;
     let n = party.n;
-    fine(n, party.i, party.l) & plan::is_round(n, s.due)
+    let l = party.l;
+    fine(n, party.i, l) & batches::are_whole(l, counts) & plan::is_round(n, s.due)
 }
 
 // ---- 17 of what is lent

@@ -12,7 +12,8 @@ use Rattle.share.specs.ShareLaws.{Agree, agree-op, agree-sel, agree-refl}
 use Rattle.share.specs.Lent.{lentOf}
 use Rattle.share.specs.LentLaws.{agree-lent}
 use Rattle.encode.specs.Encode.{twoBitsTwoBlocks}
-use Rattle.rounds.specs.Opening.{Args}
+use Rattle.engine.specs.declared.Frame.{Frame}
+use Rattle.rounds.specs.Opening.{Args, party}
 use Rattle.rounds.specs.Buckets.{Triple, permBytes}
 use Rattle.rounds.specs.Beaver as B
 use Rattle.alone.specs.Formula as F
@@ -31,7 +32,9 @@ agree-finish n i c β a c′ β′ a′ p q hc hb ha =
 
 module _ (S : Seen) (I : Admissible S) where
   open Seen S using (inputs as a, mail as m)
-  open Args (S .inputs) using (party as f)
+
+  abbrev f : Frame
+  f = party (S .inputs)
 
   -- what PERM and TRIPLES hold
   abbrev perm : List ℕ

@@ -16,7 +16,7 @@ use Rattle.message.specs.declared.Kind.the-variants.{Dms}
 use Rattle.message.specs.Format.{formOf}
 use Rattle.plan.specs.Plan.{dmLen}
 use Rattle.engine.specs.declared.Frame.{Frame}
-use Rattle.rounds.specs.Opening.{Args}
+use Rattle.rounds.specs.Opening.{Args, party}
 use Rattle.rounds.specs.Fashare.{d0, d1, dmAt, verFaults, dmRows, dmRow, others1, dibiMsg}
 use Rattle.rounds.specs.DmLaws.{Dues, clean-dues, ver-clean, dues-place, dues-in}
 use Rattle.alone.specs.Formula as F
@@ -62,7 +62,9 @@ zero-or-one f delta recs q false = unit-r blocks (d0 f recs q)
 
 module _ (S : Seen) where
   open Seen S using (inputs as a, mail as m)
-  open Args (S .inputs) using (party as f)
+
+  abbrev f : Frame
+  f = party (S .inputs)
 
   pub msg-12 : ((k : ℕ) → k < f .n → f .i ≢ k → formOf Dms 40 (m 10 k) ≡ 0)
       → (comms : List ℕ) → verFaults f comms (m 10) .code ≡ 0

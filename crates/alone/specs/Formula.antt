@@ -20,7 +20,8 @@ use Rattle.share.specs.Share.{Share, shares}
 use Rattle.share.specs.Lent.{lentOf}
 use Rattle.encode.specs.Encode.{encode, bitBlock, dvalueItem, twoBitsTwoBlocks, noneItem, someItem}
 use Rattle.plan.specs.Plan.{leaky, bucketSize}
-use Rattle.rounds.specs.Opening.{Args}
+use Rattle.engine.specs.declared.Frame.{Frame}
+use Rattle.rounds.specs.Opening.{Args, party}
 use Rattle.rounds.specs.Echo.{hashVec}
 use Rattle.rounds.specs.Toss as Toss
 use Rattle.rounds.specs.Fabitn as Fabitn
@@ -40,7 +41,9 @@ pub record Seen : Type 0 where
 
 module _ (S : Seen) where
   open Seen S using (inputs as a, strings, mail as m)
-  open Args (S .inputs) using (party as f)
+
+  abbrev f : Frame
+  f = party (S .inputs)
 
   -- ---- what the box was opened with
   unfoldable pub delta : Block

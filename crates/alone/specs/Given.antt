@@ -8,16 +8,17 @@ use Rattle.block.specs.Block.{Small}
 use Rattle.block.specs.Trip.{small-at}
 use Rattle.share.specs.ShareLaws.{SmallShare, small-share-at}
 use Rattle.plan.specs.Plan.{InRange}
-use Rattle.rounds.specs.Opening.{Args}
+use Rattle.engine.specs.declared.Frame.{Frame}
+use Rattle.rounds.specs.Opening.{Args, party}
 use Rattle.rounds.specs.Haand as Haand
 use Rattle.rounds.specs.Beaver as Beaver
 use Rattle.alone.specs.Formula as F
 use Rattle.alone.specs.Formula.{Seen}
 
 pub record Admissible (S : Seen) : Type 0 where
-  pub range : InRange (S .inputs .party .n) (S .inputs .party .l)
-  pub own : S .inputs .party .i < S .inputs .party .n
-  pub pairs-len : length (S .inputs .pairs) ≡ 32 * S .inputs .party .n
+  pub range : InRange (S .inputs .n) (party (S .inputs) .l)
+  pub own : S .inputs .i < S .inputs .n
+  pub pairs-len : length (S .inputs .pairs) ≡ 32 * S .inputs .n
   pub delta-bytes : Bytes (S .inputs .delta)
   pub bits-bytes : Bytes (S .inputs .bits)
   pub alpha-bytes : Bytes (S .inputs .alpha)
@@ -27,7 +28,9 @@ pub record Admissible (S : Seen) : Type 0 where
 -- ---- what is read of it fits Blocks
 module _ (S : Seen) (I : Admissible S) where
   open Seen S using (inputs as a)
-  open Args (S .inputs) using (party as f)
+
+  abbrev f : Frame
+  f = party (S .inputs)
 
   pub small-delta : Small (F.delta S)
   unfolding F.delta

@@ -12,9 +12,10 @@ use Rattle.plan.specs.Plan.{leaky}
 use Rattle.engine.specs.Sheet.{Store}
 use Rattle.engine.specs.Honest.{before, due}
 use Rattle.engine.specs.Alone.{Tale}
+use Rattle.engine.specs.declared.Frame.{Frame}
 use Rattle.rounds.specs.Area.{DELTA, SEED, PAIRS, MASKS, BITS, ALPHA, BETA, COMMS, JOINT, PAIR-COMMS, PAIRWISE, KEY-SUMS, SHARE-COMMS, DMS}
 use Rattle.rounds.specs.Area.{LEAKY, ZS, ES, HS, H-COMMS, PERM, DS, TRIPLES, ROUNDS-OWN, SECTIONS, sizeOf, rows}
-use Rattle.rounds.specs.Opening.{Args}
+use Rattle.rounds.specs.Opening.{Args, party}
 use Rattle.rounds.specs.Toss as Toss
 use Rattle.rounds.specs.Fabitn as Fabitn
 use Rattle.rounds.specs.Fashare as Fashare
@@ -41,7 +42,9 @@ storeOf val = record { total = SECTIONS; count = ROUNDS-OWN; size = sizeOf; read
 
 module _ (S : Seen) where
   open Seen S using (inputs as a, strings, mail as m)
-  open Args (S .inputs) using (party as f)
+
+  abbrev f : Frame
+  f = party (S .inputs)
 
   -- own h, one after another
   unfoldable pub hRows : List ℕ

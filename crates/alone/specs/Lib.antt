@@ -13,3 +13,4 @@ pub mod Opening
 pub mod Rounds
 pub mod Theorem
 pub mod Reserved
+pub mod Batches

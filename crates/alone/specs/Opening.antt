@@ -13,6 +13,8 @@ use Rattle.lists.specs.Bytes.{Bytes}
 use Rattle.share.specs.Record.{recordLen}
 use Rattle.share.specs.Lent.{keptOf}
 use Rattle.share.specs.LentLaws.{length-kept, bytes-kept}
+use Rattle.batches.specs.Batches.{tally}
+use Rattle.batches.specs.BatchLaws as Batches
 use Rattle.plan.specs.Plan.{InRange, leaky, bitsCount, msgLen}
 use Rattle.engine.specs.declared.Frame.{Frame}
 use Rattle.engine.specs.Step.{Loan, Accepted, Outcome, outcome}
@@ -20,7 +22,8 @@ use Rattle.engine.specs.Area.{toOthers, mem, Every, every-mem}
 use Rattle.engine.specs.Sheet.{Known, known-lay}
 use Rattle.engine.specs.Honest.{due}
 use Rattle.rounds.specs.Area.{DELTA, SEED, PAIRS, MASKS, BITS, ALPHA, BETA, ROUNDS-OWN, sizes, sizeOf, workLen}
-use Rattle.rounds.specs.Opening.{Args, listsDue, buffersDue, bytesFault, reason, kept, section, area, spec, lengthsFault, orFault}
+use Rattle.rounds.specs.Opening.{Args, party, buffersDue, reason, kept, section, area, spec}
+use Rattle.rounds.specs.OpeningLaws.{passed}
 use Rattle.rounds.specs.Toss as Toss
 use Rattle.alone.specs.Holds.{since, storeOf, holds}
 use Rattle.alone.specs.Formula.{Seen}
@@ -32,23 +35,20 @@ use Rattle.alone.specs.Rounds.{seenBy}
 pub record Lens (a : Args) : Type 0 where
   pub delta-len : length (a .delta) ≡ 16
   pub seed-len : length (a .seed) ≡ 32
-  pub pairs-len : length (a .pairs) ≡ 32 * a .party .n
-  pub masks-len : length (a .masks) ≡ a .party .n * leaky (a .party .l)
+  pub pairs-len : length (a .pairs) ≡ 32 * a .n
+  pub masks-len : length (a .masks) ≡ a .n * leaky (party a .l)
 
 pub record Taken (a : Args) : Type 0 where
-  pub range : InRange (a .party .n) (a .party .l)
-  pub own : a .party .i < a .party .n
+  pub range : InRange (a .n) (party a .l)
+  pub own : a .i < a .n
   pub lens : Lens a
 
 module _ (a : Args) where
   abbrev n : ℕ
-  n = a .party .n
+  n = a .n
 
   abbrev l : ℕ
-  l = a .party .l
-
-  abbrev lists : Bool
-  lists = listsDue (a .party) (length (a .bits)) (length (a .alpha)) (length (a .beta))
+  l = party a .l
 
   abbrev buffers-say : Type 0
   buffers-say =
@@ -61,7 +61,7 @@ module _ (a : Args) where
       let c : Bool = eqb (length (a .seed)) 32 in
       let d : Bool = eqb (length (a .pairs)) (32 * n) in
       let e : Bool = eqb (length (a .masks)) (n * leaky l) in
-      let f : Bool = eqb (length (a .work)) (workLen (a .party)) in
+      let f : Bool = eqb (length (a .work)) (workLen (party a)) in
       let g : Bool = eqb (length (a .out)) ((n - 1) * msgLen n l 1) in
       let w5 = and-both (b && c && d && e && f) g h in
       let w4 = and-both (b && c && d && e) f (w5 .0) in
@@ -70,40 +70,22 @@ module _ (a : Args) where
       let w1 = and-both b c (w2 .0) in
       (eqb-true _ _ (w1 .0), (eqb-true _ _ (w1 .1), (eqb-true _ _ (w2 .1), eqb-true _ _ (w3 .1))))
 
-  abbrev parties : Bool
-  parties = leb 2 n && leb n 8 && ltb (a .party .i) n
-
-  parties-true : parties ≡ true → (2 ≤ n) × ((n ≤ 8) × (a .party .i < n))
-  parties-true h =
-      let w2 = and-both (leb 2 n && leb n 8) (ltb (a .party .i) n) h in
-      let w1 = and-both (leb 2 n) (leb n 8) (w2 .0) in
-      (leb-true _ _ (w1 .0), (leb-true _ _ (w1 .1), ltb-true _ _ (w2 .1)))
-
   -- with no reason to refuse
   pub taken : reason a ≡ 0 → Taken a
-  unfolding reason lengthsFault orFault
-  taken z = go parties refl (leb l 300000) refl (eqb l 0) refl lists refl (buffersDue a) refl z
-    where
-      go : (p : Bool) → parties ≡ p → (q : Bool) → leb l 300000 ≡ q → (s : Bool) → eqb l 0 ≡ s → (t : Bool) → lists ≡ t
-          → (u : Bool) → buffersDue a ≡ u → orFault (pick p (pick q (pick s 3 (pick t (pick u 0 17) 6)) 16) 15) (bytesFault a) ≡ 0 → Taken a
-      go true ep true eq false es true et true eu h =
-          let p = parties-true ep in
-          let u = buffers-true eu in
-          record {
-            range = record { two = p .0; eight = p .1 .0; one = omega (arith, eqb-false l 0 es); most = leb-true _ _ eq };
-            own = p .1 .1;
-            lens = record {
-              delta-len = u .0;
-              seed-len = u .1 .0;
-              pairs-len = u .1 .1 .0;
-              masks-len = u .1 .1 .1;
-            };
-          }
-      go false ep q eq s es t et u eu h = absurd (omega arith)
-      go true ep false eq s es t et u eu h = absurd (omega arith)
-      go true ep true eq true es t et u eu h = absurd (omega arith)
-      go true ep true eq false es false et u eu h = absurd (omega arith)
-      go true ep true eq false es true et false eu h = absurd (omega arith)
+  taken z =
+      let p = passed a z .numbers in
+      let c = Batches.taken (a .counts) (p .none) in
+      let u = buffers-true (p .buffers) in
+      record {
+        range = record { two = p .two; eight = p .eight; one = c .one; most = c .sum };
+        own = p .own;
+        lens = record {
+          delta-len = u .0;
+          seed-len = u .1 .0;
+          pairs-len = u .1 .1 .0;
+          masks-len = u .1 .1 .1;
+        };
+      }
 
 -- ---- the work area that it lays out
 abbrev inputs : List ℕ
@@ -115,7 +97,7 @@ unfolding allOf mem
 first-seven Q h s l = every-mem Q inputs h s (of-all 7 (λ s. mem s inputs) refl s l)
 
 -- all else is zero
-section-zero : (a : Args) (s : ℕ) → 7 ≤ s → section a s ≡ replicate (sizeOf (a .party) s) 0
+section-zero : (a : Args) (s : ℕ) → 7 ≤ s → section a s ≡ replicate (sizeOf (party a) s) 0
 unfolding section
 section-zero a s h =
     rw (
@@ -128,16 +110,16 @@ section-zero a s h =
       ne-eqb s 6 (omega arith),
     ) refl
 
-section-len : (a : Args) → Lens a → (s : ℕ) → length (section (kept a) s) ≡ sizeOf (a .party) s
+section-len : (a : Args) → Lens a → (s : ℕ) → length (section (kept a) s) ≡ sizeOf (party a) s
 unfolding section sizeOf sizes
 section-len a o s = go (ltb s 7) refl
   where
-    long : (count : ℕ) (x : List ℕ) → length (keptOf (a .party .n) (a .party .i) count x) ≡ count * recordLen (a .party .n)
-    long count x = length-kept (a .party .n) (a .party .i) x count
+    long : (count : ℕ) (x : List ℕ) → length (keptOf (a .n) (a .i) count x) ≡ count * recordLen (a .n)
+    long count x = length-kept (a .n) (a .i) x count
 
-    go : (b : Bool) → ltb s 7 ≡ b → length (section (kept a) s) ≡ sizeOf (a .party) s
+    go : (b : Bool) → ltb s 7 ≡ b → length (section (kept a) s) ≡ sizeOf (party a) s
     go true e =
-        first-seven (λ s. length (section (kept a) s) ≡ sizeOf (a .party) s) (
+        first-seven (λ s. length (section (kept a) s) ≡ sizeOf (party a) s) (
           o .delta-len,
           (
             o .seed-len,
@@ -146,22 +128,22 @@ section-len a o s = go (ltb s 7) refl
               (
                 o .masks-len,
                 (
-                  long (bitsCount (a .party .l)) (a .bits),
-                  (long (a .party .l) (a .alpha), (long (a .party .l) (a .beta), tt)),
+                  long (bitsCount (party a .l)) (a .bits),
+                  (long (party a .l) (a .alpha), (long (party a .l) (a .beta), tt)),
                 ),
               ),
             ),
           ),
         )
         s (ltb-true s 7 e)
-    go false e = ap length (section-zero (kept a) s (ltb-false s 7 e)) ∙ length-replicate {A = ℕ} (sizeOf (a .party) s) 0
+    go false e = ap length (section-zero (kept a) s (ltb-false s 7 e)) ∙ length-replicate {A = ℕ} (sizeOf (party a) s) 0
 
 -- what is ready when round 1 is due is an input
 early : allOf ROUNDS-OWN (λ s. pick (leb (since s) (due 1)) (ltb s 7) true) ≡ true
 unfolding allOf since
 early = refl
 
-pub known-opened : (f : Frame) (val : ℕ → ℕ → List ℕ) (a : Args) → a .party ≡ f → Lens a
+pub known-opened : (f : Frame) (val : ℕ → ℕ → List ℕ) (a : Args) → party a ≡ f → Lens a
     → ((s : ℕ) → s < 7 → section (kept a) s ≡ val (f .i) s)
     → Known (f .n) (f .l) (storeOf val) (due 1) (f .i) (area a)
 unfolding area
@@ -171,17 +153,20 @@ known-opened f val a p o h =
     (λ s ls r. h s (ltb-true s 7 (sym (ap (λ b. pick b (ltb s 7) true) r) ∙ of-all ROUNDS-OWN _ early s ls)))
 
 -- ---- what it leaves
-pub spec-takes : (a : Args) (f : Frame) → a .party ≡ f → reason a ≡ 0
-    → spec a ≡ outcome (record { party = f; due = 1 }) Accepted (area a) (toOthers (f .n) (f .i) (λ r. Toss.commMsg (a .seed) (f .i)))
+pub spec-takes : (a : Args) (f : Frame) → party a ≡ f → reason a ≡ 0
+    → spec a ≡ outcome (record { party = f; due = 1; counts = tally (a .counts) }) Accepted (area a)
+    (toOthers (f .n) (f .i) (λ r. Toss.commMsg (a .seed) (f .i)))
 unfolding spec
 spec-takes a f p z =
     let left : Frame → Outcome = λ f.
-    outcome (record { party = f; due = 1 }) Accepted (area a) (toOthers (f .n) (f .i) (λ r. Toss.commMsg (a .seed) (f .i))) in
+    outcome (record { party = f; due = 1; counts = tally (a .counts) }) Accepted (area a)
+    (toOthers (f .n) (f .i) (λ r. Toss.commMsg (a .seed) (f .i))) in
     rw (eq-eqb (reason a) 0 z) (ap left p)
 
 -- a: what the box was opened with; q, m: what it is lent and sent (Theorem.antt)
 module _ (a : Args) (q : ℕ → Loan) (m : ℕ → ℕ → List ℕ) (z : reason a ≡ 0) where
-  open Args a using (party as f)
+  abbrev f : Frame
+  f = party a
 
   abbrev S : Seen
   S = seenBy (kept a) q m

@@ -16,6 +16,7 @@ use Rattle.algebra.specs.Sum.{neq}
 use Rattle.message.specs.declared.Kind.{Kind}
 use Rattle.message.specs.declared.Kind.the-variants.{Options}
 use Rattle.message.specs.Format.{itemAt, Decoding, Undecoded, Value, countsDue, readOf, formBy, formOf}
+use Rattle.batches.specs.Batches.{whole}
 use Rattle.engine.specs.declared.Frame.{Frame}
 use Rattle.engine.specs.declared.Session.{Session}
 use Rattle.engine.specs.Step.{Lent, Fault, none?, Reply, Accepted, Refused, Outcome, other, mask, gone, part, orElse, scan, byParty, formFault, faultOf, accepted}
@@ -162,8 +163,9 @@ own-below s h =
     let some : Bool = leb 2 (f .n) && leb (f .n) 8 in
     let own : Bool = ltb (f .i) (f .n) in
     let one : Bool = leb 1 (f .l) in
-    let a = and-both (some && own && one && leb (f .l) 300000) (roundIn theRounds (eqb (f .n) 2) (s .due)) h in
-    let b = and-both (some && own && one) (leb (f .l) 300000) (a .0) in
+    let a = and-both (some && own && one && leb (f .l) 300000 && whole (f .l) (s .counts)) (roundIn theRounds (eqb (f .n) 2) (s .due)) h in
+    let d = and-both (some && own && one && leb (f .l) 300000) (whole (f .l) (s .counts)) (a .0) in
+    let b = and-both (some && own && one) (leb (f .l) 300000) (d .0) in
     let c = and-both (some && own) one (b .0) in
     ltb-true _ _ (and-both some own (c .0) .1)
 

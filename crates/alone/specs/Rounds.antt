@@ -20,6 +20,7 @@ use Rattle.message.specs.declared.Kind.the-variants.{Items, Dms}
 use Rattle.message.specs.Format.{formOf}
 use Rattle.message.specs.FormatLaws.{fixed}
 use Rattle.plan.specs.Plan.{kindOf, countDue, leaky}
+use Rattle.engine.specs.declared.Frame.{Frame}
 use Rattle.engine.specs.Step.{Loan}
 use Rattle.engine.specs.Area.{mem, length-sec}
 use Rattle.engine.specs.Sheet.{staysTest}
@@ -29,7 +30,7 @@ use Rattle.engine.specs.Alone.{Tale}
 use Rattle.engine.specs.Alone as Alone
 use Rattle.rounds.specs.Area.{DELTA, SEED, PAIRS, MASKS, BITS, ALPHA, BETA, COMMS, JOINT, PAIR-COMMS, PAIRWISE, KEY-SUMS, SHARE-COMMS, DMS}
 use Rattle.rounds.specs.Area.{LEAKY, ZS, ES, HS, H-COMMS, PERM, DS, TRIPLES, ROUNDS-OWN, SECTIONS, sizes, sizeOf, at, keep}
-use Rattle.rounds.specs.Opening.{Args}
+use Rattle.rounds.specs.Opening.{Args, party}
 use Rattle.rounds.specs.Table.{table, delta, judge, kept, held, written, lent}
 use Rattle.rounds.specs.Toss as Toss
 use Rattle.rounds.specs.Fabitn as Fabitn
@@ -60,7 +61,8 @@ abbrev pub seenBy : Args → (ℕ → Loan) → (ℕ → ℕ → List ℕ) → S
 seenBy a q m = record { inputs = a; strings = q 6 .r; mail = m }
 
 module _ (a : Args) (q : ℕ → Loan) (m : ℕ → ℕ → List ℕ) (I : Admissible (seenBy a q m)) where
-  open Args a using (party as f)
+  abbrev f : Frame
+  f = party a
 
   abbrev S : Seen
   S = seenBy a q m

@@ -15,7 +15,9 @@ use Rattle.lists.specs.Rows.{chunk}
 use Rattle.lists.specs.Bytes.{Bytes, bytes-nil, bytes-take, bytes-drop}
 use Rattle.algebra.specs.Sum.{neq, Same, apart, apart?}
 use Rattle.encode.specs.Encode.{noneItem, someItem}
+use Rattle.batches.specs.Batches.{tally}
 use Rattle.engine.specs.declared.Session.{Session}
+use Rattle.engine.specs.declared.Frame.{Frame}
 use Rattle.engine.specs.Step.{frame, Loan, Outcome, other, mask, part}
 use Rattle.engine.specs.World.{Box, sessionOf}
 use Rattle.engine.specs.Area.{toOthers, toOthers-ext, mem, also}
@@ -27,7 +29,7 @@ use Rattle.engine.specs.Alone.{Tale, wroteFor, sureAt, Lives, State, lives, ove
 use Rattle.engine.specs.OneBox.{Turn, turnBox, turns, AllRead, taken, answer, received, lentWith, all-received}
 use Rattle.rounds.specs.Area.{ROUNDS-OWN, at}
 use Rattle.rounds.specs.Echo.{hashVec, echoMsg, echo}
-use Rattle.rounds.specs.Opening.{Args, reason, kept, spec}
+use Rattle.rounds.specs.Opening.{Args, party, reason, kept, spec}
 use Rattle.rounds.specs.Table.{table}
 use Rattle.alone.specs.Formula as F
 use Rattle.alone.specs.Formula.{Seen}
@@ -49,7 +51,8 @@ openedBox a =
 -- a: what the box was opened with; q k: what was lent with the call that makes round k's messages; m k j: what was read of party j for
 -- round k
 module _ (a : Args) (q : ℕ → Loan) (m : ℕ → ℕ → List ℕ) where
-  open Args a using (party as f)
+  abbrev f : Frame
+  f = party a
 
   abbrev S : Seen
   S = R.seenBy (kept a) q m
@@ -105,34 +108,36 @@ module _ (a : Args) (q : ℕ → Loan) (m : ℕ → ℕ → List ℕ) where
     I : Admissible S
     I = given a q m z b h
 
-    start : AsTold table (f .n) (f .l) (f .i) U m q (duties I) (openedBox a)
+    start : AsTold table (f .n) (f .l) (f .i) U m q (duties I) (tally (a .counts)) (openedBox a)
     unfolding F.sent F.sent1
     start =
-        rw (spec-takes a f refl z) (first table (f .n) (f .l) (f .i) U m q (duties I) _ (omega arith) refl refl (opened a q m z) refl)
+        rw (spec-takes a f refl z) (first table (f .n) (f .l) (f .i) U m q (duties I) (tally (a .counts)) _ (omega arith) refl refl (opened a q m z) refl)
 
     -- for every list of calls of which the accepted ones read m and are lent q
     pub told-alone : (cs : List Turn) → AllRead table (f .n) (f .l) (f .i) m q (openedBox a) cs
-        → Told table (f .n) (f .l) (f .i) U m q (turns (protocolOf table) (openedBox a) cs)
-    told-alone cs r = all-told table (f .n) (f .l) (f .i) U m q (duties I) cs (openedBox a) start r
+        → Told table (f .n) (f .l) (f .i) U m q (tally (a .counts)) (turns (protocolOf table) (openedBox a) cs)
+    told-alone cs r = all-told table (f .n) (f .l) (f .i) U m q (duties I) (tally (a .counts)) cs (openedBox a) start r
 
 -- ---- an echo without the rows of hashes
 module _ (S : Seen) (k r : ℕ) where
   open Seen S using (mail as m)
-  open Args (S .inputs) using (party as f)
 
-  echo-read : echoMsg (f .n) (f .i) (digests table k f (m k)) r ≡ F.echoOf S k r
+  abbrev g : Frame
+  g = party (S .inputs)
+
+  echo-read : echoMsg (g .n) (g .i) (digests table k g (m k)) r ≡ F.echoOf S k r
   unfolding echoMsg digests F.echoOf someItem noneItem
-  echo-read = encode-ext (f .n) _ _ (λ j lj. go j lj (neq (f .i) j) (apart? (f .i) j))
+  echo-read = encode-ext (g .n) _ _ (λ j lj. go j lj (neq (g .i) j) (apart? (g .i) j))
     where
       h : ℕ → List ℕ
       h j = hashVec k (m k j)
 
-      go : (j : ℕ) → j < f .n → (b : Bool) → Same (f .i) j b
-          → pick (b && neq r j) (1 ∷ chunk 16 j (rowsOf f h)) (0 ∷ []) ≡ pick (b && neq r j) (1 ∷ h j) (0 ∷ [])
+      go : (j : ℕ) → j < g .n → (b : Bool) → Same (g .i) j b
+          → pick (b && neq r j) (1 ∷ chunk 16 j (rowsOf g h)) (0 ∷ []) ≡ pick (b && neq r j) (1 ∷ h j) (0 ∷ [])
       go j lj false s = refl
       go j lj true (apart ne) =
           ap (λ (x : List ℕ). pick (neq r j) (1 ∷ x) (0 ∷ []))
-          (chunk-rows f h (λ j lj ne. length-hashVec k (m k j)) j lj ne)
+          (chunk-rows g h (λ j lj ne. length-hashVec k (m k j)) j lj ne)
 
 -- ---- THE CLAIM
 -- all that the calls were lent to read is bytes
@@ -158,13 +163,13 @@ received-bytes n l i x (c ∷ cs) h k j =
 
 module _ (a : Args) (cs : List Turn) where
   abbrev n : ℕ
-  n = a .party .n
+  n = a .n
 
   abbrev l : ℕ
-  l = a .party .l
+  l = party a .l
 
   abbrev i : ℕ
-  i = a .party .i
+  i = a .i
 
   -- the box after the calls, and the round that is due then, 0 after the last
   abbrev pub box : Box
@@ -196,16 +201,16 @@ module _ (a : Args) (cs : List Turn) where
     pub messages : number ≢ 0 → isEcho table number ≡ false → box .wrote ≡ toOthers n i (F.sent seen number)
     pub echoes : isEcho table number ≡ true → box .wrote ≡ toOthers n i (F.echoOf seen (prior number))
     pub results : number ≡ 0 → box .wrote ≡ F.result seen
-    pub session-is : box .session .due ≢ 0 → box .session ≡ sessionOf n l i number
+    pub session-is : box .session .due ≢ 0 → box .session ≡ sessionOf n l (tally (a .counts)) i number
     pub sections : box .session .due ≢ 0 → (s : ℕ) → s < ROUNDS-OWN → since s ≤ sure
-        → at (a .party) s (box .work) ≡ holds seen s
+        → at (party a) s (box .work) ≡ holds seen s
     pub zeros : box .session .due ≡ 0 → box .work ≡ replicate (length (box .work)) 0
 
   never-echo-zero : isEcho table 0 ≡ false
   unfolding echoIn mem
   never-echo-zero = refl
 
-  claim : Told table n l i (tale seen) mail loans box → Claim
+  claim : Told table n l i (tale seen) mail loans (tally (a .counts)) box → Claim
   unfolding wroteFor sureAt at echo
   claim t = record {
     messages = λ h e. t .wrote-is ∙ rw (ne-eqb number 0 h, e) refl;
@@ -220,12 +225,12 @@ module _ (a : Args) (cs : List Turn) where
       some : isEcho table number ≡ true → number ≢ 0
       some e z = true-false (sym e ∙ ap (isEcho table) z ∙ never-echo-zero)
 
-      live : box .session .due ≢ 0 → State table n l i (tale seen) mail loans box
-          → Lives table n l i (tale seen) mail loans box
+      live : box .session .due ≢ 0 → State table n l i (tale seen) mail loans (tally (a .counts)) box
+          → Lives table n l i (tale seen) mail loans (tally (a .counts)) box
       live h (lives x) = x
       live h (over x) = absurd (h (ap (λ (s : Session). s .due) (x .session-is)))
 
-      dead : box .session .due ≡ 0 → State table n l i (tale seen) mail loans box
+      dead : box .session .due ≡ 0 → State table n l i (tale seen) mail loans (tally (a .counts)) box
           → box .work ≡ replicate (length (box .work)) 0
       dead z (lives x) = absurd (x .some (sym (ap (λ (s : Session). s .due) (x .session-is)) ∙ z))
       dead z (over x) = x .blank
@@ -235,4 +240,4 @@ pub alone : (a : Args) → reason a ≡ 0 → Bytes (a .delta) → (cs : List Tu
 alone a z b cs h =
     claim a cs
     (told-alone a (loans a cs) (mail a cs) z b (received-bytes (n a cs) (l a cs) (i a cs) (openedBox a) cs h) cs
-    (all-received table (n a cs) (l a cs) (i a cs) cs (openedBox a) 1 (ap (λ (r : Outcome). r .session) (spec-takes a (a .party) refl z))))
+    (all-received table (n a cs) (l a cs) (i a cs) (tally (a .counts)) cs (openedBox a) 1 (ap (λ (r : Outcome). r .session) (spec-takes a (party a) refl z))))

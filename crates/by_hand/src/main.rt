@@ -1,6 +1,7 @@
 // The limits of document 01, "Checked by hand", through the public calls. "300,001 is 16" and 9 "is 15". With l = 300,000 and no share
-// lists the reason is another, 6: the limit lets it pass; host/large runs such a session. A session of 8 is opened and called: the echo
-// among 8 has 112 bytes. (The program `sizes` has the lengths by plan, `sessions` those of sessions of 2 and 3; `cases` the starred ones.)
+// lists the reason is another, 6: the limit lets it pass; host/large runs such a session. The limits of document 02, order 7, likewise, in
+// their order: 15, 23, 16, 3. A session of 8 is opened and called: the echo among 8 has 112 bytes, and counts that opening can't have made
+// are 20. (The program `sizes` has the lengths by plan, `sessions` those of sessions of 2 and 3; `cases` the starred ones.)
 use engine::Answer;
 use engine::Session;
 use engine::Verdict;
@@ -24,15 +25,15 @@ fn number(v: Verdict) -> u8 {
     }
 }
 
-// Opening with nothing lent: the first number that n and l give, or 6 for the share lists behind them.
-fn bare(n: usize, l: usize) -> u8 {
+// Opening with nothing lent but counts: the first number that n and they give, or 6 for the share lists behind them.
+fn bare(n: usize, counts: &[u32]) -> u8 {
     let none = [0u8; 1];
     let mut work = [0u8; 1];
     let mut out = [0u8; 1];
     let a = opening::open(
         n,
         0,
-        l,
+        counts,
         &none,
         &none,
         &none,
@@ -72,7 +73,7 @@ fn open_eight(work: &mut [u8; WORK_LEN]) -> Answer {
     opening::open(
         8,
         0,
-        1,
+        &[1u32],
         &delta,
         &seed,
         &pairs,
@@ -108,6 +109,16 @@ fn echo(s: Session, work: &mut [u8; WORK_LEN], out: &mut [u8]) -> u8 {
     number(v)
 }
 
+// The same session with other counts.
+fn forged(s: Session, first: u32, second: u32) -> Session {
+    let party = s.party;
+    Session {
+        party: party,
+        due: s.due,
+        counts: [first, second, 0, 0, 0, 0, 0, 0, 0, 0, 0, 0, 0, 0, 0, 0],
+    }
+}
+
 fn eight() {
     let mut work = [0u8; WORK_LEN];
     let a = open_eight(&mut work);
@@ -120,13 +131,55 @@ fn eight() {
         echo(s, &mut work, &mut long),
     );
     let mut out = [0u8; 784];
+    line(
+        b"no batch in the session",
+        echo(forged(s, 0, 0), &mut work, &mut out),
+    );
+    line(
+        b"batches of 2 for 1 result",
+        echo(forged(s, 2, 0), &mut work, &mut out),
+    );
+    line(
+        b"batches of 1 and 1 for 1 result",
+        echo(forged(s, 1, 1), &mut work, &mut out),
+    );
+    line(
+        b"batches of 0 and 1 for 1 result",
+        echo(forged(s, 0, 1), &mut work, &mut out),
+    );
     line(b"echoes of 112 bytes among 8", echo(s, &mut work, &mut out));
 }
 
+// How many batches there may be, and that 15 comes before it.
+fn batches() {
+    let none = [1u32];
+    line(b"no batch", bare(2, &none[..0]));
+    line(b"16 batches, no share lists", bare(2, &[18750u32; 16]));
+    line(b"17 batches", bare(2, &[1u32; 17]));
+    line(b"17 batches of 300000", bare(2, &[300000u32; 17]));
+    line(b"9 boxes, no batch", bare(9, &none[..0]));
+    line(b"9 boxes, 17 batches", bare(9, &[1u32; 17]));
+}
+
+// Their sum, and batches of 0.
+fn sums() {
+    line(b"299999 and 1, no share lists", bare(2, &[299999u32, 1]));
+    line(b"299999 and 2", bare(2, &[299999u32, 2]));
+    line(b"4294967295 and 2", bare(2, &[4294967295u32, 2]));
+    line(b"16 of 4294967295", bare(2, &[4294967295u32; 16]));
+    line(b"0", bare(2, &[0u32]));
+    line(b"0 and 1", bare(2, &[0u32, 1]));
+    line(b"300000 and 0", bare(2, &[300000u32, 0]));
+    line(b"300001 and 0", bare(2, &[300001u32, 0]));
+    line(b"9 boxes, 300001 and 0", bare(9, &[300001u32, 0]));
+}
+
 fn main() {
-    line(b"300000 results, no share lists", bare(2, 300000));
-    line(b"300001 results", bare(2, 300001));
-    line(b"8 boxes, no share lists", bare(8, 1));
-    line(b"9 boxes", bare(9, 1));
+    line(b"300000 results, no share lists", bare(2, &[300000u32]));
+    line(b"300001 results", bare(2, &[300001u32]));
+    line(b"8 boxes, no share lists", bare(8, &[1u32]));
+    line(b"9 boxes", bare(9, &[1u32]));
+    batches();
+    sums();
     eight();
 }

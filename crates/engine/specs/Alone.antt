@@ -64,24 +64,26 @@ module _ (T : Table) (n l i : ℕ) (U : Tale) (m : ℕ → ℕ → List ℕ) (q 
   unfoldable pub sureAt : ℕ → ℕ
   sureAt k = pick (isEcho T k) (due (prior k)) (due k)
 
-  -- the session lives: that round is due, and the work area is as told
-  pub record Lives (x : Box) : Type 0 where
-    pub some : dueAt x ≢ 0
-    pub session-is : x .session ≡ sessionOf n l i (dueAt x)
-    pub known : At (sureAt (dueAt x)) (x .work)
+  -- of a box with these counts
+  module _ (counts : List ℕ) where
+    -- the session lives: that round is due, and the work area is as told
+    pub record Lives (x : Box) : Type 0 where
+      pub some : dueAt x ≢ 0
+      pub session-is : x .session ≡ sessionOf n l counts i (dueAt x)
+      pub known : At (sureAt (dueAt x)) (x .work)
 
-  -- it is done, or a received fault ended it
-  pub record Over (x : Box) : Type 0 where
-    pub session-is : x .session ≡ sessionOf n l i 0
-    pub blank : x .work ≡ replicate (length (x .work)) 0
+    -- it is done, or a received fault ended it
+    pub record Over (x : Box) : Type 0 where
+      pub session-is : x .session ≡ sessionOf n l counts i 0
+      pub blank : x .work ≡ replicate (length (x .work)) 0
 
-  pub data State (x : Box) : Type 0 where
-    lives : Lives x → State x
-    over : Over x → State x
+    pub data State (x : Box) : Type 0 where
+      lives : Lives x → State x
+      over : Over x → State x
 
-  pub record Told (x : Box) : Type 0 where
-    pub wrote-is : x .wrote ≡ wroteFor (dueAt x)
-    pub state : State x
+    pub record Told (x : Box) : Type 0 where
+      pub wrote-is : x .wrote ≡ wroteFor (dueAt x)
+      pub state : State x
 
   -- ---- WHAT THE ROUNDS OWE
   -- what is lent for round k, and what was received, has no fault
@@ -407,169 +409,170 @@ module _ (T : Table) (n l i : ℕ) (U : Tale) (m : ℕ → ℕ → List ℕ) (q 
           (rw (E .echo) (subst (λ j. At (before j) v) e (known-after k v E g)))
 
     -- ---- ANY CALL
-    -- how a box stands
-    pub record AsTold (x : Box) : Type 0 where
-      pub number : ℕ
-      pub session-is : x .session ≡ sessionOf n l i number
-      pub stands : Stands (x .rounds) number (x .work)
-      pub wrote-is : x .wrote ≡ wroteFor (dueAt x)
+    module _ (counts : List ℕ) where
+      -- how a box stands
+      pub record AsTold (x : Box) : Type 0 where
+        pub number : ℕ
+        pub session-is : x .session ≡ sessionOf n l counts i number
+        pub stands : Stands (x .rounds) number (x .work)
+        pub wrote-is : x .wrote ≡ wroteFor (dueAt x)
 
-    -- what an accepted call for round k is known to be, with the messages and the loan that it had
-    pub record Allowed (k : ℕ) (w : List ℕ) (M : ℕ → List ℕ) (loan : Loan) : Type 0 where
-      pub alive : P .alive (sessionOf n l i k) ≡ true
-      pub lent : lentOf T k n l loan ≡ 0
-      pub formed : isEcho T k ≡ false → (j : ℕ) → j < n → i ≢ j → T .recv k .form f (M j) ≡ 0
-      pub clean : checkOf T k f w M .code ≡ 0
+      -- what an accepted call for round k is known to be, with the messages and the loan that it had
+      pub record Allowed (k : ℕ) (w : List ℕ) (M : ℕ → List ℕ) (loan : Loan) : Type 0 where
+        pub alive : P .alive (sessionOf n l counts i k) ≡ true
+        pub lent : lentOf T k n l loan ≡ 0
+        pub formed : isEcho T k ≡ false → (j : ℕ) → j < n → i ≢ j → T .recv k .form f (M j) ≡ 0
+        pub clean : checkOf T k f w M .code ≡ 0
 
-    steps : (d k : ℕ) (w : List ℕ) → Stands d k w → Allowed k w (m k) (q (nextOf T two k)) → Steps d k w
-    steps d k w (plainly e A) t = step-plain d k w e A (t .lent) (t .formed (A .plain)) (t .clean)
-    steps d (suc k) w (echoing e E) t = step-echo d k w e E (t .lent) (t .clean)
-    steps d zero w (ends b) t = absurd (alive-some T n l i 0 (t .alive) refl)
+      steps : (d k : ℕ) (w : List ℕ) → Stands d k w → Allowed k w (m k) (q (nextOf T two k)) → Steps d k w
+      steps d k w (plainly e A) t = step-plain d k w e A (t .lent) (t .formed (A .plain)) (t .clean)
+      steps d (suc k) w (echoing e E) t = step-echo d k w e E (t .lent) (t .clean)
+      steps d zero w (ends b) t = absurd (alive-some T n l i counts 0 (t .alive) refl)
 
-    number-over : (d k : ℕ) (w : List ℕ) → Stands d k w → k ≢ 0 → numberOf T two d ≡ k
-    number-over d k w (plainly e A) ne = e
-    number-over d (suc k) w (echoing e E) ne = e
-    number-over d zero w (ends b) ne = absurd (ne refl)
+      number-over : (d k : ℕ) (w : List ℕ) → Stands d k w → k ≢ 0 → numberOf T two d ≡ k
+      number-over d k w (plainly e A) ne = e
+      number-over d (suc k) w (echoing e E) ne = e
+      number-over d zero w (ends b) ne = absurd (ne refl)
 
-    -- a message of a plain round is of that round's form
-    formed-at : (k : ℕ) (lt : Lent) → isEcho T k ≡ false → (j : ℕ) → j < n → i ≢ j → formAt T k f (part lt j) ≡ 0
-        → T .recv k .form f (mask f (part lt) j) ≡ 0
-    unfolding formAt
-    formed-at k lt e j lj ne h =
-        ap (T .recv k .form f) (mask-at f (part lt) j lj ne)
-        ∙ sym (ap (λ b. pick b (T .echo .form n (part lt j)) (T .recv k .form f (part lt j))) e) ∙ h
+      -- a message of a plain round is of that round's form
+      formed-at : (k : ℕ) (lt : Lent) → isEcho T k ≡ false → (j : ℕ) → j < n → i ≢ j → formAt T k f (part lt j) ≡ 0
+          → T .recv k .form f (mask f (part lt) j) ≡ 0
+      unfolding formAt
+      formed-at k lt e j lj ne h =
+          ap (T .recv k .form f) (mask-at f (part lt) j lj ne)
+          ∙ sym (ap (λ b. pick b (T .echo .form n (part lt j)) (T .recv k .form f (part lt j))) e) ∙ h
 
-    -- after it
-    module _ (x : Box) (k : ℕ) (S : Stands (x .rounds) k (x .work)) (lt : Lent) where
-      abbrev M : ℕ → List ℕ
-      M = mask f (part lt)
+      -- after it
+      module _ (x : Box) (k : ℕ) (S : Stands (x .rounds) k (x .work)) (lt : Lent) where
+        abbrev M : ℕ → List ℕ
+        M = mask f (part lt)
 
-      abbrev next : Box
-      next = record {
-        session = sessionOf n l i (nextOf T two k);
-        work = keepOf T k f (lt .loan) (x .work) M;
-        rounds = suc (x .rounds);
-        wrote = writeOf T k f (lt .loan) (x .work) M;
+        abbrev next : Box
+        next = record {
+          session = sessionOf n l counts i (nextOf T two k);
+          work = keepOf T k f (lt .loan) (x .work) M;
+          rounds = suc (x .rounds);
+          wrote = writeOf T k f (lt .loan) (x .work) M;
+        }
+
+        goes : Allowed k (x .work) M (lt .loan) → ((j : ℕ) → M j ≡ m k j) → lt .loan ≡ q (nextOf T two k) → AsTold next
+        unfolding numberOf
+        goes t em el =
+            let e : M ≡ m k = fun-ext em in
+            let t′ : Allowed k (x .work) (m k) (q (nextOf T two k)) =
+            subst (Allowed k (x .work) (m k)) el (subst (λ (y : ℕ → List ℕ). Allowed k (x .work) y (lt .loan)) e t) in
+            let s = steps (x .rounds) k (x .work) S t′ in
+            record {
+              number = nextOf T two k;
+              session-is = refl;
+              stands = subst (Stands (suc (x .rounds)) (nextOf T two k))
+                  (ap₂ (λ (y : ℕ → List ℕ) (p : Loan). keepOf T k f p (x .work) y) (sym e) (sym el)) (s .stands);
+              wrote-is = ap₂ (λ (y : ℕ → List ℕ) (p : Loan). writeOf T k f p (x .work) y) e el ∙ s .wrote
+                  ∙ ap (λ j. wroteFor (nextOf T two j)) (sym (number-over (x .rounds) k (x .work) S (alive-some T n l i counts k (t .alive))));
+            }
+
+      -- the call for round a in a session at round k
+      module _ (x : Box) (k : ℕ) (S : Stands (x .rounds) k (x .work)) (wrote : x .wrote ≡ wroteFor (dueAt x)) (a : ℕ) (lt : Lent) where
+        abbrev s : Session
+        s = sessionOf n l counts i k
+
+        abbrev Read : Outcome → Type 0
+        Read r = r .reply ≡ Accepted → ((j : ℕ) → mask f (part lt) j ≡ m a j) × (lt .loan ≡ q (nextOf T two a))
+
+        abbrev Q : Outcome → Type 0
+        Q r = Read r → AsTold (turnedBox x r (r .reply))
+
+        takes : (a : ℕ) → a ≡ k → Allowed k (x .work) (mask f (part lt)) (lt .loan)
+            → ((j : ℕ) → mask f (part lt) j ≡ m a j) × (lt .loan ≡ q (nextOf T two a))
+            → AsTold (record {
+              session = sessionOf n l counts i (nextOf T two a);
+              work = keepOf T a f (lt .loan) (x .work) (mask f (part lt));
+              rounds = suc (x .rounds);
+              wrote = writeOf T a f (lt .loan) (x .work) (mask f (part lt));
+            })
+        takes a e t =
+            subst (λ a. ((j : ℕ) → mask f (part lt) j ≡ m a j) × (lt .loan ≡ q (nextOf T two a))
+            → AsTold (record {
+              session = sessionOf n l counts i (nextOf T two a);
+              work = keepOf T a f (lt .loan) (x .work) (mask f (part lt));
+              rounds = suc (x .rounds);
+              wrote = writeOf T a f (lt .loan) (x .work) (mask f (part lt));
+            })) (sym e) (λ r. goes x k S lt t (r .0) (r .1))
+
+        accepts : reasonOf P s a lt (x .work) ≡ 0 → faultOf (P .rule a) f lt (x .work) .code ≡ 0 → Q (accepted P s a lt (x .work))
+        unfolding accepted
+        accepts z g read =
+            let v : Due P s a lt = due-of P s a lt (x .work) z in
+            let c = fault-clean (P .rule a) f lt (x .work) g in
+            takes a (v .number)
+            (subst (λ a. lentOf T a n l (lt .loan) ≡ 0 → ((j : ℕ) → j < n → i ≢ j → formAt T a f (part lt j) ≡ 0)
+            → checkOf T a f (x .work) (mask f (part lt)) .code ≡ 0
+            → Allowed k (x .work) (mask f (part lt)) (lt .loan)) (sym (v .number))
+            (λ h1 h2 h3. record {
+              alive = v .alive;
+              lent = h1;
+              formed = λ e j lj ne. formed-at k lt e j lj ne (h2 j lj ne);
+              clean = h3;
+            }) (v .lent) (c .0) (c .1))
+            (read refl)
+
+        faults : reasonOf P s a lt (x .work) ≡ 0 → faultOf (P .rule a) f lt (x .work) .code ≢ 0 → Q (roundSpec P s a lt (x .work))
+        faults z ne =
+            rw (round-faults P s a lt (x .work) z ne) (λ read. record {
+              number = 0;
+              session-is = refl;
+              stands = ends (ap (λ c. replicate c 0) (sym (length-replicate {A = ℕ} (length (x .work)) 0)));
+              wrote-is = wrote;
+            })
+
+        pub any-call : Q (roundSpec P s a lt (x .work))
+        any-call =
+            round-cases P s a lt (x .work) Q
+            (λ ne read. record { number = k; session-is = refl; stands = S; wrote-is = wrote }) faults accepts
+
+      pub still-told : (x : Box) (c : Turn) → AsTold x → Reads T n l i m q x c → AsTold (turnBox P x c)
+      still-told x c F =
+          subst (λ s. (roundSpec P s (c .number) (c .lent) (x .work) .reply ≡ Accepted
+          → ((j : ℕ) → mask f (part (c .lent)) j ≡ m (c .number) j) × (c .lent .loan ≡ q (nextOf T two (c .number))))
+          → AsTold (turnedBox x (roundSpec P s (c .number) (c .lent) (x .work)) (roundSpec P s (c .number) (c .lent) (x .work) .reply)))
+          (sym (F .session-is)) (any-call x (F .number) (F .stands) (F .wrote-is) (c .number) (c .lent))
+
+      -- ---- AFTER ANY LIST OF CALLS
+      told : (x : Box) → AsTold x → Told counts x
+      unfolding sureAt
+      told x F = record { wrote-is = F .wrote-is; state = go (F .number) (F .session-is) (F .stands) }
+        where
+          go : (k : ℕ) → x .session ≡ sessionOf n l counts i k → Stands (x .rounds) k (x .work) → State counts x
+          go k p (plainly e A) = lives (record {
+            some = λ z. omega (arith, e, z, A .some);
+            session-is = p ∙ ap (sessionOf n l counts i) (sym e);
+            known = subst (λ t. At (sureAt t) (x .work)) (sym e) (rw (A .plain) (A .known));
+          })
+          go (suc k) p (echoing e E) = lives (record {
+            some = λ z. omega (arith, e, z);
+            session-is = p ∙ ap (sessionOf n l counts i) (sym e);
+            known = subst (λ t. At (sureAt t) (x .work)) (sym e) (rw (E .echo) (known-held k (x .work) E));
+          })
+          go zero p (ends b) = over (record { session-is = p; blank = b })
+
+      pub all-told : (cs : List Turn) (x : Box) → AsTold x → AllRead T n l i m q x cs → Told counts (turns P x cs)
+      all-told [] x F r = told x F
+      all-told (c ∷ cs) x F r = all-told cs (turnBox P x c) (still-told x c F (r .0)) (r .1)
+
+      -- ---- after opening
+      pub first : (x : Box) → 1 ≤ T .order .last → x .session ≡ sessionOf n l counts i 1 → x .rounds ≡ 0 → At (due 1) (x .work)
+          → x .wrote ≡ toOthers n i (U .sent 1) → AsTold x
+      unfolding numberOf wroteFor
+      first x low s d K o = record {
+        number = 1;
+        session-is = s;
+        stands = plainly (ap (numberOf T two) d) (record {
+          some = omega arith;
+          low = low;
+          plain = first-plain T n l W;
+          past = λ j h lt. absurd (omega arith);
+          lent = λ h. absurd (omega arith);
+          known = K;
+        });
+        wrote-is = o ∙ rw (d, first-plain T n l W) refl;
       }
-
-      goes : Allowed k (x .work) M (lt .loan) → ((j : ℕ) → M j ≡ m k j) → lt .loan ≡ q (nextOf T two k) → AsTold next
-      unfolding numberOf
-      goes t em el =
-          let e : M ≡ m k = fun-ext em in
-          let t′ : Allowed k (x .work) (m k) (q (nextOf T two k)) =
-          subst (Allowed k (x .work) (m k)) el (subst (λ (y : ℕ → List ℕ). Allowed k (x .work) y (lt .loan)) e t) in
-          let s = steps (x .rounds) k (x .work) S t′ in
-          record {
-            number = nextOf T two k;
-            session-is = refl;
-            stands = subst (Stands (suc (x .rounds)) (nextOf T two k))
-                (ap₂ (λ (y : ℕ → List ℕ) (p : Loan). keepOf T k f p (x .work) y) (sym e) (sym el)) (s .stands);
-            wrote-is = ap₂ (λ (y : ℕ → List ℕ) (p : Loan). writeOf T k f p (x .work) y) e el ∙ s .wrote
-                ∙ ap (λ j. wroteFor (nextOf T two j)) (sym (number-over (x .rounds) k (x .work) S (alive-some T n l i k (t .alive))));
-          }
-
-    -- the call for round a in a session at round k
-    module _ (x : Box) (k : ℕ) (S : Stands (x .rounds) k (x .work)) (wrote : x .wrote ≡ wroteFor (dueAt x)) (a : ℕ) (lt : Lent) where
-      abbrev s : Session
-      s = sessionOf n l i k
-
-      abbrev Read : Outcome → Type 0
-      Read r = r .reply ≡ Accepted → ((j : ℕ) → mask f (part lt) j ≡ m a j) × (lt .loan ≡ q (nextOf T two a))
-
-      abbrev Q : Outcome → Type 0
-      Q r = Read r → AsTold (turnedBox x r (r .reply))
-
-      takes : (a : ℕ) → a ≡ k → Allowed k (x .work) (mask f (part lt)) (lt .loan)
-          → ((j : ℕ) → mask f (part lt) j ≡ m a j) × (lt .loan ≡ q (nextOf T two a))
-          → AsTold (record {
-            session = sessionOf n l i (nextOf T two a);
-            work = keepOf T a f (lt .loan) (x .work) (mask f (part lt));
-            rounds = suc (x .rounds);
-            wrote = writeOf T a f (lt .loan) (x .work) (mask f (part lt));
-          })
-      takes a e t =
-          subst (λ a. ((j : ℕ) → mask f (part lt) j ≡ m a j) × (lt .loan ≡ q (nextOf T two a))
-          → AsTold (record {
-            session = sessionOf n l i (nextOf T two a);
-            work = keepOf T a f (lt .loan) (x .work) (mask f (part lt));
-            rounds = suc (x .rounds);
-            wrote = writeOf T a f (lt .loan) (x .work) (mask f (part lt));
-          })) (sym e) (λ r. goes x k S lt t (r .0) (r .1))
-
-      accepts : reasonOf P s a lt (x .work) ≡ 0 → faultOf (P .rule a) f lt (x .work) .code ≡ 0 → Q (accepted P s a lt (x .work))
-      unfolding accepted
-      accepts z g read =
-          let v : Due P s a lt = due-of P s a lt (x .work) z in
-          let c = fault-clean (P .rule a) f lt (x .work) g in
-          takes a (v .number)
-          (subst (λ a. lentOf T a n l (lt .loan) ≡ 0 → ((j : ℕ) → j < n → i ≢ j → formAt T a f (part lt j) ≡ 0)
-          → checkOf T a f (x .work) (mask f (part lt)) .code ≡ 0
-          → Allowed k (x .work) (mask f (part lt)) (lt .loan)) (sym (v .number))
-          (λ h1 h2 h3. record {
-            alive = v .alive;
-            lent = h1;
-            formed = λ e j lj ne. formed-at k lt e j lj ne (h2 j lj ne);
-            clean = h3;
-          }) (v .lent) (c .0) (c .1))
-          (read refl)
-
-      faults : reasonOf P s a lt (x .work) ≡ 0 → faultOf (P .rule a) f lt (x .work) .code ≢ 0 → Q (roundSpec P s a lt (x .work))
-      faults z ne =
-          rw (round-faults P s a lt (x .work) z ne) (λ read. record {
-            number = 0;
-            session-is = refl;
-            stands = ends (ap (λ c. replicate c 0) (sym (length-replicate {A = ℕ} (length (x .work)) 0)));
-            wrote-is = wrote;
-          })
-
-      pub any-call : Q (roundSpec P s a lt (x .work))
-      any-call =
-          round-cases P s a lt (x .work) Q
-          (λ ne read. record { number = k; session-is = refl; stands = S; wrote-is = wrote }) faults accepts
-
-    pub still-told : (x : Box) (c : Turn) → AsTold x → Reads T n l i m q x c → AsTold (turnBox P x c)
-    still-told x c F =
-        subst (λ s. (roundSpec P s (c .number) (c .lent) (x .work) .reply ≡ Accepted
-        → ((j : ℕ) → mask f (part (c .lent)) j ≡ m (c .number) j) × (c .lent .loan ≡ q (nextOf T two (c .number))))
-        → AsTold (turnedBox x (roundSpec P s (c .number) (c .lent) (x .work)) (roundSpec P s (c .number) (c .lent) (x .work) .reply)))
-        (sym (F .session-is)) (any-call x (F .number) (F .stands) (F .wrote-is) (c .number) (c .lent))
-
-    -- ---- AFTER ANY LIST OF CALLS
-    told : (x : Box) → AsTold x → Told x
-    unfolding sureAt
-    told x F = record { wrote-is = F .wrote-is; state = go (F .number) (F .session-is) (F .stands) }
-      where
-        go : (k : ℕ) → x .session ≡ sessionOf n l i k → Stands (x .rounds) k (x .work) → State x
-        go k p (plainly e A) = lives (record {
-          some = λ z. omega (arith, e, z, A .some);
-          session-is = p ∙ ap (sessionOf n l i) (sym e);
-          known = subst (λ t. At (sureAt t) (x .work)) (sym e) (rw (A .plain) (A .known));
-        })
-        go (suc k) p (echoing e E) = lives (record {
-          some = λ z. omega (arith, e, z);
-          session-is = p ∙ ap (sessionOf n l i) (sym e);
-          known = subst (λ t. At (sureAt t) (x .work)) (sym e) (rw (E .echo) (known-held k (x .work) E));
-        })
-        go zero p (ends b) = over (record { session-is = p; blank = b })
-
-    pub all-told : (cs : List Turn) (x : Box) → AsTold x → AllRead T n l i m q x cs → Told (turns P x cs)
-    all-told [] x F r = told x F
-    all-told (c ∷ cs) x F r = all-told cs (turnBox P x c) (still-told x c F (r .0)) (r .1)
-
-    -- ---- after opening
-    pub first : (x : Box) → 1 ≤ T .order .last → x .session ≡ sessionOf n l i 1 → x .rounds ≡ 0 → At (due 1) (x .work)
-        → x .wrote ≡ toOthers n i (U .sent 1) → AsTold x
-    unfolding numberOf wroteFor
-    first x low s d K o = record {
-      number = 1;
-      session-is = s;
-      stands = plainly (ap (numberOf T two) d) (record {
-        some = omega arith;
-        low = low;
-        plain = first-plain T n l W;
-        past = λ j h lt. absurd (omega arith);
-        lent = λ h. absurd (omega arith);
-        known = K;
-      });
-      wrote-is = o ∙ rw (d, first-plain T n l W) refl;
-    }

@@ -13,8 +13,8 @@ use lib.Dec.{ltb}
 use borrow.Author.Tests.{ltb-true, ltb-false}
 use Rattle.lists.specs.All.{true-false}
 use Rattle.algebra.specs.Sum.{neq, apart?, Same, same}
-use Rattle.engine.specs.Step.{Frame, frame, Session, Loan, nothing, Lent, Reply, Accepted, Refused, Outcome, outcome, Rule, Protocol}
-use Rattle.engine.specs.Step.{mask, part}
+use Rattle.engine.specs.Step.{Frame, frame, Session, Loan, nothing, Lent, Reply, Accepted, Refused, Outcome, leaves, outcome, Rule}
+use Rattle.engine.specs.Step.{Protocol, toldAfter, mask, part}
 use Rattle.engine.specs.Step.{stretch, reasonOf, faultOf, accepted, roundSpec}
 use Rattle.engine.specs.StepLaws.{round-cases, due-of, over-20, other-19, mask-ext, no-fault, round-accepts}
 use Rattle.engine.specs.World.{In, here, there, All, update, Box, Note, World, Call, opening, turn, start, logged, openedBox}
@@ -85,7 +85,7 @@ module _ {Args : Type 0} (S : Scene Args) (D : Duty S) where
   abbrev P : Protocol
   P = S .protocol
 
-  abbrev C : Course (S .protocol) (S .n) (S .l)
+  abbrev C : Course (S .protocol) (S .n) (S .l) (S .counts)
   C = S .course
 
   abbrev fr : ℕ → Frame
@@ -176,7 +176,8 @@ module _ {Args : Type 0} (S : Scene Args) (D : Duty S) where
           (λ j lj ne. (fair z .0 j lj ne .0, rw (part-is z j lj ne, due-is z) (R .formed (ideal d) h b j (B .box) lj ne)))
           (rw (mail-is z, alike z .check, due-is z) (R .passes (ideal d) h b (B .box)))
 
-      accepted-is : Z → accepted P s k q wk ≡ outcome (sessionAt S b (suc d)) Accepted (ideal (suc d) .work b) (ideal (suc d) .out b)
+      accepted-is : Z → accepted P s k q wk
+          ≡ leaves (sessionAt S b (suc d)) Accepted (toldAfter (C .number (suc d)) (S .counts b)) (ideal (suc d) .work b) (ideal (suc d) .out b)
       unfolding accepted ideal together
       accepted-is z = rw (mail-is z, alike z .keep, alike z .write, due-is z, C .next-is d (not-over z)) refl
 
@@ -184,7 +185,8 @@ module _ {Args : Type 0} (S : Scene Args) (D : Duty S) where
   pub goes-on : (b k d : ℕ) (q : Lent) (log : List Note) → Before b d log → Reads S log b d k q → S .Agrees k (q .loan)
       → reasonOf (S .protocol) (sessionAt S b d) k q (ideal d .work b) ≡ 0
       → roundSpec (S .protocol) (sessionAt S b d) k q (ideal d .work b)
-      ≡ outcome (sessionAt S b (suc d)) Accepted (ideal (suc d) .work b) (ideal (suc d) .out b)
+      ≡ leaves (sessionAt S b (suc d)) Accepted (toldAfter (S .course .number (suc d)) (S .counts b)) (ideal (suc d) .work b)
+      (ideal (suc d) .out b)
   goes-on b k d q log B reads e z =
       round-accepts P (sessionAt S b d) k q (ideal d .work b) z (no-fault-here b k d q log B (λ y. (reads, e)) z)
       ∙ accepted-is b k d q log B (λ y. (reads, e)) z

@@ -53,7 +53,7 @@ module _ {Args : Type 0} (S : Scene Args) (D : Duty S) (K : Cast S) where
   abbrev n : ℕ
   n = S .n
 
-  abbrev C : Course (S .protocol) (S .n) (S .l)
+  abbrev C : Course (S .protocol) (S .n) (S .l) (S .counts)
   C = S .course
 
   abbrev on : ℕ → Joint

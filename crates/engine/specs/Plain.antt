@@ -9,6 +9,7 @@ use lib.ListN.{length, getD, replicate}
 use lib.Dec.{ltb, eqb}
 use Rattle.lists.specs.Pick.{pick}
 use Rattle.lists.specs.Over.{cat}
+use Rattle.batches.specs.Batches.{whole}
 use Rattle.engine.specs.Step.{Frame, Loan, Fault, none?, Rule, Protocol, other, orElse, byParty}
 use Rattle.engine.specs.Area.{off, sec, putSec, toOthers, mem}
 use Rattle.engine.specs.Order.{Order, echoIn, roundIn, nextIn}
@@ -177,7 +178,7 @@ module _ (T : Table) where
   -- "19 a call for another round than the one due. 20 the session is done or ended"; a session that opening can't have made counts as ended
   abbrev pub protocolOf : Protocol
   protocolOf = record {
-    alive = λ s. T .fine (s .party) && roundIn (T .order) (eqb (s .party .n) 2) (s .due);
+    alive = λ s. T .fine (s .party) && whole (s .party .l) (s .counts) && roundIn (T .order) (eqb (s .party .n) 2) (s .due);
     workLen = λ f. off (T .size f) (suc (suc (T .count)));
     rule = ruleOf;
     next = λ n k. nextOf (eqb n 2) k;

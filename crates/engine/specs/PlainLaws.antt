@@ -13,6 +13,7 @@ use Rattle.lists.specs.Pick.{pick}
 use Rattle.lists.specs.Over.{length-cat}
 use Rattle.lists.specs.Rows.{chunk, chunk-cat, cat-ext}
 use Rattle.lists.specs.All.{allOf, of-all, true-false, and-first, and-second, and-both, and-false, not-true}
+use Rattle.batches.specs.Batches.{whole}
 use Rattle.engine.specs.Step.{Frame, frame, Loan, Fault, none?, Protocol, other, byParty}
 use Rattle.engine.specs.StepLaws.{other-is, other-cases, or-none, or-first, by-none}
 use Rattle.engine.specs.World.{Course, sessionOf}
@@ -175,24 +176,27 @@ module _ (T : Table) (n l : ℕ) (W : Lawful T n l) where
   unfolding numberOf
   number-next d h = refl
 
-  pub number-live : (d b : ℕ) → d < stepsOf T (eqb n 2) → b < n → protocolOf T .alive (sessionOf n l b (numberOf T (eqb n 2) d)) ≡ true
-  number-live d b h lb = ap₂ _&&_ (W .fine b lb) (round-at d h)
+  -- a session of them is alive until the last round, where its counts make l
+  pub number-live : (counts : List ℕ) → whole l counts ≡ true → (d b : ℕ) → d < stepsOf T (eqb n 2) → b < n
+      → protocolOf T .alive (sessionOf n l counts b (numberOf T (eqb n 2) d)) ≡ true
+  number-live counts w d b h lb = ap₂ _&&_ (ap₂ _&&_ (W .fine b lb) w) (round-at d h)
 
   pub number-end : numberOf T (eqb n 2) (stepsOf T (eqb n 2)) ≡ 0
   number-end = eqb-true _ _ (course-is .1)
 
-  pub number-over : (b : ℕ) → protocolOf T .alive (sessionOf n l b (numberOf T (eqb n 2) (stepsOf T (eqb n 2)))) ≡ false
-  number-over b =
-      ap (λ c. T .fine (frame n l b) && c) (ap (roundIn (T .order) (eqb n 2)) number-end ∙ never-zero) ∙ and-false (T .fine (frame n l b))
+  pub number-over : (counts : List ℕ) (b : ℕ) → protocolOf T .alive (sessionOf n l counts b (numberOf T (eqb n 2) (stepsOf T (eqb n 2)))) ≡ false
+  number-over counts b =
+      ap (λ c. T .fine (frame n l b) && whole l counts && c) (ap (roundIn (T .order) (eqb n 2)) number-end ∙ never-zero)
+      ∙ and-false (T .fine (frame n l b) && whole l counts)
 
-  -- the order of the rounds of n boxes
-  abbrev pub courseOf : Course (protocolOf T) n l
-  courseOf = record {
+  -- the order of the rounds of n boxes, each with counts that make l
+  abbrev pub courseOf : (counts : ℕ → List ℕ) → ((b : ℕ) → b < n → whole l (counts b) ≡ true) → Course (protocolOf T) n l counts
+  courseOf counts w = record {
     steps = stepsOf T (eqb n 2);
     number = numberOf T (eqb n 2);
     next-is = number-next;
-    live = number-live;
-    over = number-over;
+    live = λ d b h lb. number-live (counts b) (w b lb) d b h lb;
+    over = λ b. number-over (counts b) b;
   }
 
 module _ (T : Table) (U : Script) (n l : ℕ) (W : Lawful T n l) where

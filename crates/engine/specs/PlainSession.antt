@@ -1,11 +1,13 @@
 -- Demand 3 for a table of plain rounds and an opening: the scene, and what is left to show for it.
 use mathlib.Core.Path.{_≡_, refl, ap, _∙_, subst}
+use mathlib.Core.Bool.{true}
 use mathlib.Core.Logic.{_≢_}
 use mathlib.Core.List.{List}
 use mathlib.Core.Option.{some}
 use Prim.Native.Nat.{ℕ, _<_}
 use lib.Dec.{eqb}
 use Rattle.lists.specs.Pick.{pick}
+use Rattle.batches.specs.Batches.{whole}
 use Rattle.engine.specs.Step.{frame, Loan, Accepted, Refused, outcome}
 use Rattle.engine.specs.World.{Opening, Box, Call, Scene, sessionOf, sessionAt, start, runs, FairList, Done}
 use Rattle.engine.specs.Engine.{Joint, Alike, Duty, ideal, every-result}
@@ -44,18 +46,19 @@ alike-call T n l k q q′ A = record {
         ≡ T .send (nextOf T (eqb n 2) k) .write (frame n l i) q′ (made T k (frame n l i) q′ w m) r
     same i w m r = A .write i r _ ∙ ap (λ (w : List ℕ). T .send (nextOf T (eqb n 2) k) .write (frame n l i) q′ w r) (A .keep i _)
 
--- ---- the scene: n boxes with one l that run the rounds of the table
+-- ---- the scene: n boxes with one l, which each box's counts make, that run the rounds of the table
 -- Agree j: what is asked of the r Blocks of the call that makes the messages of round j; Given b: what makes an
 -- opening box b's own
 module _ (T : Table) (n l : ℕ) {Args : Type 0} (O : Opening Args) (Agree : ℕ → Loan → Type 0) (Given : ℕ → Args → Type 0)
-    (W : Lawful T n l) where
+    (W : Lawful T n l) (counts : ℕ → List ℕ) (make : (b : ℕ) → b < n → whole l (counts b) ≡ true) where
   abbrev pub sceneOf : Scene Args
   sceneOf = record {
     protocol = protocolOf T;
     opens = O;
     n = n;
     l = l;
-    course = courseOf T n l W;
+    counts = counts;
+    course = courseOf T n l W counts make;
     Agrees = λ k q. Agree (nextOf T (eqb n 2) k) q;
     Given = Given;
   }
@@ -85,9 +88,9 @@ module _ (T : Table) (n l : ℕ) {Args : Type 0} (O : Opening Args) (Agree : ℕ
 
 -- ---- what is left to show for it
 module _ (T : Table) (U : Script) (n l : ℕ) {Args : Type 0} (O : Opening Args) (Agree : ℕ → Loan → Type 0) (Given : ℕ → Args → Type 0)
-    (W : Lawful T n l) where
+    (W : Lawful T n l) (counts : ℕ → List ℕ) (make : (b : ℕ) → b < n → whole l (counts b) ≡ true) where
   abbrev pub scene : Scene Args
-  scene = sceneOf T n l O Agree Given W
+  scene = sceneOf T n l O Agree Given W counts make
 
   -- what opening owes
   pub record HonestOpening : Type 0 where
@@ -95,7 +98,7 @@ module _ (T : Table) (U : Script) (n l : ℕ) {Args : Type 0} (O : Opening Args)
     pub refuses : (a : Args) → O .reason a ≢ 0
         → O .spec a ≡ outcome (O .spec a .session) (Refused (O .reason a) (O .party a)) (O .work a) (O .out a)
     pub takes : (b : ℕ) (a : Args) → b < n → Given b a
-        → (O .reason a ≡ 0) × (O .spec a ≡ outcome (sessionOf n l b 1) Accepted (first .work b) (first .out b))
+        → (O .reason a ≡ 0) × (O .spec a ≡ outcome (sessionOf n l (counts b) b 1) Accepted (first .work b) (first .out b))
     pub keeps : (i : ℕ) → i < n → Known n l (storeOf T U n l) (due 1) i (first .work i)
     pub writes : (j : ℕ) → j < n → first .out j ≡ toOthers n j (U .sent 1 j)
     pub agrees : (j : ℕ) (q : Loan) → T .send j .lent n l q ≡ 0 → Agree j q → AlikeSend (T .send j) n l q (U .loan j)

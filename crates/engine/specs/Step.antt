@@ -9,6 +9,7 @@ use Rattle.lists.specs.Pick.{pick}
 use Rattle.lists.specs.All.{allOf}
 use Rattle.lists.specs.Sect.{get}
 use Rattle.algebra.specs.Sum.{neq}
+use Rattle.batches.specs.Batches.{told, untold}
 pub use Rattle.engine.specs.declared.Frame.{Frame}
 pub use Rattle.engine.specs.declared.Session.{Session}
 use Rattle.engine.specs.declared.Verdict.{Verdict}
@@ -41,15 +42,20 @@ unfoldable pub replyOf : Verdict → Reply
 replyOf Variant.Accepted = Accepted
 replyOf (Variant.Refused number party) = Refused number party
 
--- session, answer, work area and outgoing buffer after the call
+-- session, answer, work area and outgoing buffer after the call; told: what it answers of the batches
 pub record Outcome : Type 0 where
   pub session : Session
   pub reply : Reply
+  pub told : List ℕ
   pub work : List ℕ
   pub out : List ℕ
 
+abbrev pub leaves : Session → Reply → List ℕ → List ℕ → List ℕ → Outcome
+leaves s v t w o = record { session = s; reply = v; told = t; work = w; out = o }
+
+-- where nothing is told of them
 abbrev pub outcome : Session → Reply → List ℕ → List ℕ → Outcome
-outcome s v w o = record { session = s; reply = v; work = w; out = o }
+outcome s v w o = leaves s v untold w o
 
 -- box i of n, with l
 abbrev pub frame : ℕ → ℕ → ℕ → Frame
@@ -151,7 +157,7 @@ faultOf R f q w = orElse (byParty f (formFault R f q)) (R .check f (q .loan) w (
 -- ---- the call
 -- a session that is done or ended
 abbrev pub ended : Session → Session
-ended s = record { party = s .party; due = 0 }
+ended s = record { party = s .party; due = 0; counts = s .counts }
 
 -- "all others leave both untouched", and write nothing
 unfoldable pub refused : Session → ℕ → Lent → List ℕ → Outcome
@@ -161,9 +167,14 @@ refused s code q w = outcome s (Refused code (s .party .i)) w (q .out)
 unfoldable pub faulted : Session → Fault → Lent → List ℕ → Outcome
 faulted s e q w = outcome (ended s) (Refused (e .code) (e .party)) (replicate (length w) 0) (q .out)
 
+-- "Round 22 also answers, batch by batch" (02, order 7): the call after which no round is due
+unfoldable pub toldAfter : ℕ → List ℕ → List ℕ
+toldAfter due counts = pick (eqb due 0) (told counts) untold
+
 unfoldable pub accepted : Protocol → Session → ℕ → Lent → List ℕ → Outcome
 accepted P s k q w =
-    outcome (record { party = s .party; due = P .next (s .party .n) k }) Accepted
+    leaves (record { party = s .party; due = P .next (s .party .n) k; counts = s .counts }) Accepted
+    (toldAfter (P .next (s .party .n) k) (s .counts))
     (P .rule k .keep (s .party) (q .loan) w (mask (s .party) (part q)))
     (P .rule k .write (s .party) (q .loan) w (mask (s .party) (part q)))
 

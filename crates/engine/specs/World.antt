@@ -103,26 +103,28 @@ abbrev pub Done : Protocol → Session → Type 0
 Done P s = (k : ℕ) (q : Lent) (w : List ℕ) → roundSpec P s k q w .reply ≡ Refused 20 (s .party .i)
 
 -- ---- the order of the rounds
-abbrev pub sessionOf : ℕ → ℕ → ℕ → ℕ → Session
-sessionOf n l b k = record { party = frame n l b; due = k }
+-- the session of box b of n, opened with these counts, whose sum is l, when round k is due
+abbrev pub sessionOf : ℕ → ℕ → List ℕ → ℕ → ℕ → Session
+sessionOf n l counts b k = record { party = frame n l b; due = k; counts = counts }
 
 -- "Round 1 is due after opening; each accepted call makes the next in order due": number d is due after d accepted calls, for d below
--- steps; after steps calls the session is over
-pub record Course (P : Protocol) (n l : ℕ) : Type 0 where
+-- steps; after steps calls the session is over. counts b: what box b keeps of its own list
+pub record Course (P : Protocol) (n l : ℕ) (counts : ℕ → List ℕ) : Type 0 where
   pub steps : ℕ
   pub number : ℕ → ℕ
   pub next-is : (d : ℕ) → d < steps → P .next n (number d) ≡ number (suc d)
-  pub live : (d b : ℕ) → d < steps → b < n → P .alive (sessionOf n l b (number d)) ≡ true
-  pub over : (b : ℕ) → P .alive (sessionOf n l b (number steps)) ≡ false
+  pub live : (d b : ℕ) → d < steps → b < n → P .alive (sessionOf n l (counts b) b (number d)) ≡ true
+  pub over : (b : ℕ) → P .alive (sessionOf n l (counts b) b (number steps)) ≡ false
 
--- what a claim on lists of calls is about: n boxes with one l. Agrees k: "its r Blocks .., where due, equal the other boxes'", of
+-- what a claim on lists of calls is about: n boxes with one l, which each box's own counts make. Agrees k: "its r Blocks .., where due, equal the other boxes'", of
 -- a call for round k; Given b: "one opening with the inputs of demand 3", for box b
 pub record Scene (Args : Type 0) : Type 1 where
   pub protocol : Protocol
   pub opens : Opening Args
   pub n : ℕ
   pub l : ℕ
-  pub course : Course protocol n l
+  pub counts : ℕ → List ℕ
+  pub course : Course protocol n l counts
   pub Agrees : ℕ → Loan → Type 0
   pub Given : ℕ → Args → Type 0
 
@@ -130,7 +132,7 @@ pub record Scene (Args : Type 0) : Type 1 where
 module _ {Args : Type 0} (S : Scene Args) where
   -- the session of box b after d accepted round calls
   abbrev pub sessionAt : ℕ → ℕ → Session
-  sessionAt b d = sessionOf (S .n) (S .l) b (S .course .number d)
+  sessionAt b d = sessionOf (S .n) (S .l) (S .counts b) b (S .course .number d)
 
   -- "refused with 20 once round 22 was accepted, else with 19 if its round isn't due, else with 17 or 18 where it has that reason": by the
   -- count of accepted calls

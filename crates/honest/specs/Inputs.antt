@@ -20,10 +20,11 @@ use Rattle.share.specs.ShareLaws.{SmallShare, small-share-at}
 use Rattle.share.specs.Lent.{lentLen}
 use Rattle.share.specs.LentLaws.{Valid}
 use Rattle.share.specs.Parties.{sharedAt, lentShared}
+use Rattle.batches.specs.Batches.{countsFault}
 use Rattle.plan.specs.Plan.{InRange, leaky, bitsCount}
 use Rattle.engine.specs.declared.Frame.{Frame}
 use Rattle.engine.specs.Step.{frame}
-use Rattle.rounds.specs.Opening.{Args}
+use Rattle.rounds.specs.Opening.{Args, party}
 use Rattle.rounds.specs.Buckets.{order}
 
 -- What demand 3 speaks of: n boxes with one l, box b opened with `inputs b`, all lent the same r strings. `strings` is what they hold as r
@@ -35,10 +36,11 @@ pub record Run : Type 0 where
   pub strings : List ℕ
 
 -- ---- as they are lent
--- What the box f is opened with, work area and outgoing buffer aside: exact lengths, bytes, bits 0 or 1, labels as due, own entries zero.
+-- What the box f is opened with, work area and outgoing buffer aside: counts whose sum is its l, exact lengths, bytes, bits 0 or 1, labels as due, own entries zero.
 -- Of the seeds and of the delta nothing is asked, and nothing of the masks for the box itself.
 pub record Own (f : Frame) (a : Args) : Type 0 where
-  pub party : a .party ≡ f
+  pub party : party a ≡ f
+  pub counts-taken : countsFault (a .counts) ≡ 0
   pub delta-len : length (a .delta) ≡ 16
   pub seed-len : length (a .seed) ≡ 32
   pub pairs-len : length (a .pairs) ≡ 32 * f .n

@@ -21,6 +21,8 @@ use Rattle.share.specs.ShareLaws as Shares
 use Rattle.share.specs.Lent.{lentLen, keptOf}
 use Rattle.share.specs.LentLaws.{bytes-kept, valid-faults}
 use Rattle.share.specs.Parties.{sharedAt, lentShared, shareOf, good-at, total-at, kept-agree}
+use Rattle.batches.specs.Batches.{tally, whole}
+use Rattle.batches.specs.BatchLaws.{whole-tally}
 use Rattle.plan.specs.Plan.{InRange, leaky, bitsCount, msgLen}
 use Rattle.engine.specs.declared.Frame.{Frame}
 use Rattle.engine.specs.Step.{frame, Loan, Accepted, Refused, outcome}
@@ -30,7 +32,7 @@ use Rattle.engine.specs.Sheet.{Known}
 use Rattle.engine.specs.Honest.{Lawful, due}
 use Rattle.engine.specs.PlainSession.{AlikeSend, alike-same, HonestOpening}
 use Rattle.rounds.specs.Area.{BITS, KEY-SUMS, workLen, at, keep}
-use Rattle.rounds.specs.Opening.{Args, listsDue, buffersDue, masksFault, orFault, bytesFault, lengthsFault, reason}
+use Rattle.rounds.specs.Opening.{Args, party, listsDue, buffersDue, masksFault, orFault, bytesFault, lengthsFault, reason}
 use Rattle.rounds.specs.Opening.{kept, section, area, spec}
 use Rattle.rounds.specs.Table.{lent, held, written}
 use Rattle.rounds.specs.Fabitn.{rFits}
@@ -45,12 +47,12 @@ use Rattle.honest.specs.Inputs.{Run, box, deltas, Own, Opened, Boxes}
 use Rattle.honest.specs.Base.{stored}
 
 -- ---- no reason to refuse
-module _ (a : Args) (r : InRange (a .party .n) (a .party .l)) (li : a .party .i < a .party .n) (o : Own (a .party) a) where
-  lists-due : listsDue (a .party) (length (a .bits)) (length (a .alpha)) (length (a .beta)) ≡ true
+module _ (a : Args) (r : InRange (a .n) (party a .l)) (li : a .i < a .n) (o : Own (party a) a) where
+  lists-due : listsDue (party a) (length (a .bits)) (length (a .alpha)) (length (a .beta)) ≡ true
   unfolding listsDue
   lists-due = rw (eq-eqb _ _ (o .bits-len), eq-eqb _ _ (o .alpha-len), eq-eqb _ _ (o .beta-len)) refl
 
-  buffers-due : length (a .work) ≡ workLen (a .party) → length (a .out) ≡ (a .party .n - 1) * msgLen (a .party .n) (a .party .l) 1
+  buffers-due : length (a .work) ≡ workLen (party a) → length (a .out) ≡ (a .n - 1) * msgLen (a .n) (party a .l) 1
       → buffersDue a ≡ true
   unfolding buffersDue
   buffers-due hw ho =
@@ -65,38 +67,37 @@ module _ (a : Args) (r : InRange (a .party .n) (a .party .l)) (li : a .party .i 
 
   masks-none : masksFault a ≡ 0
   unfolding masksFault
-  masks-none = rw (all-of (a .party .n) _ (λ k lk. go k lk (neq (a .party .i) k) (apart? (a .party .i) k))) refl
+  masks-none = rw (all-of (a .n) _ (λ k lk. go k lk (neq (a .i) k) (apart? (a .i) k))) refl
     where
-      go : (k : ℕ) → k < a .party .n → (b : Bool) → Same (a .party .i) k b
-          → pick b (allOf (leaky (a .party .l)) (λ t. leb (getD (a .masks) (k * leaky (a .party .l) + t) 0) 1)) true ≡ true
+      go : (k : ℕ) → k < a .n → (b : Bool) → Same (a .i) k b
+          → pick b (allOf (leaky (party a .l)) (λ t. leb (getD (a .masks) (k * leaky (party a .l) + t) 0) 1)) true ≡ true
       go k lk false s = refl
-      go k lk true (apart ne) = all-of (leaky (a .party .l)) _ (λ t lt. le-leb _ 1 (o .mask-bits k t lk ne lt))
+      go k lk true (apart ne) = all-of (leaky (party a .l)) _ (λ t lt. le-leb _ 1 (o .mask-bits k t lk ne lt))
 
   bytes-none : bytesFault a ≡ 0
   unfolding bytesFault orFault
   bytes-none =
       rw (
-        valid-faults (a .party .n) (a .party .i) (a .bits) (bitsCount (a .party .l)) (o .bits-valid),
-        valid-faults (a .party .n) (a .party .i) (a .alpha) (a .party .l) (o .alpha-valid),
-        valid-faults (a .party .n) (a .party .i) (a .beta) (a .party .l) (o .beta-valid),
+        valid-faults (a .n) (a .i) (a .bits) (bitsCount (party a .l)) (o .bits-valid),
+        valid-faults (a .n) (a .i) (a .alpha) (party a .l) (o .alpha-valid),
+        valid-faults (a .n) (a .i) (a .beta) (party a .l) (o .beta-valid),
         masks-none,
       ) refl
 
-  pub no-reason : length (a .work) ≡ workLen (a .party) → length (a .out) ≡ (a .party .n - 1) * msgLen (a .party .n) (a .party .l) 1
+  pub no-reason : length (a .work) ≡ workLen (party a) → length (a .out) ≡ (a .n - 1) * msgLen (a .n) (party a .l) 1
       → reason a ≡ 0
   unfolding reason lengthsFault orFault
   no-reason hw ho =
       rw (
-        le-leb 2 (a .party .n) (r .two),
-        le-leb (a .party .n) 8 (r .eight),
-        lt-ltb (a .party .i) (a .party .n) li,
-        le-leb (a .party .l) 300000 (r .most),
-        ne-eqb (a .party .l) 0 (omega (arith, r .one)),
+        le-leb 2 (a .n) (r .two),
+        le-leb (a .n) 8 (r .eight),
+        lt-ltb (a .i) (a .n) li,
+        o .counts-taken,
         lists-due,
         buffers-due hw ho,
       ) bytes-none
 
-lens-of : (a : Args) → Own (a .party) a → Lens a
+lens-of : (a : Args) → Own (party a) a → Lens a
 lens-of a o = record {
   delta-len = o .delta-len;
   seed-len = o .seed-len;
@@ -105,14 +106,16 @@ lens-of a o = record {
 }
 
 -- in the words of its frame
-own-frame : (f : Frame) (a : Args) → Own f a → Own (a .party) a
+own-frame : (f : Frame) (a : Args) → Own f a → Own (party a) a
 own-frame f a o = subst (λ (f : Frame). Own f a) (sym (o .party)) o
 
 -- ---- what demand 3 asks of a call of opening, and of the r Blocks
 -- "work areas and buffers hold anything": the inputs of a with another work area and outgoing buffer
 abbrev pub lend : Args → List ℕ → List ℕ → Args
 lend a work out = record {
-  party = a .party;
+  n = a .n;
+  i = a .i;
+  counts = a .counts;
   delta = a .delta;
   seed = a .seed;
   pairs = a .pairs;
@@ -153,7 +156,7 @@ module _ (R : Run) (X : Opened R) (count : ℕ → ℕ) (files : ℕ → List �
   open Run R using (n, l, inputs)
 
   abbrev keeps : ℕ → List ℕ
-  keeps b = keptOf (inputs b .party .n) (inputs b .party .i) (count (inputs b .party .l)) (files b)
+  keeps b = keptOf (inputs b .n) (inputs b .i) (count (party (inputs b) .l)) (files b)
 
   keeps-lent : (b : ℕ) → b < n → Shares.Agree n b (shareAt (keeps b) (t * recordLen n)) (shareOf b (lentShared files (t * lentLen n)))
   keeps-lent b lb =
@@ -224,12 +227,21 @@ module _ (R : Run) (q : Loan) where
 
 -- ---- what opening owes
 spec-refuses : (a : Args) → reason a ≢ 0
-    → spec a ≡ outcome (spec a .session) (Refused (reason a) (a .party .i)) (a .work) (a .out)
+    → spec a ≡ outcome (spec a .session) (Refused (reason a) (a .i)) (a .work) (a .out)
 unfolding spec
 spec-refuses a ne = rw (ne-eqb (reason a) 0 ne) refl
 
 module _ (R : Run) (X : Opened R) where
   open Run R using (n, l, inputs)
+
+  -- what box b keeps of its counts: they make l
+  abbrev pub countsOf : ℕ → List ℕ
+  countsOf b = tally (inputs b .counts)
+
+  pub counts-make : (b : ℕ) → b < n → whole l (tally (inputs b .counts)) ≡ true
+  counts-make b lb =
+      subst (λ (f : Frame). whole (f .l) (tally (inputs b .counts)) ≡ true) (X .own b lb .party)
+      (whole-tally (inputs b .counts) (X .own b lb .counts-taken))
 
   -- what box b's opening writes: the commitment of its seed
   abbrev pub firstOut : ℕ → List ℕ
@@ -241,7 +253,7 @@ module _ (R : Run) (X : Opened R) where
   no-reason-lend : (b : ℕ) → b < n → (work out : List ℕ) → length work ≡ workLen (box R b) → length out ≡ (n - 1) * msgLen n l 1
       → reason (lend (inputs b) work out) ≡ 0
   no-reason-lend b lb work out hw ho =
-      let p : box R b ≡ inputs b .party = sym (X .own b lb .party) in
+      let p : box R b ≡ party (inputs b) = sym (X .own b lb .party) in
       no-reason (lend (inputs b) work out)
       (subst (λ (f : Frame). InRange (f .n) (f .l)) p (X .range)) (subst (λ (f : Frame). f .i < f .n) p lb)
       (own-frame (box R b) (lend (inputs b) work out) (own-lend b lb work out)) (hw ∙ ap workLen p)
@@ -249,7 +261,7 @@ module _ (R : Run) (X : Opened R) where
 
   -- it accepts its own inputs, and what the buffers held is not seen
   takes-given : (b : ℕ) (a : Args) → b < n → Given R b a
-      → (reason a ≡ 0) × (spec a ≡ outcome (sessionOf n l b 1) Accepted (area (inputs b)) (firstOut b))
+      → (reason a ≡ 0) × (spec a ≡ outcome (sessionOf n l (countsOf b) b 1) Accepted (area (inputs b)) (firstOut b))
   unfolding area section
   takes-given b a lb g =
       let z : reason (lend (inputs b) (a .work) (a .out)) ≡ 0 = no-reason-lend b lb (a .work) (a .out) (g .work-len) (g .out-len) in
@@ -263,7 +275,8 @@ module _ (R : Run) (X : Opened R) where
       (lens-of (inputs i) (own-frame (box R i) (inputs i) (X .own i li)))
       (first-seven (λ s. section (kept (inputs i)) s ≡ S.holds (played R) i s) (refl, (refl, (refl, (refl, (refl, (refl, (refl, tt))))))))
 
-  pub honest-opening : (W : Lawful subject n l) → HonestOpening subject (S.script (played R)) n l opener (Agree R) (Given R) W
+  pub honest-opening : (W : Lawful subject n l)
+      → HonestOpening subject (S.script (played R)) n l opener (Agree R) (Given R) W (λ b. tally (inputs b .counts)) counts-make
   unfolding S.sent S.sent1
   honest-opening W = record {
     first = record { work = λ b. area (inputs b); out = firstOut };

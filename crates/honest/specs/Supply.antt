@@ -2,7 +2,8 @@
 -- no call has a reason.
 use mathlib.Core.Path.{_≡_, refl, sym, ap, _∙_, subst}
 use mathlib.Core.Bool.{Bool, true, false, _&&_}
-use mathlib.Core.List.{List, []}
+use mathlib.Core.Logic.{_≢_}
+use mathlib.Core.List.{List, [], _∷_}
 use Prim.Native.Nat.{ℕ, zero, suc, _+_, _-_, _*_, _<_, _≤_}
 use native.Mathlib.Omega.{arith}
 use lib.ListN.{length, getD, replicate, length-replicate}
@@ -20,6 +21,8 @@ use Rattle.share.specs.ShareLaws.{SmallShare, small-share-nil}
 use Rattle.share.specs.Lent.{lentLen, lentOf}
 use Rattle.share.specs.LentLaws.{length-lentOf, bytes-lentOf, lent-row, Valid, lent-valid}
 use Rattle.share.specs.Parties.{lentShared, share-of-nil, good-lent, lent-written}
+use Rattle.batches.specs.Batches.{first, total, countsFault, whole}
+use Rattle.batches.specs.BatchLaws.{total-single, untaken, single-taken}
 use Rattle.plan.specs.Plan.{InRange, leaky, bitsCount, rLen, msgLen}
 use Rattle.engine.specs.Step.{frame, Loan}
 use Rattle.engine.specs.Honest.{Lawful}
@@ -34,6 +37,46 @@ use Rattle.honest.specs.Subject.{opener, subject}
 use Rattle.honest.specs.Inputs.{Run, box, Opened}
 use Rattle.honest.specs.Opening.{lend, Given, Agree}
 
+-- ---- counts
+-- a list for each box that opening takes, all with one sum
+pub record Lists (n l : ℕ) (counts : ℕ → List ℕ) : Type 0 where
+  pub taken : (b : ℕ) → b < n → countsFault (counts b) ≡ 0
+  pub sum : (b : ℕ) → b < n → total (counts b) ≡ l
+
+-- one batch for all, and another list for box 0 than for the others
+pub singles : (n l : ℕ) → InRange n l → Lists n l (λ b. l ∷ [])
+singles n l r = record { taken = λ b lb. single-taken l (r .one) (r .most); sum = λ b lb. total-single l }
+
+total-pair : (a b : ℕ) → total (a ∷ b ∷ []) ≡ a + b
+unfolding total first
+total-pair a b = omega arith
+
+pair-taken : (a b : ℕ) → 1 ≤ a → 1 ≤ b → a + b ≤ 300000 → countsFault (a ∷ b ∷ []) ≡ 0
+pair-taken a b ha hb h =
+    untaken (a ∷ b ∷ []) (record {
+      some = omega arith;
+      most = omega arith;
+      one = omega (arith, total-pair a b);
+      sum = omega (arith, total-pair a b);
+      each = each;
+    })
+  where
+    each : (j : ℕ) → j < 2 → getD (a ∷ b ∷ []) j 0 ≢ 0
+    each zero lt e = omega (arith, e)
+    each (suc zero) lt e = omega (arith, e)
+    each (suc (suc j)) lt e = omega arith
+
+pub unlike : (n l : ℕ) → InRange n (suc l) → 1 ≤ l → Lists n (suc l) (λ b. pick (eqb b 0) (suc l ∷ []) (1 ∷ l ∷ []))
+unlike n l r h = record { taken = λ b lb. takes (eqb b 0); sum = λ b lb. sums (eqb b 0) }
+  where
+    takes : (b : Bool) → countsFault (pick b (suc l ∷ []) (1 ∷ l ∷ [])) ≡ 0
+    takes true = single-taken (suc l) (r .one) (r .most)
+    takes false = pair-taken 1 l (omega arith) h (omega (arith, r .most))
+
+    sums : (b : Bool) → total (pick b (suc l ∷ []) (1 ∷ l ∷ [])) ≡ suc l
+    sums true = total-single (suc l)
+    sums false = omega (arith, total-pair 1 l)
+
 -- ---- zero inputs
 abbrev zeros : ℕ → List ℕ
 zeros c = replicate c 0
@@ -42,9 +85,11 @@ zeros c = replicate c 0
 abbrev blanks : ℕ → ℕ → ℕ → List ℕ
 blanks n b c = cat c (λ t. lentOf n b (shares .nil))
 
-abbrev pub zeroInputs : ℕ → ℕ → ℕ → Args
-zeroInputs n l b = record {
-  party = frame n l b;
+abbrev pub zeroInputs : ℕ → ℕ → (ℕ → List ℕ) → ℕ → Args
+zeroInputs n l counts b = record {
+  n = n;
+  i = b;
+  counts = counts b;
   delta = zeros 16;
   seed = zeros 32;
   pairs = zeros (32 * n);
@@ -57,8 +102,8 @@ zeroInputs n l b = record {
 }
 
 -- with any r
-abbrev pub zeroRun : ℕ → ℕ → List ℕ → Run
-zeroRun n l r = record { n = n; l = l; inputs = zeroInputs n l; strings = r }
+abbrev pub zeroRun : ℕ → ℕ → (ℕ → List ℕ) → List ℕ → Run
+zeroRun n l counts r = record { n = n; l = l; inputs = zeroInputs n l counts; strings = r }
 
 zero-at : (c k : ℕ) → getD (zeros c) k 0 ≡ 0
 zero-at zero k = refl
@@ -85,11 +130,12 @@ blanks-good n c t δ h =
     (λ b lb. subst (SmallShare n) (sym (share-of-nil b)) (small-share-nil n)))
     δ (good-nil blocks n δ)
 
-pub zero-boxes : (n l : ℕ) → InRange n l → (r : List ℕ) → Opened (zeroRun n l r)
-zero-boxes n l range r = record {
+pub zero-boxes : (n l : ℕ) → InRange n l → (counts : ℕ → List ℕ) → Lists n l counts → (r : List ℕ) → Opened (zeroRun n l counts r)
+zero-boxes n l range counts c r = record {
   range = range;
   own = λ b lb. record {
-    party = refl;
+    party = ap (λ m. frame n m b) (c .sum b lb);
+    counts-taken = c .taken b lb;
     delta-len = length-replicate {A = ℕ} 16 0;
     seed-len = length-replicate {A = ℕ} 32 0;
     pairs-len = length-replicate {A = ℕ} (32 * n) 0;
@@ -133,8 +179,9 @@ module _ (R : Run) (forms : ℕ → List ℕ) (F : Forms R forms) where
       go true = rw (F .fits b lb) refl
       go false = refl
 
-  pub supply : (W : Lawful subject n l) → Supply subject n l opener (Agree R) (Given R) W
-  supply W = record {
+  pub supply : (W : Lawful subject n l) (counts : ℕ → List ℕ) (make : (b : ℕ) → b < n → whole l (counts b) ≡ true)
+      → Supply subject n l opener (Agree R) (Given R) W counts make
+  supply W counts make = record {
     args = λ b. lend (inputs b) (zeros (workLen (box R b))) (zeros ((n - 1) * msgLen n l 1));
     lends = lends;
     given = λ b lb. record { inputs-are = refl; work-len = length-replicate {A = ℕ} _ 0; out-len = length-replicate {A = ℕ} _ 0 };
@@ -142,16 +189,17 @@ module _ (R : Run) (forms : ℕ → List ℕ) (F : Forms R forms) where
     agree = λ b j lb. record { r-is = λ e. rw e (F .same b lb) };
   }
 
-  pub supply-r : (W : Lawful subject n l) (b : ℕ) → supply W .lends b 6 .r ≡ forms b
+  pub supply-r : (W : Lawful subject n l) (counts : ℕ → List ℕ) (make : (b : ℕ) → b < n → whole l (counts b) ≡ true) (b : ℕ)
+      → supply W counts make .lends b 6 .r ≡ forms b
   unfolding supply
-  supply-r W b = refl
+  supply-r W counts make b = refl
 
 -- ---- one box is lent a seed, the others all strings
 abbrev pub oneSeed : ℕ → List ℕ → ℕ → List ℕ
 oneSeed l seed b = pick (eqb b 0) seed (Fabitn.strings l seed)
 
-pub one-seed : (n l : ℕ) (seed : List ℕ) → length seed ≡ 16 → Forms (zeroRun n l seed) (oneSeed l seed)
-one-seed n l seed h = record { fits = λ b lb. long (eqb b 0); same = λ b lb. alike (eqb b 0) }
+pub one-seed : (n l : ℕ) (counts : ℕ → List ℕ) (seed : List ℕ) → length seed ≡ 16 → Forms (zeroRun n l counts seed) (oneSeed l seed)
+one-seed n l counts seed h = record { fits = λ b lb. long (eqb b 0); same = λ b lb. alike (eqb b 0) }
   where
     all-long : length (Fabitn.strings l seed) ≡ rLen l
     all-long = seed-long l seed h

@@ -38,8 +38,8 @@ use Rattle.honest.specs.Subject.{opener, subject}
 use Rattle.honest.specs.Script as S
 use Rattle.honest.specs.Inputs.{Run, box, deltas, lentAlphas, lentBetas, Opened, Boxes}
 use Rattle.honest.specs.Course.{lawful}
-use Rattle.honest.specs.Opening.{Given, Agree, played, total-keeps, boxes-for, honest-opening}
-use Rattle.honest.specs.Supply.{zeroRun, Forms, supply, supply-r, oneSeed, one-seed}
+use Rattle.honest.specs.Opening.{Given, Agree, played, total-keeps, boxes-for, countsOf, counts-make, honest-opening}
+use Rattle.honest.specs.Supply.{Lists, zeroRun, Forms, supply, supply-r, oneSeed, one-seed}
 use Rattle.honest.specs.Premises.{Premises, opened-of, zero-premises}
 use Rattle.honest.specs.Values.{LeakyTriples}
 use Rattle.honest.specs.Toss.{recv-1, list-1, send-3, recv-3, send-4, recv-4, send-5, recv-5}
@@ -61,7 +61,9 @@ module _ (R : Run) (P : Premises R) where
   open Run R using (n, l, inputs)
 
   abbrev pub scene : Scene Args
-  scene = sceneOf subject n l opener (Agree R) (Given R) (lawful n l (opened-of R P .range))
+  scene =
+      sceneOf subject n l opener (Agree R) (Given R) (lawful n l (opened-of R P .range)) (countsOf R (opened-of R P))
+      (counts-make R (opened-of R P))
 
   -- "every list of openings and round calls in which a box takes a round only once its messages are there, whatever the order among boxes
   -- and whichever calls stand between that 01 refuses without ending a session"
@@ -202,11 +204,11 @@ module _ (R : Run) (P : Premises R) where
   abbrev H : Honest subject (S.script R′) n l
   H = honest R′ X′
 
-  abbrev opens : HonestOpening subject (S.script R′) n l opener (Agree R) (Given R) W
+  abbrev opens : HonestOpening subject (S.script R′) n l opener (Agree R) (Given R) W (countsOf R O) (counts-make R O)
   opens = honest-opening R O W
 
   abbrev duty : Duty (scene R P)
-  duty = dutyOf subject (S.script R′) n l opener (Agree R) (Given R) W H opens
+  duty = dutyOf subject (S.script R′) n l opener (Agree R) (Given R) W (countsOf R O) (counts-make R O) H opens
 
   abbrev triples : LeakyTriples R′
   triples = leaky-triple R′ X′
@@ -217,7 +219,7 @@ module _ (R : Run) (P : Premises R) where
   -- what a done box wrote last
   wrote-is : (cs : List (Call Args)) → Fine R P cs → (b : ℕ) (x : Box) → Stands R P cs b x
       → Done session (x .session) → (b < n) × (x .wrote ≡ result b)
-  wrote-is = every-written subject (S.script R′) n l opener (Agree R) (Given R) W H opens
+  wrote-is = every-written subject (S.script R′) n l opener (Agree R) (Given R) W (countsOf R O) (counts-make R O) H opens
 
   mac-rule : (j k : ℕ) → j < n → k < n → j ≢ k → (t : ℕ) → t < l
       → lentAt (result j) (t * lentLen n) .mac k
@@ -260,16 +262,16 @@ module _ (R : Run) (P : Premises R) where
 
   -- ---- its premises can be met, and all boxes come to be done, whichever form of the strings each box is lent
   module _ (forms : ℕ → List ℕ) (F : Forms R forms) where
-    abbrev supplied : Supply subject n l opener (Agree R) (Given R) W
-    supplied = supply R forms F W
+    abbrev supplied : Supply subject n l opener (Agree R) (Given R) W (countsOf R O) (counts-make R O)
+    supplied = supply R forms F W (countsOf R O) (counts-make R O)
 
     abbrev cast : Cast (scene R P)
-    cast = castOf subject n l opener (Agree R) (Given R) W supplied
+    cast = castOf subject n l opener (Agree R) (Given R) W (countsOf R O) (counts-make R O) supplied
 
     r-lent : (b : ℕ) (q : Loan) → q ≡ cast .lends b 5 → q .r ≡ forms b
     r-lent b q e =
-        ap (λ (q : Loan). q .r) (e ∙ cast-lends subject n l opener (Agree R) (Given R) W supplied b 5)
-        ∙ ap (λ j. supplied .lends b j .r) (fabitn-next (eqb n 2)) ∙ supply-r R forms F W b
+        ap (λ (q : Loan). q .r) (e ∙ cast-lends subject n l opener (Agree R) (Given R) W (countsOf R O) (counts-make R O) supplied b 5)
+        ∙ ap (λ j. supplied .lends b j .r) (fabitn-next (eqb n 2)) ∙ supply-r R forms F W (countsOf R O) (counts-make R O) b
 
     as-lent : (b : ℕ) (cs : List (Call Args)) → All (AsCast (scene R P) duty cast) cs → All (LentR b (forms b)) cs
     as-lent b [] h = tt
@@ -304,14 +306,14 @@ module _ (R : Run) (P : Premises R) where
       lent-as,
     )
 
--- for every n, l and seed there are inputs as demand 3 has them, and a list after which all boxes are done, in which box 0 is lent the seed
--- and every other box all strings: those that are drawn from it
-module _ (n l : ℕ) (r : InRange n l) (seed : List ℕ) (h : length seed ≡ 16) where
-  pub some-run : (cs : List (Call Args)) × Fine (zeroRun n l seed) (zero-premises n l r seed) cs
-      × ((b : ℕ) → b < n → (x : Box) × Stands (zeroRun n l seed) (zero-premises n l r seed) cs b x × Done session (x .session))
+-- for every n, l, seed, and counts of each box whose sum is l, equal or not (`singles`, `unlike`), there are inputs as demand 3 has them, and
+-- a list after which all boxes are done, in which box 0 is lent the seed and every other box all strings: those that are drawn from it
+module _ (n l : ℕ) (r : InRange n l) (counts : ℕ → List ℕ) (c : Lists n l counts) (seed : List ℕ) (h : length seed ≡ 16) where
+  pub some-run : (cs : List (Call Args)) × Fine (zeroRun n l counts seed) (zero-premises n l r counts c seed) cs
+      × ((b : ℕ) → b < n → (x : Box) × Stands (zeroRun n l counts seed) (zero-premises n l r counts c seed) cs b x × Done session (x .session))
       × LentAs 0 seed cs × ((b : ℕ) → 0 < b → b < n → LentAs b (Fabitn.strings l seed) cs) × (length (Fabitn.strings l seed) ≡ rLen l)
   some-run =
-      let s = some-list (zeroRun n l seed) (zero-premises n l r seed) (oneSeed l seed) (one-seed n l seed h) in (
+      let s = some-list (zeroRun n l counts seed) (zero-premises n l r counts c seed) (oneSeed l seed) (one-seed n l counts seed h) in (
         s .0,
         s .1,
         s .2,

@@ -2,26 +2,28 @@
 use mathlib.Core.Bool.{Bool, true, _&&_}
 use mathlib.Core.List.{List, _++_}
 use mathlib.Core.Path.{_≡_}
-use Prim.Native.Nat.{ℕ, _+_, _-_, _*_}
+use Prim.Native.Nat.{ℕ, _+_, _-_, _*_, _≤_}
 use lib.ListN.{length, getD, take, replicate}
 use lib.Dec.{leb, eqb}
 use Rattle.lists.specs.Pick.{pick}
 use Rattle.lists.specs.All.{allOf}
 use Rattle.algebra.specs.Sum.{neq}
 use Rattle.share.specs.Lent.{lentLen, keptOf, recordsFault}
+use Rattle.batches.specs.Batches.{countsFault}
 use Rattle.plan.specs.Plan.{leaky, bitsCount, inRange, bitsLen, sharesLen, pairsLen, masksLen, outLen, msgLen}
 use Rattle.engine.specs.declared.Frame.{Frame}
-use Rattle.engine.specs.Step.{frame}
 use Rattle.engine.specs.Area.{off}
 use Rattle.rounds.specs.Area.{DELTA, SEED, PAIRS, MASKS, BITS, ALPHA, BETA, COMMS, sizeOf, workLen, keep}
-use Rattle.rounds.specs.Opening.{Args, orFault, lengthsFault}
+use Rattle.rounds.specs.Opening.{Args, party, orFault, lengthsFault}
 use Rattle.area.specs.Given.{Ranged}
 pub use Rattle.inputs.specs.declared.Lens.{Lens}
 
-abbrev pub args : ℕ → ℕ → ℕ → List ℕ → List ℕ → List ℕ → List ℕ → List ℕ → List ℕ → List ℕ → List ℕ → List ℕ → Args
-args n i l delta seed pairs bits alpha beta masks work out =
+abbrev pub args : ℕ → ℕ → List ℕ → List ℕ → List ℕ → List ℕ → List ℕ → List ℕ → List ℕ → List ℕ → List ℕ → List ℕ → Args
+args n i counts delta seed pairs bits alpha beta masks work out =
     record {
-      party = frame n l i;
+      n = n;
+      i = i;
+      counts = counts;
       delta = delta;
       seed = seed;
       pairs = pairs;
@@ -47,7 +49,12 @@ lens a =
       out = length (a .out);
     }
 
--- ---- by the numbers and the lengths. Where n or l is refused, the lengths due are 0; then 15, 16 or 3 stands before what they say.
+-- ---- by the numbers and the lengths
+-- where nothing is refused of the counts, l is their sum and in range
+abbrev pub Counted : Frame → ℕ → Type 0
+Counted f counts = counts ≡ 0 → (1 ≤ f .l) × (f .l ≤ 300000)
+
+-- Where n or the counts are refused, the lengths due are 0; then 15, 23, 16 or 3 stands before what they say.
 unfoldable pub lists? : Frame → ℕ → ℕ → ℕ → Bool
 lists? f bits alpha beta =
     eqb bits (bitsLen (f .n) (f .l)) && eqb alpha (sharesLen (f .n) (f .l)) && eqb beta (sharesLen (f .n) (f .l))
@@ -111,8 +118,10 @@ pub record Due (f : Frame) (v : Lens) : Type 0 where
   pub work : v .work ≡ workLen f
   pub out : v .out ≡ (f .n - 1) * msgLen (f .n) (f .l) 1
 
--- the first reason, as the code finds it
+-- the first reason, as the code finds it, in a box f whose counts have that fault
+unfoldable pub foundAt : Frame → ℕ → Lens → List ℕ → List ℕ → List ℕ → List ℕ → ℕ
+foundAt f counts v bits alpha beta masks =
+    orFault (lengthsFault f counts (v .bits) (v .alpha) (v .beta) (buffers? f v)) (bytesOf f bits alpha beta masks)
+
 abbrev pub found : Args → ℕ
-found a =
-    orFault (lengthsFault (a .party) (length (a .bits)) (length (a .alpha)) (length (a .beta)) (buffers? (a .party) (lens a)))
-    (bytesOf (a .party) (a .bits) (a .alpha) (a .beta) (a .masks))
+found a = foundAt (party a) (countsFault (a .counts)) (lens a) (a .bits) (a .alpha) (a .beta) (a .masks)

@@ -8,20 +8,22 @@ use native.Mathlib.Omega.{arith}
 use lib.ListN.{length, getD}
 use lib.Dec.{ltb, leb, eqb}
 use borrow.Author.Tests.{eq-eqb, ne-eqb, eqb-true, eqb-false, leb-true, ltb-true}
-use Rattle.lists.specs.Pick.{pick, pick-then, pick-else}
+use Rattle.lists.specs.Pick.{pick}
 use Rattle.lists.specs.All.{allOf, all-turn, all-more, and-first, and-second}
 use Rattle.algebra.specs.Sum.{neq-true, neq-self}
+use Rattle.batches.specs.Batches.{total, sumOf, countsFault, tally}
+use Rattle.batches.specs.BatchLaws.{taken, sum-taken}
 use Rattle.plan.specs.Plan.{InRange, parties?, inRange, leaky, outLen, msgLen}
 use Rattle.plan.specs.PlanLaws.{in-range, bits-len, shares-len, masks-len, pairs-len, out-len, order-first}
 use Rattle.engine.specs.declared.Frame.{Frame}
-use Rattle.engine.specs.Step.{Accepted, Refused, outcome}
+use Rattle.engine.specs.Step.{frame, Accepted, Refused, outcome}
 use Rattle.engine.specs.Area.{toOthers}
 use Rattle.rounds.specs.Area.{sizes, sizeOf, workLen}
-use Rattle.rounds.specs.Opening.{Args, orFault, listsDue, buffersDue, masksFault, bytesFault, lengthsFault, reason, area, spec}
-use Rattle.rounds.specs.OpeningLaws.{neither}
+use Rattle.rounds.specs.Opening.{Args, party, orFault, listsDue, buffersDue, masksFault, bytesFault, lengthsFault, reason, area, noSession, spec}
+use Rattle.rounds.specs.OpeningLaws.{neither, within}
 use Rattle.rounds.specs.Toss as Toss
 use Rattle.area.specs.Given.{Ranged}
-use Rattle.inputs.specs.Given.{Lens, lens, found, lists?, buffers?, row?, masks?, bytesOf, Due}
+use Rattle.inputs.specs.Given.{Lens, lens, Counted, foundAt, found, lists?, buffers?, row?, masks?, bytesOf, Due}
 
 -- ---- a chain of reasons
 pub or-left : (x y : ℕ) → x ≢ 0 → orFault x y ≡ x
@@ -31,9 +33,6 @@ or-left x y h = rw (ne-eqb x 0 h) refl
 pub or-right : (x y : ℕ) → x ≡ 0 → orFault x y ≡ y
 unfolding orFault
 or-right x y h = rw (eq-eqb x 0 h) refl
-
-not-zero : (k : ℕ) → _≡_ {A = ℕ} (suc k) 0 → ⊥
-not-zero k e = omega arith
 
 and-true : (b : Bool) → b ≡ (b && true)
 and-true true = refl
@@ -65,26 +64,27 @@ module _ (f : Frame) (masks : List ℕ) (k : ℕ) (good : Bool) (h : good ≡ al
       h ∙ and-true (allOf k (row? f masks)) ∙ ap (λ b. allOf k (row? f masks) && b) own ∙ sym (all-turn k (row? f masks))
 
 -- ---- the chain of the definition
--- p: n and i are in range; m: l is at most 300000; z: l is 0. What stands behind these tests may lean on them.
-abbrev chain? : Bool → Bool → Bool → Bool → Bool → ℕ
-chain? p m z lists rest = pick p (pick m (pick z 3 (pick lists (pick rest 0 17) 6)) 16) 15
+-- p: n and i are in range; counts: what is refused of the counts. What stands behind these tests may lean on them.
+abbrev chain? : Bool → ℕ → Bool → Bool → ℕ
+chain? p counts lists rest = pick p (orFault counts (pick lists (pick rest 0 17) 6)) 15
 
-chain : (p m z lists lists′ rest rest′ : Bool) → (p ≡ true → m ≡ true → z ≡ false → (lists ≡ lists′) × (rest ≡ rest′))
-    → chain? p m z lists rest ≡ chain? p m z lists′ rest′
-chain false m z lists lists′ rest rest′ h = refl
-chain true false z lists lists′ rest rest′ h = refl
-chain true true true lists lists′ rest rest′ h = refl
-chain true true false lists lists′ rest rest′ h = let e = h refl refl refl in rw (e .0, e .1) refl
-
-chained : (p m z lists rest : Bool)
-    → orFault (pick p 0 15) (orFault (pick m 0 16) (orFault (pick (not z) 0 3) (orFault (pick lists 0 6) (pick rest 0 17))))
-    ≡ chain? p m z lists rest
+chain : (p : Bool) (counts : ℕ) (lists lists′ rest rest′ : Bool) → (p ≡ true → counts ≡ 0 → (lists ≡ lists′) × (rest ≡ rest′))
+    → chain? p counts lists rest ≡ chain? p counts lists′ rest′
 unfolding orFault
-chained false m z lists rest = refl
-chained true false z lists rest = refl
-chained true true true lists rest = refl
-chained true true false false rest = refl
-chained true true false true rest = refl
+chain false counts lists lists′ rest rest′ h = refl
+chain true counts lists lists′ rest rest′ h = go (eqb counts 0) refl
+  where
+    go : (z : Bool) → eqb counts 0 ≡ z
+        → _≡_ {A = ℕ} (pick z (pick lists (pick rest 0 17) 6) counts) (pick z (pick lists′ (pick rest′ 0 17) 6) counts)
+    go true e = let q = h refl (eqb-true counts 0 e) in rw (q .0, q .1) refl
+    go false e = refl
+
+chained : (p : Bool) (counts : ℕ) (lists rest : Bool)
+    → orFault (pick p 0 15) (orFault counts (orFault (pick lists 0 6) (pick rest 0 17))) ≡ chain? p counts lists rest
+unfolding orFault
+chained false counts lists rest = refl
+chained true counts false rest = refl
+chained true counts true rest = refl
 
 -- ---- what stands behind the tests of the numbers and the lengths
 module _ (f : Frame) where
@@ -97,18 +97,13 @@ module _ (f : Frame) where
   abbrev l : ℕ
   l = f .l
 
-  -- n and i are in range, l is at most 300000 and isn't 0
-  in-chain : (leb 2 n && leb n 8 && ltb i n) ≡ true → leb l 300000 ≡ true → eqb l 0 ≡ false → Ranged f
-  in-chain p m z =
+  -- n, i and l are in range
+  in-chain : (leb 2 n && leb n 8 && ltb i n) ≡ true → (counts : ℕ) → Counted f counts → counts ≡ 0 → Ranged f
+  in-chain p counts h z =
       let q = and-3 (leb 2 n) (leb n 8) (ltb i n) p in
       record {
         own = ltb-true i n (q .2);
-        range = record {
-          two = leb-true 2 n (q .0);
-          eight = leb-true n 8 (q .1);
-          one = omega (arith, eqb-false l 0 z);
-          most = leb-true l 300000 m;
-        };
+        range = record { two = leb-true 2 n (q .0); eight = leb-true n 8 (q .1); one = h z .0; most = h z .1 };
       }
 
   out-due : InRange n l → outLen n l 0 ≡ (n - 1) * msgLen n l 1
@@ -117,20 +112,16 @@ module _ (f : Frame) where
   work-due : InRange n l → pick (inRange n l) (workLen f) 0 ≡ workLen f
   work-due r = rw (in-range n l r) refl
 
-  pub due-of : (v : Lens) → lengthsFault f (v .bits) (v .alpha) (v .beta) (buffers? f v) ≡ 0 → Due f v
-  unfolding lengthsFault listsDue buffers? sizeOf sizes
-  due-of v h =
-      let e15 = pick-then (leb 2 n && leb n 8 && ltb i n) _ _ _ (not-zero 14) h in
-      let e16 = pick-then (leb l 300000) _ _ _ (not-zero 15) (e15 .1) in
-      let e3 = pick-else (eqb l 0) _ _ _ (not-zero 2) (e16 .1) in
-      let e6 = pick-then (listsDue f (v .bits) (v .alpha) (v .beta)) _ _ _ (not-zero 5) (e3 .1) in
-      let e17 = pick-then (buffers? f v) _ _ _ (not-zero 16) (e6 .1) in
-      let k = in-chain (e15 .0) (e16 .0) (e3 .0) in
-      let r = k .range in
-      let s = and-3 _ _ _ (e6 .0) in
-      let b = and-6 _ _ _ _ _ _ (e17 .0) in
+  pub due-of : (v : Lens) (counts : ℕ) → Counted f counts → lengthsFault f counts (v .bits) (v .alpha) (v .beta) (buffers? f v) ≡ 0
+      → Due f v
+  unfolding listsDue buffers? sizeOf sizes
+  due-of v counts c h =
+      let w = within f counts (v .bits) (v .alpha) (v .beta) (buffers? f v) h in
+      let r : InRange n l = record { two = w .two; eight = w .eight; one = c (w .none) .0; most = c (w .none) .1 } in
+      let s = and-3 _ _ _ (w .lists) in
+      let b = and-6 _ _ _ _ _ _ (w .buffers) in
       record {
-        ranges = k;
+        ranges = record { own = w .own; range = r };
         lists = record { bits = eqb-true _ _ (s .0); alpha = eqb-true _ _ (s .1); beta = eqb-true _ _ (s .2) };
         seeds = record {
           delta = eqb-true _ _ (b .0);
@@ -143,18 +134,60 @@ module _ (f : Frame) where
       }
 
   -- the tests of the numbers and of the lengths, one after another
-  pub tested : (bits alpha beta : ℕ) (rest : Bool)
-      → orFault (pick (parties? n && ltb i n) 0 15) (orFault (pick (leb l 300000) 0 16) (orFault (pick (not (eqb l 0)) 0 3)
-      (orFault (pick (lists? f bits alpha beta) 0 6) (pick rest 0 17)))) ≡ lengthsFault f bits alpha beta rest
+  pub tested : (counts : ℕ) → Counted f counts → (bits alpha beta : ℕ) (rest : Bool)
+      → orFault (pick (parties? n && ltb i n) 0 15) (orFault counts (orFault (pick (lists? f bits alpha beta) 0 6) (pick rest 0 17)))
+      ≡ lengthsFault f counts bits alpha beta rest
   unfolding lengthsFault listsDue lists? parties?
-  tested bits alpha beta rest =
-      chained (leb 2 n && leb n 8 && ltb i n) (leb l 300000) (eqb l 0) (lists? f bits alpha beta) rest
-      ∙ chain (leb 2 n && leb n 8 && ltb i n) (leb l 300000) (eqb l 0) (lists? f bits alpha beta) (listsDue f bits alpha beta) rest rest
-      (λ p m z. let r = in-chain p m z .range in (rw (bits-len n l r, shares-len n l r) refl, refl))
+  tested counts c bits alpha beta rest =
+      chained (leb 2 n && leb n 8 && ltb i n) counts (lists? f bits alpha beta) rest
+      ∙ chain (leb 2 n && leb n 8 && ltb i n) counts (lists? f bits alpha beta) (listsDue f bits alpha beta) rest rest
+      (λ p z. let r = in-chain p counts c z .range in (rw (bits-len n l r, shares-len n l r) refl, refl))
+
+-- ---- the counts
+-- with the sum that the code has, the lengths due mean what they should
+pub counted : (n i : ℕ) (c : List ℕ) (l code : ℕ) → l ≡ sumOf c → code ≡ countsFault c → Counted (frame n l i) code
+counted n i c l code hl hc z =
+    let t = taken c (sym hc ∙ z) in
+    let e : l ≡ total c = sum-taken c l hl (sym hc ∙ z) in
+    (omega (arith, t .one, e), omega (arith, t .sum, e))
+
+-- where the counts are refused it makes no difference which l stands behind
+module _ (n i : ℕ) (c : List ℕ) where
+  lengths-same : (bits alpha beta : ℕ) (rest rest′ : Bool) → (countsFault c ≡ 0 → rest ≡ rest′)
+      → lengthsFault (frame n (sumOf c) i) (countsFault c) bits alpha beta rest
+      ≡ lengthsFault (frame n (total c) i) (countsFault c) bits alpha beta rest′
+  unfolding lengthsFault
+  lengths-same bits alpha beta rest rest′ h =
+      chain (leb 2 n && leb n 8 && ltb i n) (countsFault c) _ _ rest rest′
+      (λ p z. (ap (λ l. listsDue (frame n l i) bits alpha beta) (sum-taken c (sumOf c) refl z), h z))
+
+  pub lengths-as : (m code bits alpha beta : ℕ) (rest : Bool) → m ≡ sumOf c → code ≡ countsFault c
+      → lengthsFault (frame n m i) code bits alpha beta rest ≡ lengthsFault (frame n (total c) i) (countsFault c) bits alpha beta rest
+  lengths-as m code bits alpha beta rest hl hc = rw (hl, hc) (lengths-same bits alpha beta rest rest (λ z. refl))
+
+  some-fault : (m bits alpha beta : ℕ) (rest : Bool) → countsFault c ≢ 0
+      → lengthsFault (frame n m i) (countsFault c) bits alpha beta rest ≢ 0
+  some-fault m bits alpha beta rest ne z = ne (within (frame n m i) (countsFault c) bits alpha beta rest z .none)
+
+  pub found-as : (m code : ℕ) (v : Lens) (bits alpha beta masks : List ℕ) → m ≡ sumOf c → code ≡ countsFault c
+      → foundAt (frame n m i) code v bits alpha beta masks ≡ foundAt (frame n (total c) i) (countsFault c) v bits alpha beta masks
+  unfolding foundAt
+  found-as m code v bits alpha beta masks hl hc = rw (hl, hc) (go (eqb (countsFault c) 0) refl)
+    where
+      go : (b : Bool) → eqb (countsFault c) 0 ≡ b
+          → foundAt (frame n (sumOf c) i) (countsFault c) v bits alpha beta masks
+          ≡ foundAt (frame n (total c) i) (countsFault c) v bits alpha beta masks
+      go true e =
+          ap (λ m. foundAt (frame n m i) (countsFault c) v bits alpha beta masks) (sum-taken c (sumOf c) refl (eqb-true (countsFault c) 0 e))
+      go false e =
+          let ne : countsFault c ≢ 0 = eqb-false (countsFault c) 0 e in
+          or-left _ _ (some-fault (sumOf c) (v .bits) (v .alpha) (v .beta) _ ne)
+          ∙ lengths-same (v .bits) (v .alpha) (v .beta) _ _ (λ z. absurd (ne z))
+          ∙ sym (or-left _ _ (some-fault (total c) (v .bits) (v .alpha) (v .beta) _ ne))
 
 module _ (a : Args) where
   abbrev f : Frame
-  f = a .party
+  f = party a
 
   buffers-same : InRange (f .n) (f .l) → buffersDue a ≡ buffers? f (lens a)
   unfolding buffersDue buffers?
@@ -164,28 +197,38 @@ module _ (a : Args) where
   unfolding bytesFault masksFault bytesOf masks? row?
   bytes-same = refl
 
+  -- the sum is in range where nothing is refused of the counts
+  ranged : Counted f (countsFault (a .counts))
+  ranged z = let t = taken (a .counts) z in (t .one, t .sum)
+
   pub reason-found : reason a ≡ found a
-  unfolding reason lengthsFault
+  unfolding reason lengthsFault foundAt
   reason-found =
       ap₂ orFault
-      (chain (leb 2 (f .n) && leb (f .n) 8 && ltb (f .i) (f .n)) (leb (f .l) 300000) (eqb (f .l) 0)
+      (chain (leb 2 (f .n) && leb (f .n) 8 && ltb (f .i) (f .n)) (countsFault (a .counts))
       (listsDue f (length (a .bits)) (length (a .alpha)) (length (a .beta))) _
-      (buffersDue a) (buffers? f (lens a)) (λ p m z. (refl, buffers-same (in-chain f p m z .range))))
+      (buffersDue a) (buffers? f (lens a)) (λ p z. (refl, buffers-same (in-chain f p _ ranged z .range))))
       bytes-same
 
   -- it is refused
   pub refuses : (code : ℕ) → code ≡ found a → code ≢ 0
-      → outcome (record { party = f; due = 0 }) (Refused code (f .i)) (a .work) (a .out) ≡ spec a
+      → outcome (noSession (a .n) (a .i)) (Refused code (a .i)) (a .work) (a .out) ≡ spec a
   unfolding spec
   refuses code e h =
       let q : code ≡ reason a = e ∙ sym reason-found in
-      rw (ne-eqb (reason a) 0 (λ z. h (q ∙ z))) (ap (λ k. outcome (record { party = f; due = 0 }) (Refused k (f .i)) (a .work) (a .out)) q)
+      rw (ne-eqb (reason a) 0 (λ z. h (q ∙ z))) (ap (λ k. outcome (noSession (a .n) (a .i)) (Refused k (a .i)) (a .work) (a .out)) q)
 
   -- it is not
   pub accepts : (code : ℕ) → code ≡ found a → code ≡ 0
-      → spec a ≡ outcome (record { party = f; due = 1 }) Accepted (area a) (toOthers (f .n) (f .i) (λ r. Toss.commMsg (a .seed) (f .i)))
+      → spec a ≡ outcome (record { party = f; due = 1; counts = tally (a .counts) }) Accepted (area a)
+      (toOthers (f .n) (f .i) (λ r. Toss.commMsg (a .seed) (f .i)))
   unfolding spec
   accepts code e h = rw (eq-eqb (reason a) 0 (reason-found ∙ sym e ∙ h)) refl
 
   pub due : (code : ℕ) → code ≡ found a → code ≡ 0 → Due f (lens a)
-  due code e h = due-of f (lens a) (neither _ _ (sym e ∙ h) .0)
+  unfolding foundAt
+  due code e h = due-of f (lens a) _ ranged (neither _ _ (sym e ∙ h) .0)
+
+  pub taken-counts : (code : ℕ) → code ≡ found a → code ≡ 0 → countsFault (a .counts) ≡ 0
+  unfolding foundAt
+  taken-counts code e h = within f _ _ _ _ _ (neither _ _ (sym e ∙ h) .0) .none

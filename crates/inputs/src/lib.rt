@@ -1,5 +1,5 @@
 // What opening refuses (document 01, "Opening: 15, 16, 3 for l = 0, 6, 17, then lent bytes in order (1 before 4)"; document 02, order 5: 22
-// between the two): the lengths and the bytes of its inputs. The definition stands in crates/rounds (Opening). Secret bytes decide nothing
+// between the two; order 7: 23 before 16, of the counts: crate batches): the lengths and the bytes of its inputs. The definition stands in crates/rounds (Opening). Secret bytes decide nothing
 // but a refusal: bit bytes, own entries and mask bytes (1, 4).
 ghost use mathlib.Core.Path.{_≡_};
 ghost use Prim.Native.Nat.{_+_, _*_, _≤_, _<_};
@@ -10,7 +10,7 @@ ghost use Rattle.lists.specs.Pick.{pick};
 ghost use Rattle.rounds.specs.Area.{MASKS, sizeOf};
 ghost use Rattle.rounds.specs.Opening.{orFault, lengthsFault};
 ghost use Rattle.area.specs.Given.{Ranged};
-ghost use Rattle.inputs.specs.Given.{lists?, buffers?, masks?, bytesOf, Lists};
+ghost use Rattle.inputs.specs.Given.{Counted, lists?, buffers?, masks?, bytesOf, foundAt, Lists};
 use engine::Frame;
 
 // The lengths of what is lent.
@@ -64,20 +64,18 @@ fn buffers_due(f: Frame, v: Lens) -> bool
         & (v.out == plan::out_len(n, l, 0))
 }
 
-// The first reason that the numbers and the lengths give, 15, 16, 3, 6, 17, by the lengths of the share lists and whether the rest is
-// as long as it should. Where n or l is refused, the lengths due mean nothing.
-pub fn lengths_fault(f: Frame, bits: usize, alpha: usize, beta: usize, rest: bool) -> u8
-    ensures { λ r. ⌜ r ≡ lengthsFault f bits alpha beta rest ⌝ }
+// The first reason that the numbers and the lengths give, 15, that of the counts, 6, 17, by the lengths of the share lists and whether the
+// rest is as long as it should. Where n or the counts are refused, the lengths due mean nothing.
+pub fn lengths_fault(f: Frame, counts: u8, bits: usize, alpha: usize, beta: usize, rest: bool) -> u8
+    requires { ⌜ Counted f counts ⌝ }
+    ensures { λ r. ⌜ r ≡ lengthsFault f counts bits alpha beta rest ⌝ }
 {
     let n = f.n;
     let i = f.i;
-    let l = f.l;
     let party = unless(plan::parties(n) & (i < n), 15);
-    let most = unless(l <= 300000, 16);
-    let some = unless(l != 0, 3);
     let lists = unless(lists_due(f, bits, alpha, beta), 6);
     let buffers = unless(rest, 17);
-    first(party, first(most, first(some, first(lists, buffers))))
+    first(party, first(counts, first(lists, buffers)))
 }
 
 // Whether `count` bytes from `at` on are 0 or 1. All are looked at.
@@ -130,14 +128,22 @@ fn bytes_fault(f: Frame, bits: &[u8], alpha: &[u8], beta: &[u8], masks: &[u8]) -
     first(b, first(x, first(y, m)))
 }
 
-// The first reason to refuse, 0 for none.
-pub fn reason(f: Frame, v: Lens, bits: &[u8], alpha: &[u8], beta: &[u8], masks: &[u8]) -> u8
+// The first reason to refuse, 0 for none; counts: that of the counts.
+pub fn reason(
+    f: Frame,
+    counts: u8,
+    v: Lens,
+    bits: &[u8],
+    alpha: &[u8],
+    beta: &[u8],
+    masks: &[u8],
+) -> u8
+    requires { ⌜ Counted f counts ⌝ }
     requires { ⌜ (v .bits ≡ length (now bits)) × (v .alpha ≡ length (now alpha)) × (v .beta ≡ length (now beta))
         × (v .masks ≡ length (now masks)) ⌝ }
-    ensures { λ r. ⌜ r ≡ orFault (lengthsFault f (v .bits) (v .alpha) (v .beta) (buffers? f v))
-        (bytesOf f (now (bits .entry)) (now (alpha .entry)) (now (beta .entry)) (now (masks .entry))) ⌝ }
+    ensures { λ r. ⌜ r ≡ foundAt f counts v (now (bits .entry)) (now (alpha .entry)) (now (beta .entry)) (now (masks .entry)) ⌝ }
 {
-    let code = lengths_fault(f, v.bits, v.alpha, v.beta, buffers_due(f, v));
+    let code = lengths_fault(f, counts, v.bits, v.alpha, v.beta, buffers_due(f, v));
     if code != 0 {
         return code;
     }

@@ -1,15 +1,19 @@
--- The calls for C (include/nuzsdike.h): a session is four numbers, an answer is one. What each leaves is what the call's definition leaves.
-use mathlib.Core.Bool.{_&&_}
-use mathlib.Core.List.{List, [], _∷_}
+-- The calls for C (include/nuzsdike.h): a session is twenty numbers, an answer is one, and what is told of the batches stands in a lent buffer.
+-- What each leaves is what the call's definition leaves.
+use mathlib.Core.Bool.{not, _&&_}
+use mathlib.Core.List.{List, [], _∷_, _++_}
 use Prim.Native.Nat.{ℕ, _+_, _*_}
-use lib.ListN.{length, getD}
+use lib.ListN.{length, getD, drop}
 use lib.Dec.{ltb, leb, eqb}
 use Rattle.lists.specs.Pick.{pick}
 use Rattle.share.specs.Lent.{lentLen}
+use Rattle.batches.specs.Batches.{total, countsFault, tally}
 use Rattle.plan.specs.Plan.{parties?, inRange, within, isRound, writes, bucketSize, msgLen}
 use Rattle.plan.specs.Names.{roundName}
+use Rattle.engine.specs.declared.Frame.{Frame}
 use Rattle.engine.specs.declared.Session.{Session}
 use Rattle.engine.specs.Step.{Lent, Reply, Accepted, Refused, Outcome, frame, roundSpec}
+use Rattle.engine.specs.OneBox.{taken}
 use Rattle.engine.specs.Area.{off}
 use Rattle.engine.specs.Plain.{protocolOf}
 use Rattle.rounds.specs.Area.{JOINT, PAIRWISE, sizeOf}
@@ -17,12 +21,29 @@ use Rattle.rounds.specs.Opening as Opening
 use Rattle.rounds.specs.Combine as Combine
 use Rattle.rounds.specs.Table.{table}
 
--- n, i, l and the round due
+-- n, i, l, the round due, and from COUNTS on the counts
+abbrev pub COUNTS : ℕ
+COUNTS = 4
+
+abbrev pub SESSION : ℕ
+SESSION = 20
+
+-- what is told of the batches
+abbrev pub TOLD : ℕ
+TOLD = 32
+
 unfoldable pub sessionAt : List ℕ → Session
-sessionAt s = record { party = record { n = getD s 0 0; i = getD s 1 0; l = getD s 2 0 }; due = getD s 3 0 }
+sessionAt s = record {
+  party = record { n = getD s 0 0; i = getD s 1 0; l = getD s 2 0 };
+  due = getD s 3 0;
+  counts = tally (drop COUNTS s);
+}
+
+unfoldable pub headOf : Frame → ℕ → List ℕ
+headOf f due = f .n ∷ f .i ∷ f .l ∷ due ∷ []
 
 unfoldable pub numbersOf : Session → List ℕ
-numbersOf s = s .party .n ∷ s .party .i ∷ s .party .l ∷ s .due ∷ []
+numbersOf s = headOf (s .party) (s .due) ++ s .counts
 
 -- 0 for accepted; else the number in the low byte, and the party above it
 unfoldable pub packedOf : Reply → ℕ
@@ -46,24 +67,47 @@ exported answer session work out = record { answer = answer; session = session; 
 unfoldable pub ofOutcome : Outcome → Exported
 ofOutcome o = exported (packedOf (o .reply)) (numbersOf (o .session)) (o .work) (o .out)
 
--- "Opening: 15, 16, 3 for l = 0, 6, 17, then lent bytes in order", where the session is one more of the buffers whose length is due
+-- opening's reasons, where the session is one more of the buffers whose length is due
 unfoldable pub openReason : List ℕ → Opening.Args → ℕ
 openReason s a =
     Opening.orFault
-    (Opening.lengthsFault (a .party) (length (a .bits)) (length (a .alpha)) (length (a .beta)) (eqb (length s) 4 && Opening.buffersDue a))
+    (Opening.lengthsFault (Opening.party a) (countsFault (a .counts)) (length (a .bits)) (length (a .alpha)) (length (a .beta))
+    (eqb (length s) SESSION && Opening.buffersDue a))
     (Opening.bytesFault a)
 
 -- a refused opening leaves everything as it was, a session that stands in the buffer too
 unfoldable pub openC : List ℕ → Opening.Args → Exported
 openC s a =
     pick (eqb (openReason s a) 0) (ofOutcome (Opening.spec a))
-    (exported (packedOf (Refused (openReason s a) (a .party .i))) s (a .work) (a .out))
+    (exported (packedOf (Refused (openReason s a) (a .i))) s (a .work) (a .out))
+
+-- what a round call leaves, the buffer for the batches with it
+pub record Turned : Type 0 where
+  pub call : Exported
+  pub told : List ℕ
+
+abbrev pub turned : Exported → List ℕ → Turned
+turned call told = record { call = call; told = told }
+
+-- "Round 22 also answers" (02, order 7): an accepted call after which no round is due writes the buffer, and no other does
+unfoldable pub toldC : Reply → ℕ → List ℕ → List ℕ → List ℕ
+toldC v due told b = pick (taken v && eqb due 0) told b
+
+unfoldable pub ofTurn : Outcome → List ℕ → Turned
+ofTurn o b = turned (ofOutcome o) (toldC (o .reply) (o .session .due) (o .told) b)
+
+-- "20, 19, 17", where that buffer has another length than is due
+unfoldable pub toldReason : Session → ℕ → ℕ
+toldReason s k = pick (not (protocolOf table .alive s)) 20 (pick (not (eqb k (s .due))) 19 17)
 
 -- a session of another length is none that opening can have made: 20, and there is no i to name
-unfoldable pub roundC : List ℕ → ℕ → Lent → List ℕ → Exported
-roundC s k q w =
-    pick (eqb (length s) 4) (ofOutcome (roundSpec (protocolOf table) (sessionAt s) k q w))
-    (exported (packedOf (Refused 20 NO-PARTY)) s w (q .out))
+unfoldable pub roundC : List ℕ → ℕ → Lent → List ℕ → List ℕ → Turned
+roundC s k q w b =
+    pick (eqb (length s) SESSION)
+    (pick (eqb (length b) TOLD)
+    (ofTurn (roundSpec (protocolOf table) (sessionAt s) k q w) b)
+    (turned (exported (packedOf (Refused (toldReason (sessionAt s) k) (sessionAt s .party .i))) s w (q .out)) b))
+    (turned (exported (packedOf (Refused 20 NO-PARTY)) s w (q .out)) b)
 
 -- combining has no session
 pub record Combined : Type 0 where
@@ -77,9 +121,13 @@ unfoldable pub combineC : Combine.Args → Combined
 combineC a = combined (packedOf (Combine.spec a .reply)) (Combine.spec a .out)
 
 -- ---- what a host asks; 0 where there is none
+-- the sum of a list of counts, or the refusal: a call that has no own number names no party
+unfoldable pub sumC : List ℕ → ℕ
+sumC c = pick (eqb (countsFault c) 0) (total c) (packedOf (Refused (countsFault c) NO-PARTY))
+
 -- the round due
 unfoldable pub dueOf : List ℕ → ℕ
-dueOf s = pick (eqb (length s) 4 && protocolOf table .alive (sessionAt s)) (getD s 3 0) 0
+dueOf s = pick (eqb (length s) SESSION && protocolOf table .alive (sessionAt s)) (getD s 3 0) 0
 
 -- the round after round k of n parties, the first after opening (k = 0)
 unfoldable pub roundAfter : ℕ → ℕ → ℕ

@@ -1,4 +1,4 @@
-// The interface for C: include/nuzsdike.h. Numbers and slices only; a session is four numbers in a lent buffer, an answer is one number.
+// The interface for C: include/nuzsdike.h. Numbers and slices only; a session is twenty numbers in a lent buffer, an answer is one number.
 // The calls promise what `opening`, `session` and `combine` promise, refused calls included; the rest tells a host the lengths of what it
 // lends.
 ghost use mathlib.Core.Path.{_≡_};
@@ -8,7 +8,7 @@ ghost use Rattle.rounds.specs.Area.{workLen};
 ghost use Rattle.rounds.specs.Combine as Combine;
 ghost use Rattle.inputs.specs.Given.{args};
 ghost use Rattle.admit.specs.Admit.{given};
-ghost use Rattle.interface.specs.Interface.{exported, openC, roundC, combined, combineC, dueOf};
+ghost use Rattle.interface.specs.Interface.{exported, openC, turned, roundC, combined, combineC, sumC, dueOf};
 ghost use Rattle.interface.specs.Interface.{roundAfter, messageLen, nameByte, recordBytes, bucketOf, jointAt, pairwiseAt};
 use engine::Frame;
 use engine::Verdict;
@@ -21,7 +21,7 @@ pub extern "C" fn nuzsdike_open(
     session: &mut [u32],
     n: u32,
     i: u32,
-    l: u32,
+    counts: &[u32],
     delta: &[u8],
     seed: &[u8],
     pairs: &[u8],
@@ -33,23 +33,24 @@ pub extern "C" fn nuzsdike_open(
     out: &mut [u8],
 ) -> u64
     ensures { λ r. ⌜ exported r (now (session .exit)) (now (work .exit)) (now (out .exit)) ≡ openC (now (session .entry))
-        (args n i l (now (delta .entry)) (now (seed .entry)) (now (pairs .entry)) (now (bits .entry)) (now (alpha .entry)) (now (beta .entry)) (now (masks .entry))
+        (args n i (now (counts .entry)) (now (delta .entry)) (now (seed .entry)) (now (pairs .entry)) (now (bits .entry)) (now (alpha .entry)) (now (beta .entry)) (now (masks .entry))
         (now (work .entry)) (now (out .entry))) ⌝ }
 {
     let own = i as usize;
-    if session.len() != 4 {
+    if session.len() != interface::SESSION {
         let f = Frame {
             n: n as usize,
             i: own,
-            l: l as usize,
+            l: batches::sum(counts),
         };
-        let code = inputs::lengths_fault(f, bits.len(), alpha.len(), beta.len(), false);
+        let refused = batches::fault(counts);
+        let code = inputs::lengths_fault(f, refused, bits.len(), alpha.len(), beta.len(), false);
         return interface::packed(code, own);
     }
     let a = opening::open(
         n as usize,
         own,
-        l as usize,
+        counts,
         delta,
         seed,
         pairs,
@@ -83,15 +84,20 @@ pub extern "C" fn nuzsdike_round(
     r: &[u8],
     work: &mut [u8],
     out: &mut [u8],
+    told: &mut [u32],
 ) -> u64
-    ensures { λ a. ⌜ exported a (now (session .exit)) (now (work .exit)) (now (out .exit)) ≡ roundC (now (session .entry)) round
+    ensures { λ a. ⌜ turned (exported a (now (session .exit)) (now (work .exit)) (now (out .exit))) (now (told .exit)) ≡ roundC (now (session .entry)) round
         (given (now (incoming .entry)) (now (starts .entry)) (now (lens .entry)) (now (missing .entry)) (now (r .entry)) (now (out .entry)))
-        (now (work .entry)) ⌝ }
+        (now (work .entry)) (now (told .entry)) ⌝ }
 {
-    if session.len() != 4 {
+    if session.len() != interface::SESSION {
         return interface::packed(20, interface::NO_PARTY);
     }
     let s = interface::load(session);
+    if told.len() != batches::TOLD {
+        let party = s.party;
+        return interface::packed(interface::told_reason(s, round as usize), party.i);
+    }
     let step = session::round(
         s,
         round as usize,
@@ -105,7 +111,9 @@ pub extern "C" fn nuzsdike_round(
     );
     let after = step.session;
     let verdict = step.verdict;
+    let pairs = step.told;
     interface::store(session, after);
+    interface::tell(told, verdict, after.due, pairs);
     interface::answer(verdict)
 }
 
@@ -125,6 +133,14 @@ pub extern "C" fn nuzsdike_combine(
 }
 
 // ---- lengths
+
+// The l of a list of counts, or why opening refuses them.
+#[no_mangle]
+pub extern "C" fn nuzsdike_sum(counts: &[u32]) -> u64
+    ensures { λ r. ⌜ r ≡ sumC (now (counts .entry)) ⌝ }
+{
+    interface::sum(counts)
+}
 
 #[no_mangle]
 pub extern "C" fn nuzsdike_work_len(n: u32, l: u32) -> usize

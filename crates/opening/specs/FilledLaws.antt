@@ -1,5 +1,5 @@
 -- The work area as opening fills it: the inputs one behind another, zeros behind them.
-use mathlib.Core.Path.{_≡_, refl, sym, ap, ap₂, _∙_}
+use mathlib.Core.Path.{_≡_, refl, sym, ap, ap₂, _∙_, subst}
 use mathlib.Core.List.{List, _++_, append-assoc, append-nil}
 use Prim.Native.Nat.{ℕ, zero, suc, _+_, _-_, _<_, _≤_}
 use native.Mathlib.Nat.{add-zero, add-suc, add-assoc}
@@ -13,13 +13,15 @@ use Rattle.lists.specs.Over.{cat, Written, written-zero, written-turn}
 use Rattle.lists.specs.Rows.{cat-part}
 use Rattle.lists.specs.Sect.{get, put, length-get}
 use Rattle.share.specs.LentLaws.{length-kept}
+use Rattle.batches.specs.Batches.{total, tally, untold}
 use Rattle.plan.specs.Plan.{bitsCount}
 use Rattle.engine.specs.declared.Frame.{Frame}
-use Rattle.engine.specs.Step.{Accepted, outcome}
+use Rattle.engine.specs.declared.Session.{Session}
+use Rattle.engine.specs.Step.{frame, Reply, Accepted, leaves, outcome}
 use Rattle.engine.specs.Area.{off, sec, putSec, toOthers}
 use Rattle.rounds.specs.Area.{SEED, BITS, SECTIONS, sizes, sizeOf, workLen, at, keep}
 use Rattle.rounds.specs.Toss as Toss
-use Rattle.rounds.specs.Opening.{Args, kept, section, area, spec}
+use Rattle.rounds.specs.Opening.{Args, party, kept, section, area, spec}
 use Rattle.area.specs.Given.{Work}
 use Rattle.area.specs.GivenLaws.{section-inside}
 use Rattle.area.specs.Sizes.{size-bits, size-alpha, size-beta}
@@ -72,7 +74,7 @@ module _ (size : ℕ → ℕ) (g : ℕ → List ℕ) where
 
 -- ---- opening's
 -- all else is zero
-section-zero : (a : Args) (s : ℕ) → EMPTY ≤ s → section a s ≡ replicate (sizeOf (a .party) s) 0
+section-zero : (a : Args) (s : ℕ) → EMPTY ≤ s → section a s ≡ replicate (sizeOf (party a) s) 0
 unfolding section
 section-zero a s h =
     rw (
@@ -86,9 +88,9 @@ section-zero a s h =
     ) refl
 
 -- where nothing is refused
-module _ (a : Args) (D : Due (a .party) (lens a)) where
+module _ (a : Args) (D : Due (party a) (lens a)) where
   abbrev f : Frame
-  f = a .party
+  f = party a
 
   pub given : Work f (a .work)
   given = record { ranges = D .ranges; whole = D .work }
@@ -148,14 +150,30 @@ module _ (a : Args) (D : Due (a .party) (lens a)) where
       ap₂ (λ o m. take m (drop o (cat SECTIONS (section (kept a))))) (sym before-seed) (sym (D .seeds .seed))
       ∙ cat-part SECTIONS (section (kept a)) SEED (omega arith)
 
-  pub left : (code : ℕ) (w o : List ℕ) → code ≡ found a → code ≡ 0 → w ≡ cleared f inputs
+  left : (code : ℕ) (w o : List ℕ) → code ≡ found a → code ≡ 0 → w ≡ cleared f inputs
       → o ≡ toOthers (f .n) (f .i) (λ r. Toss.commMsg (at f SEED w) (f .i))
-      → outcome (record { party = f; due = 1 }) Accepted w o ≡ spec a
+      → outcome (record { party = f; due = 1; counts = tally (a .counts) }) Accepted w o ≡ spec a
   left code w o e z hw ho =
       let h = hw ∙ filled in
-      ap₂ (λ (x y : List ℕ). outcome (record { party = f; due = 1 }) Accepted x y) h
+      ap₂ (λ (x y : List ℕ). outcome (record { party = f; due = 1; counts = tally (a .counts) }) Accepted x y) h
       (ho ∙ ap (λ (x : List ℕ). toOthers (f .n) (f .i) (λ r. Toss.commMsg x (f .i))) (ap (at f SEED) h ∙ seed-kept))
       ∙ sym (accepts a code e z)
+
+  -- with the sum as the code has it
+  pub record Leaves (l : ℕ) (s : Session) (v : Reply) (t counts w o : List ℕ) : Type 0 where
+    pub session-is : s ≡ record { party = frame (a .n) l (a .i); due = 1; counts = counts }
+    pub reply-is : v ≡ Accepted
+    pub told-is : t ≡ untold
+    pub counts-are : counts ≡ tally (a .counts)
+    pub work-is : (let g : Frame = frame (a .n) l (a .i) in
+        w ≡ cleared g (withLists g (a .bits) (a .alpha) (a .beta) (withSeeds g (a .delta) (a .seed) (a .pairs) (a .masks) (a .work))))
+    pub out-is : o ≡ toOthers (a .n) (a .i) (λ r. Toss.commMsg (at (frame (a .n) l (a .i)) SEED w) (a .i))
+
+  pub opened : (code l : ℕ) (s : Session) (v : Reply) (t counts w o : List ℕ) → code ≡ found a → code ≡ 0 → l ≡ total (a .counts)
+      → Leaves l s v t counts w o → leaves s v t w o ≡ spec a
+  opened code l s v t counts w o e z hl x =
+      let y : Leaves (total (a .counts)) s v t counts w o = subst (λ l. Leaves l s v t counts w o) hl x in
+      rw (y .session-is, y .reply-is, y .told-is, y .counts-are) (left code w o e z (y .work-is) (y .out-is))
 
 -- `&mut w[o..]` left as zeros
 pub clears : {f : Frame} {w : List ℕ} → Work f w → (o : ℕ) (z : List ℕ) → o ≡ off (sizeOf f) EMPTY → o ≤ length w

@@ -5,11 +5,13 @@ ghost use Prim.Native.Nat.{_*_, _<_, _≤_};
 ghost use lib.ListN.{length};
 ghost use Rattle.share.specs.Record.{recordLen};
 ghost use Rattle.share.specs.Lent.{lentLen, keptOf};
-ghost use Rattle.engine.specs.Step.{replyOf, outcome};
+ghost use Rattle.engine.specs.Step.{replyOf, leaves};
 ghost use Rattle.rounds.specs.Area.{MASKS, SECTIONS, sizeOf, keep};
+ghost use Rattle.rounds.specs.Opening.{noSession};
 ghost use Rattle.rounds.specs.Opening as Opening;
 ghost use Rattle.area.specs.Given.{Work};
 ghost use Rattle.inputs.specs.Given.{args, cleared, withSeeds, withLists, Seeds, Lists};
+use batches::Counts;
 use engine::Answer;
 use engine::Frame;
 use engine::Session;
@@ -113,11 +115,25 @@ fn fill(
     clear_rest(work, f);
 }
 
-// Opens a session: document 01, "The call". A refused opening leaves the work area and the outgoing buffer as they were.
+// What stands for a session where opening is refused: none of its rounds is due.
+fn no_session(n: usize, i: usize) -> Session
+    ensures { λ r. ⌜ r ≡ noSession n i ⌝ }
+{
+    let f = Frame { n: n, i: i, l: 0 };
+    let counts: Counts = [0; batches::MOST];
+    Session {
+        party: f,
+        due: 0,
+        counts: counts,
+    }
+}
+
+// Opens a session: document 01, "The call". The counts of its batches make l (document 02, order 7). A refused opening leaves the work area
+// and the outgoing buffer as they were.
 pub fn open(
     n: usize,
     i: usize,
-    l: usize,
+    counts: &[u32],
     delta: &[u8],
     seed: &[u8],
     pairs: &[u8],
@@ -128,8 +144,8 @@ pub fn open(
     work: &mut [u8],
     out: &mut [u8],
 ) -> Answer
-    ensures { λ r. ⌜ outcome (r .session) (replyOf (r .verdict)) (now (work .exit)) (now (out .exit)) ≡ Opening.spec
-        (args n i l (now (delta .entry)) (now (seed .entry)) (now (pairs .entry)) (now (bits .entry)) (now (alpha .entry)) (now (beta .entry))
+    ensures { λ r. ⌜ leaves (r .session) (replyOf (r .verdict)) (r .told) (now (work .exit)) (now (out .exit)) ≡ Opening.spec
+        (args n i (now (counts .entry)) (now (delta .entry)) (now (seed .entry)) (now (pairs .entry)) (now (bits .entry)) (now (alpha .entry)) (now (beta .entry))
         (now (masks .entry)) (now (work .entry)) (now (out .entry))) ⌝ }
 {
     let v = Lens {
@@ -143,18 +159,19 @@ pub fn open(
         work: work.len(),
         out: out.len(),
     };
+    let l = batches::sum(counts);
     let f = Frame { n: n, i: i, l: l };
-    let code = inputs::reason(f, v, bits, alpha, beta, masks);
+    let code = inputs::reason(f, batches::fault(counts), v, bits, alpha, beta, masks);
     if code != 0 {
-        return Answer {
-            session: Session { party: f, due: 0 },
-            verdict: Verdict::Refused(code, i),
-        };
+        return engine::silent(no_session(n, i), Verdict::Refused(code, i));
     }
     fill(work, delta, seed, pairs, bits, alpha, beta, masks, f);
     toss::write_commitments(out, work, f);
-    Answer {
-        session: Session { party: f, due: 1 },
-        verdict: Verdict::Accepted,
-    }
+    let kept = batches::kept(counts);
+    let opened = Session {
+        party: f,
+        due: 1,
+        counts: kept,
+    };
+    engine::silent(opened, Verdict::Accepted)
 }

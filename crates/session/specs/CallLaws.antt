@@ -1,18 +1,30 @@
 -- The three ways that a round call ends, against `roundSpec`.
-use mathlib.Core.Path.{_≡_, sym, ap, ap₂, _∙_}
+use mathlib.Core.Path.{_≡_, refl, sym, ap, ap₂, _∙_}
 use mathlib.Core.Logic.{_≢_}
 use mathlib.Core.List.{List}
 use Prim.Native.Nat.{ℕ}
 use lib.ListN.{length, replicate}
 use lib.Dec.{eqb}
+use borrow.Author.Tests.{eq-eqb, ne-eqb}
+use Rattle.batches.specs.Batches.{told, untold}
 use Rattle.plan.specs.Plan.{nextRound}
 use Rattle.engine.specs.declared.Session.{Session}
-use Rattle.engine.specs.Step.{Lent, Accepted, Refused, outcome, mask, part, reasonOf, faultOf, ended, refused, faulted, accepted}
+use Rattle.engine.specs.Step.{Lent, Accepted, Refused, leaves, outcome, toldAfter, mask, part, reasonOf, faultOf, ended, refused, faulted, accepted}
 use Rattle.engine.specs.Step.{roundSpec}
 use Rattle.engine.specs.StepLaws.{round-refuses, round-faults, round-accepts}
 use Rattle.engine.specs.Plain.{nextOf, ruleOf, protocolOf, keepOf, writeOf}
 use Rattle.rounds.specs.FaultLaws.{Finds}
 use Rattle.rounds.specs.Table.{table}
+
+-- what is answered of the batches
+module _ (due : ℕ) (counts : List ℕ) where
+  pub told-last : (t : List ℕ) → due ≡ 0 → t ≡ told counts → t ≡ toldAfter due counts
+  unfolding toldAfter
+  told-last t e h = rw (eq-eqb due 0 e) h
+
+  pub told-other : due ≢ 0 → untold ≡ toldAfter due counts
+  unfolding toldAfter
+  told-other ne = rw (ne-eqb due 0 ne) refl
 
 module _ (s : Session) (k : ℕ) (q : Lent) (w : List ℕ) where
   -- refused, and all as it was
@@ -36,12 +48,13 @@ module _ (s : Session) (k : ℕ) (q : Lent) (w : List ℕ) where
 
     -- accepted
     pub call-accepted : faultOf (ruleOf table k) (s .party) q w .code ≡ 0 → (next : ℕ) → next ≡ nextRound (s .party .n) k
-        → (m : ℕ → List ℕ) → m ≡ mask (s .party) (part q) → (v o : List ℕ)
+        → (t : List ℕ) → t ≡ toldAfter next (s .counts) → (m : ℕ → List ℕ) → m ≡ mask (s .party) (part q) → (v o : List ℕ)
         → v ≡ keepOf table k (s .party) (q .loan) w m → o ≡ writeOf table k (s .party) (q .loan) w m
-        → outcome (record { party = s .party; due = next }) Accepted v o ≡ roundSpec (protocolOf table) s k q w
+        → leaves (record { party = s .party; due = next; counts = s .counts }) Accepted t v o ≡ roundSpec (protocolOf table) s k q w
     unfolding accepted
-    call-accepted y next e m em v o ev eo =
-        ap (λ d. outcome (record { party = s .party; due = d }) Accepted v o) e
-        ∙ ap₂ (λ (a b : List ℕ). outcome (record { party = s .party; due = nextOf table (eqb (s .party .n) 2) k }) Accepted a b)
+    call-accepted y next e t et m em v o ev eo =
+        let d : ℕ = nextOf table (eqb (s .party .n) 2) k in
+        ap₂ (λ d u. leaves (record { party = s .party; due = d; counts = s .counts }) Accepted u v o) e (et ∙ ap (λ d. toldAfter d (s .counts)) e)
+        ∙ ap₂ (λ (a b : List ℕ). leaves (record { party = s .party; due = d; counts = s .counts }) Accepted (toldAfter d (s .counts)) a b)
         (ev ∙ ap (keepOf table k (s .party) (q .loan) w) em) (eo ∙ ap (writeOf table k (s .party) (q .loan) w) em)
         ∙ sym (round-accepts (protocolOf table) s k q w z y)

@@ -4,13 +4,14 @@
 ghost use mathlib.Core.Path.{_≡_};
 ghost use mathlib.Core.Bool.{false};
 ghost use mathlib.Core.List.{[]};
-ghost use Prim.Native.Nat.{ℕ, _*_, _≤_};
+ghost use Prim.Native.Nat.{ℕ, _*_, _<_, _≤_};
 ghost use lib.ListN.{length, replicate};
 ghost use lib.Dec.{eqb};
 ghost use Rattle.lists.specs.Pick.{pick};
 ghost use Rattle.share.specs.Lent.{lentLen};
 ghost use Rattle.plan.specs.Plan.{echo?};
-ghost use Rattle.engine.specs.Step.{mask, replyOf, outcome, faultOf, roundSpec};
+ghost use Rattle.batches.specs.Batches.{total};
+ghost use Rattle.engine.specs.Step.{mask, replyOf, leaves, toldAfter, faultOf, roundSpec};
 ghost use Rattle.engine.specs.Plain.{protocolOf, ruleOf, toEcho, outLenOf, lentOf, digests, hashes, checkOf, forEcho, keepOf, writeOf};
 ghost use Rattle.rounds.specs.Mail.{letter};
 ghost use Rattle.rounds.specs.FaultLaws.{Finds};
@@ -18,6 +19,8 @@ ghost use Rattle.rounds.specs.Table as Table;
 ghost use Rattle.rounds.specs.Table.{table};
 ghost use Rattle.admit.specs.Admit.{loan, given, posted};
 ghost use Rattle.session.specs.Given.{Let, Admitted};
+use batches::Counts;
+use batches::Pairs;
 use engine::Answer;
 use engine::Frame;
 use engine::Session;
@@ -133,6 +136,18 @@ fn fault(work: &[u8], incoming: &[u8], mail: Mail, missing: &[u8], f: Frame, k: 
     content(work, incoming, mail, f, k)
 }
 
+// What is answered of the batches, when round `due` is due, 0 after the last.
+fn told_after(due: usize, counts: Counts) -> Pairs
+    requires { ⌜ total counts < 0x1_0000_0000 ⌝ }
+    ensures { λ r. ⌜ r ≡ toldAfter due counts ⌝ }
+{
+    if due == 0 {
+        return batches::pairs(counts);
+    }
+    let none: Pairs = [0; batches::TOLD];
+    none
+}
+
 // The call for round k of the session s, with the messages of the other parties: each in the incoming buffer from its start on, as long as
 // told, or marked missing. r is empty but for the call that writes `fabitn`.
 pub fn round(
@@ -146,35 +161,34 @@ pub fn round(
     work: &mut [u8],
     out: &mut [u8],
 ) -> Answer
-    ensures { λ a. ⌜ outcome (a .session) (replyOf (a .verdict)) (now (work .exit)) (now (out .exit)) ≡ roundSpec (protocolOf table) s k
+    ensures { λ a. ⌜ leaves (a .session) (replyOf (a .verdict)) (a .told) (now (work .exit)) (now (out .exit)) ≡ roundSpec (protocolOf table) s k
         (given (now (incoming .entry)) (now (starts .entry)) (now (lens .entry)) (now (missing .entry)) (now (r .entry)) (now (out .entry)))
         (now (work .entry)) ⌝ }
 {
     let f = s.party;
     let code = admit::reason(s, k, incoming, starts, lens, missing, r, work, out);
     if code != 0 {
-        return Answer {
-            session: s,
-            verdict: Verdict::Refused(code, f.i),
-        };
+        return engine::silent(s, Verdict::Refused(code, f.i));
     }
     let n = f.n;
     let mail = form::mail_of(starts, lens, n);
     let e = fault(work, incoming, mail, missing, f, k);
     if e.code != 0 {
         fill::clear(work);
-        return Answer {
-            session: engine::ended(s),
-            verdict: Verdict::Refused(e.code, e.party),
-        };
+        return engine::silent(engine::ended(s), Verdict::Refused(e.code, e.party));
     }
     step(work, out, incoming, mail, r, f, k);
+    let due = plan::next_round(n, k);
+    let counts = s.counts;
+    let told = told_after(due, counts);
     let after = Session {
         party: f,
-        due: plan::next_round(n, k),
+        due: due,
+        counts: counts,
     };
     Answer {
         session: after,
         verdict: Verdict::Accepted,
+        told: told,
     }
 }

@@ -49,14 +49,14 @@ fn low_byte(w: u64) -> u8 {
 
 // The state that it starts from.
 fn start(n: usize, l: usize, seed: u64) -> u64
-    requires { ⌜ (n ≤ 3) × (l ≤ 2) ⌝ }
+    requires { ⌜ (n ≤ 3) × (l ≤ 16) ⌝ }
 {
     seed ^ (n as u64 * 0x100_0000_0000_0000) ^ (l as u64 * 0x1_0000_0000)
 }
 
 // Fills from the state x on, eight bytes to a word, and gives the state after it.
 fn fill(t: &mut Table, from: usize, len: usize, x: u64) -> u64
-    requires { ⌜ from + len ≤ 125058 ⌝ }
+    requires { ⌜ from + len ≤ 275349 ⌝ }
 {
     let mut y = x;
     let mut w = 0;
@@ -86,7 +86,7 @@ fn deltas(t: &mut Table, n: usize, x: u64) -> u64 {
 }
 
 fn to_bits(t: &mut Table, from: usize, len: usize)
-    requires { ⌜ from + len ≤ 125058 ⌝ }
+    requires { ⌜ from + len ≤ 275349 ⌝ }
 {
     let mut q = 0;
     while q < len {
@@ -97,7 +97,7 @@ fn to_bits(t: &mut Table, from: usize, len: usize)
 
 // The seeds and masks of the box whose room starts at `at`.
 fn seeds(t: &mut Table, at: usize, pairs: usize, masks: usize, x: u64) -> u64
-    requires { ⌜ (at ≤ 80812) × (pairs ≤ 96) × (masks ≤ 32) ⌝ }
+    requires { ⌜ (at ≤ 178446) × (pairs ≤ 96) × (masks ≤ 160) ⌝ }
 {
     let a = fill(t, at + 16, 32, x);
     let b = fill(t, at + 48, pairs, a);
@@ -108,7 +108,7 @@ fn seeds(t: &mut Table, at: usize, pairs: usize, masks: usize, x: u64) -> u64
 
 fn seeds_of_all(t: &mut Table, n: usize, l: usize, x: u64) -> u64 {
     let pairs = crate::table::least(plan::pairs_len(n), 96);
-    let masks = crate::table::least(plan::masks_len(n, l), 32);
+    let masks = crate::table::least(plan::masks_len(n, l), 160);
     let mut y = x;
     let mut i = 0;
     while i < n {
@@ -122,7 +122,7 @@ fn seeds_of_all(t: &mut Table, n: usize, l: usize, x: u64) -> u64 {
 
 // 16 bytes: the sum of those at a and b.
 fn put_sum(t: &mut Table, to: usize, a: usize, b: usize)
-    requires { ⌜ (to + 16 ≤ 125058) × (a + 16 ≤ 125058) × (b + 16 ≤ 125058) ⌝ }
+    requires { ⌜ (to + 16 ≤ 275349) × (a + 16 ≤ 275349) × (b + 16 ≤ 275349) ⌝ }
 {
     let mut q = 0;
     while q < 16 {
@@ -163,7 +163,7 @@ fn put_head(s: &mut [u8], at: usize, n: usize, j: usize, bit: bool)
 
 // The key that box k holds of box j's bit, and j's MAC for k, another box; their records start at `at`.
 fn pair(t: &mut Table, at: usize, bit: bool, j: usize, k: usize, x: u64) -> u64
-    requires { ⌜ (j < 3) × (k < 3) × (at ≤ 25008) ⌝ }
+    requires { ⌜ (j < 3) × (k < 3) × (at ≤ 41776) ⌝ }
 {
     if j == k {
         return x;
@@ -182,7 +182,7 @@ fn pair(t: &mut Table, at: usize, bit: bool, j: usize, k: usize, x: u64) -> u64
 
 // The head of box j's record, its MACs and the others' keys of its bit.
 fn pairs(t: &mut Table, at: usize, bit: bool, j: usize, n: usize, x: u64) -> u64
-    requires { ⌜ (at ≤ 25008) × (j < n) × (n ≤ 3) ⌝ }
+    requires { ⌜ (at ≤ 41776) × (j < n) × (n ≤ 3) ⌝ }
 {
     put_head(t, crate::table::room(j) + at, n, j, bit);
     let mut y = x;
@@ -196,7 +196,7 @@ fn pairs(t: &mut Table, at: usize, bit: bool, j: usize, n: usize, x: u64) -> u64
 
 // The records at one position, of all boxes.
 fn position(t: &mut Table, at: usize, n: usize, x: u64) -> u64
-    requires { ⌜ (at ≤ 25008) × (n ≤ 3) ⌝ }
+    requires { ⌜ (at ≤ 41776) × (n ≤ 3) ⌝ }
 {
     let mut y = next(x);
     let mut bits = word(y);
@@ -211,7 +211,7 @@ fn position(t: &mut Table, at: usize, n: usize, x: u64) -> u64
 
 // The records from `from` up to `end`.
 fn shares(t: &mut Table, from: usize, end: usize, n: usize, x: u64) -> u64
-    requires { ⌜ (from ≤ 25008) × (end ≤ 25008) × (n ≤ 3) ⌝ }
+    requires { ⌜ (from ≤ 41776) × (end ≤ 41776) × (n ≤ 3) ⌝ }
 {
     let size = record_len(n);
     let mut y = x;
@@ -237,7 +237,7 @@ fn lists(t: &mut Table, n: usize, l: usize, x: u64) -> u64
 
 // All boxes' inputs, and r.
 pub(crate) fn inputs(t: &mut Table, n: usize, l: usize)
-    requires { ⌜ (n ≤ 3) × (l ≤ 2) ⌝ }
+    requires { ⌜ (n ≤ 3) × (l ≤ 16) ⌝ }
 {
     let a = deltas(t, n, start(n, l, 32));
     let b = seeds_of_all(t, n, l, a);
@@ -245,7 +245,7 @@ pub(crate) fn inputs(t: &mut Table, n: usize, l: usize)
     fill(
         t,
         STRINGS,
-        crate::table::least(plan::r_due(n, l, 5), 3840),
+        crate::table::least(plan::r_due(n, l, 5), 7680),
         c,
     );
 }

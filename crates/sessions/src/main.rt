@@ -1,8 +1,10 @@
 // Whole sessions in memory, of 2 and 3 boxes, through the public calls `opening::open` and `session::round`, round by round in lockstep:
 // what each box sent (its length, and the first bytes of its BLAKE3), what the results are worth, and how boxes refuse when a bit is
-// flipped on the way. The inputs are those of `oracle gen N L 32`, so the Rust of oracle/ can be held against every
-// line but those of round 11: it doesn't open the third commitment.
+// flipped on the way. Then sessions whose boxes have their results in batches, each by a list of its own (document 02, order 7), against the
+// same in one batch. The inputs are those of `oracle gen N L 32`, so the Rust of oracle/ can be held against every line but those of round
+// 11 (it doesn't open the third commitment), and of batches.
 ghost use Prim.Native.Nat.{_*_, _≤_};
+use boxes::NEVER;
 use boxes::Play;
 use boxes::Works;
 use table::SHARES_LEN;
@@ -14,8 +16,8 @@ mod deal;
 mod report;
 mod table;
 
-// Round k: what the boxes wrote is sent, and each is called. Answers how many bytes a box sent.
-fn turn(t: &mut Table, works: &mut Works, p: Play, k: usize) -> usize
+// Round k: what the boxes wrote is sent, and each is called. Answers how many bytes a box sent, which had sent `sum` before.
+fn turn(t: &mut Table, works: &mut Works, p: Play, k: usize, sum: usize) -> usize
     ensures { λ r. ⌜ r ≤ 7696 ⌝ }
 {
     let n = p.n;
@@ -23,7 +25,7 @@ fn turn(t: &mut Table, works: &mut Works, p: Play, k: usize) -> usize
         return 0;
     }
     let len = boxes::sent_len(n, p.l, k);
-    boxes::send_all(t, n);
+    boxes::send_all(t, n, sum, len);
     if p.round == 0 {
         report::round(t, n, len, k);
     }
@@ -36,7 +38,7 @@ fn rounds(t: &mut Table, works: &mut Works, p: Play) -> usize {
     let mut sum = 0;
     let mut k = 1;
     while k < 23 {
-        sum += turn(t, works, p, k);
+        sum += turn(t, works, p, k, sum);
         k += 1;
     }
     sum
@@ -56,15 +58,22 @@ fn finish(t: &mut Table, works: &mut Works, p: Play, sum: usize)
     report::ends(t, n);
 }
 
+// All calls of a session. Answers how many bytes a box sent in all.
+fn play(t: &mut Table, works: &mut Works, p: Play) -> usize
+    requires { ⌜ (p .n ≤ 3) × (p .l ≤ 16) ⌝ }
+{
+    deal::inputs(t, p.n, p.l);
+    boxes::call_all(t, works, p, 0);
+    rounds(t, works, p)
+}
+
 // A session; of one with a flip only how the boxes ended.
 fn run(p: Play)
-    requires { ⌜ (p .n ≤ 3) × (p .l ≤ 2) ⌝ }
+    requires { ⌜ (p .n ≤ 3) × (p .l ≤ 16) ⌝ }
 {
     let mut t = [0u8; TABLE_LEN];
-    let mut works = [0xa5u8; 130200];
-    deal::inputs(&mut t, p.n, p.l);
-    boxes::call_all(&mut t, &mut works, p, 0);
-    let sum = rounds(&mut t, &mut works, p);
+    let mut works = [0xa5u8; 172200];
+    let sum = play(&mut t, &mut works, p);
     if p.round == 0 {
         finish(&mut t, &mut works, p, sum);
     } else {
@@ -83,6 +92,7 @@ fn flipped(round: usize, from: usize, to: usize, at: usize) {
     run(Play {
         n: 3,
         l: 2,
+        apart: false,
         round: round,
         from: from,
         to: to,
@@ -91,17 +101,44 @@ fn flipped(round: usize, from: usize, to: usize, at: usize) {
 }
 
 fn whole(n: usize, l: usize)
-    requires { ⌜ (n ≤ 3) × (l ≤ 2) ⌝ }
+    requires { ⌜ (n ≤ 3) × (l ≤ 16) ⌝ }
 {
     report::say(b"parties #, results #\n", [n, l, 0, 0]);
     run(Play {
         n: n,
         l: l,
+        apart: false,
         round: 0,
         from: 0,
         to: 0,
         at: 0,
     });
+}
+
+// A session in batches, against the same in one.
+fn batched(n: usize, l: usize)
+    requires { ⌜ (n ≤ 3) × (l ≤ 16) ⌝ }
+{
+    let mut p = Play {
+        n: n,
+        l: l,
+        apart: false,
+        round: NEVER,
+        from: 0,
+        to: 0,
+        at: 0,
+    };
+    let mut t = [0u8; TABLE_LEN];
+    let mut u = [0u8; TABLE_LEN];
+    let mut works = [0xa5u8; 172200];
+    play(&mut t, &mut works, p);
+    p.apart = true;
+    let sum = play(&mut u, &mut works, p);
+    report::lists(p);
+    report::batched(&t, &u, n, sum, plan::shares_len(n, l));
+    report::told_all(&u, n);
+    boxes::call_all(&mut u, &mut works, p, 22);
+    report::quiet(&u, n);
 }
 
 fn main() {
@@ -121,4 +158,6 @@ fn main() {
     flipped(19, 2, 3, 8);
     flipped(21, 0, 2, 16);
     flipped(22, 1, 2, 8);
+    batched(2, 16);
+    batched(3, 6);
 }

@@ -1,12 +1,18 @@
 // What is printed of a session, and the checks on its results. A box's results, as its inputs, are records.
 ghost use Prim.Native.Nat.{_+_, _*_, _<_, _≤_};
+use crate::boxes::List;
+use crate::boxes::Play;
+use crate::table::ALL;
 use crate::table::ALPHA;
 use crate::table::BETA;
 use crate::table::CLEAN;
+use crate::table::DUE;
+use crate::table::LOUD;
 use crate::table::NUMBER;
 use crate::table::OUT;
 use crate::table::PARTY;
 use crate::table::ROUND;
+use crate::table::TOLD;
 use crate::table::Table;
 use crate::table::ZERO;
 use libc::STDOUT_FILENO;
@@ -75,7 +81,7 @@ fn digest(s: &[u8]) {
 
 // The digests of len bytes at `place` of each room.
 fn digests(t: &Table, place: usize, n: usize, len: usize)
-    requires { ⌜ place ≤ 40405 ⌝ }
+    requires { ⌜ place ≤ 89222 ⌝ }
 {
     let mut i = 0;
     while i < n {
@@ -96,7 +102,7 @@ pub(crate) fn round(t: &Table, n: usize, len: usize, k: usize) {
 
 // Whether 16 bytes are the sum of those at `key`, and those at `delta` where the bit is 1.
 fn is_mac(t: &Table, mac: usize, key: usize, delta: usize, bit: u8) -> bool
-    requires { ⌜ (mac + 16 ≤ 125058) × (key + 16 ≤ 125058) × (delta + 16 ≤ 125058) ⌝ }
+    requires { ⌜ (mac + 16 ≤ 275349) × (key + 16 ≤ 275349) × (delta + 16 ≤ 275349) ⌝ }
 {
     let mut good = true;
     let mut q = 0;
@@ -110,7 +116,7 @@ fn is_mac(t: &Table, mac: usize, key: usize, delta: usize, bit: u8) -> bool
 
 // Whether box j's MAC for k is k's key of j, plus k's delta where j's bit is 1; their records start at `at`.
 fn mac_holds(t: &Table, at: usize, j: usize, k: usize) -> bool
-    requires { ⌜ (j < 3) × (k < 3) × (at ≤ 32704) ⌝ }
+    requires { ⌜ (j < 3) × (k < 3) × (at ≤ 49472) ⌝ }
 {
     let a = crate::table::room(j) + at;
     let b = crate::table::room(k);
@@ -121,7 +127,7 @@ fn mac_holds(t: &Table, at: usize, j: usize, k: usize) -> bool
 
 // At one position, for each box and each other.
 fn macs_hold(t: &Table, at: usize, n: usize) -> bool
-    requires { ⌜ at ≤ 32704 ⌝ }
+    requires { ⌜ at ≤ 49472 ⌝ }
 {
     let mut good = true;
     let mut q = 0;
@@ -138,7 +144,7 @@ fn macs_hold(t: &Table, at: usize, n: usize) -> bool
 
 // The XOR of the boxes' bytes at `at`.
 fn joint(t: &Table, at: usize, n: usize) -> u8
-    requires { ⌜ at ≤ 40405 ⌝ }
+    requires { ⌜ at ≤ 89222 ⌝ }
 {
     let mut sum = 0;
     let mut i = 0;
@@ -159,7 +165,7 @@ fn right(good: bool) {
 
 // One position of the results.
 fn result(t: &Table, at: usize, n: usize)
-    requires { ⌜ (n ≤ 3) × (at ≤ 256) ⌝ }
+    requires { ⌜ (n ≤ 3) × (at ≤ 1536) ⌝ }
 {
     let alpha = joint(t, ALPHA + at, n);
     let beta = joint(t, BETA + at, n);
@@ -176,7 +182,7 @@ fn result(t: &Table, at: usize, n: usize)
 
 // All of them, len bytes.
 fn positions(t: &Table, n: usize, len: usize)
-    requires { ⌜ (n ≤ 3) × (len ≤ 256) ⌝ }
+    requires { ⌜ (n ≤ 3) × (len ≤ 1536) ⌝ }
 {
     let size = crate::deal::record_len(n);
     let mut at = 0;
@@ -187,7 +193,7 @@ fn positions(t: &Table, n: usize, len: usize)
 }
 
 pub(crate) fn results(t: &Table, n: usize, len: usize)
-    requires { ⌜ (n ≤ 3) × (len ≤ 256) ⌝ }
+    requires { ⌜ (n ≤ 3) × (len ≤ 1536) ⌝ }
 {
     text(b"results");
     digests(t, OUT, n, len);
@@ -252,5 +258,107 @@ pub(crate) fn ends(t: &Table, n: usize) {
     while i < n {
         end(t, i);
         i += 1;
+    }
+}
+
+// ---- batches
+
+fn list(b: List) {
+    let counts = b.counts;
+    let len = b.len;
+    let mut q: usize = 0;
+    while q < 16 {
+        if q < len {
+            say(b" #", [crate::table::wide(counts[q]), 0, 0, 0]);
+        }
+        q += 1;
+    }
+}
+
+// The lists that the boxes are lent.
+pub(crate) fn lists(p: Play) {
+    let n = p.n;
+    say(b"parties #, results # in batches of", [n, p.l, 0, 0]);
+    let mut i = 0;
+    while i < n {
+        if i != 0 {
+            text(b",");
+        }
+        list(crate::boxes::batches(p, i));
+        i += 1;
+    }
+    text(b"\n");
+}
+
+// Whether the room of box i has the same inputs, messages and results in both.
+fn same(t: &Table, u: &Table, i: usize) -> bool {
+    let room = crate::table::room(i);
+    crate::table::equal(
+        crate::table::part(t, room, DUE),
+        crate::table::part(u, room, DUE),
+    )
+}
+
+// What was written in batches, u, and whether it is what was in one, t.
+pub(crate) fn batched(t: &Table, u: &Table, n: usize, sum: usize, len: usize) {
+    text(b"messages");
+    digests(u, ALL, n, sum);
+    text(b"\nresults");
+    digests(u, OUT, n, len);
+    if same(t, u, 0) & same(t, u, 1) & same(t, u, 2) {
+        text(b"\nthe same as in one batch\n");
+    } else {
+        text(b"\nNOT THE SAME as in one batch\n");
+    }
+}
+
+// What the last call told box i: each batch's count and first record.
+fn told(t: &Table, i: usize) {
+    say(b"  box #: done; told", [i, 0, 0, 0]);
+    let mut used = true;
+    let mut clean = true;
+    let mut q: usize = 0;
+    while q < 16 {
+        let first = crate::table::noted(t, i, TOLD + 2 * q);
+        let count = crate::table::noted(t, i, TOLD + 2 * q + 1);
+        used = used & (count != 0);
+        if used {
+            say(b" # from #;", [count, first, 0, 0]);
+        } else {
+            clean = clean & (first == 0) & (count == 0);
+        }
+        q += 1;
+    }
+    if clean {
+        text(b" zeros else\n");
+    } else {
+        text(b" NOT ZEROS ELSE\n");
+    }
+}
+
+pub(crate) fn told_all(t: &Table, n: usize) {
+    let mut i = 0;
+    while i < n {
+        if crate::table::noted(t, i, NUMBER) == 0 {
+            told(t, i);
+        } else {
+            end(t, i);
+        }
+        i += 1;
+    }
+}
+
+// Whether each box was told of batches by one call alone.
+pub(crate) fn quiet(t: &Table, n: usize) {
+    let mut good = true;
+    let mut i = 0;
+    while i < n {
+        good = good & (crate::table::noted(t, i, LOUD) == 1);
+        i += 1;
+    }
+    if good {
+        text(b"every other call told zeros\n");
+    } else {
+        text(b"ANOTHER CALL TOLD OF BATCHES\n");
     }
 }

@@ -111,7 +111,8 @@ pub(crate) fn delivered(t: &mut Table, p: Play, r: Turn, i: usize) -> Mail {
 
 // ---- the calls
 
-// What a call answered: the number and party of a refusal, the round due, and whether the session is still that of the box.
+// What a call answered: the number and party of a refusal, the round due, and whether the session is still that of the box, and told what
+// is due.
 pub struct Reply {
     pub code: usize,
     pub party: usize,
@@ -136,23 +137,54 @@ pub(crate) fn verdict(v: Verdict) -> Reply {
     }
 }
 
-fn answered(a: Answer, n: usize, i: usize, l: usize) -> Reply {
+// l as the count of the only batch.
+fn single(l: usize) -> u32 {
+    wide(crate::table::small(l))
+}
+
+fn wide(x: u8) -> u32 {
+    x as u32
+}
+
+// Whether x stands at `at` of the numbers, and zeros else.
+fn alone(s: &[u32], at: usize, x: u32) -> bool {
+    let mut good = true;
+    let mut q = 0;
+    while q < s.len() {
+        let due = if q == at { x } else { 0 };
+        good = good & (s[q] == due);
+        q += 1;
+    }
+    good
+}
+
+// What the call for round k answered. The last tells of the batch if it accepts; the others tell zeros.
+fn answered(a: Answer, n: usize, i: usize, l: usize, k: usize) -> Reply {
     let s = a.session;
     let f = s.party;
+    let counts = s.counts;
+    let told = a.told;
     let v = a.verdict;
     let mut now = verdict(v);
     now.due = s.due;
-    now.same = (f.n == n) & (f.i == i) & (f.l == l);
+    let due = if (k == plan::FAAND) & (now.code == 0) {
+        single(l)
+    } else {
+        0
+    };
+    let kept = alone(&counts, 0, single(l)) & alone(&told, 1, due);
+    now.same = (f.n == n) & (f.i == i) & (f.l == l) & kept;
     now
 }
 
 fn opened(t: &Table, n: usize, i: usize, l: usize, work: &mut [u8], out: &mut [u8]) -> Answer {
     let x = crate::table::part(t, INPUTS, INPUTS_LEN);
     let shares = plan::shares_len(n, l);
+    let counts = [single(l)];
     opening::open(
         n,
         i,
-        l,
+        &counts,
         crate::table::part(x, 0, 16),
         crate::table::part(x, 16, 32),
         crate::table::part(x, 48, plan::pairs_len(n)),
@@ -216,11 +248,14 @@ pub(crate) fn call(
     let n = p.n;
     let l = p.l;
     if k == 0 {
-        return answered(opened(t, n, i, l, work, out), n, i, l);
+        return answered(opened(t, n, i, l, work, out), n, i, l, k);
     }
+    let mut counts: [u32; 16] = [0; 16];
+    counts[0] = single(l);
     let s = Session {
         party: Frame { n: n, i: i, l: l },
         due: due,
+        counts: counts,
     };
-    answered(called(t, s, k, mail, work, out), n, i, l)
+    answered(called(t, s, k, mail, work, out), n, i, l, k)
 }

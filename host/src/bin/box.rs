@@ -12,13 +12,13 @@ use std::{
 use nuzsdike_host::{
     args::Args,
     files::{self, Header},
-    round_name, sys,
+    round_name, sum, sys,
     transport::{Cause, LineError, Lines, Notice, Place, Who},
-    Call, Form, Inputs, Mail, Refusal, Session, Step,
+    Batch, Call, Form, Inputs, Mail, Refusal, Session, Step,
 };
 
 const USAGE: &str = "\
-usage: nuzsdike-box --inputs FILE --results FILE --listen ADDRESS --peers LIST [--r FORM] [--timeout SECONDS]
+usage: nuzsdike-box --inputs FILE --results FILE --listen ADDRESS --peers LIST [--batches COUNTS] [--r FORM] [--timeout SECONDS]
 
 Runs one box of a session. Exit status: 0 done, 1 refused or a line failed, 2 bad words.
 
@@ -26,6 +26,8 @@ Runs one box of a session. Exit status: 0 done, 1 refused or a line failed, 2 ba
   --results FILE     takes the result records once all boxes are done
   --listen ADDRESS   own address, as 127.0.0.1:7000; port 0 takes a free one and prints it
   --peers LIST       every box's address by number, with commas, the own one too; - reads the list from standard input
+  --batches COUNTS   the ANDs of each batch, up to 16 numbers with commas, l together (default: one batch of l); the others'
+                     batches are theirs
   --r FORM           how r is lent: seed, 16 bytes of the joint toss from which the library draws (default),
                      or strings, which the box draws from that seed itself; the others' choice is theirs
   --timeout SECONDS  the longest wait for the others, in each round (default 30)
@@ -60,6 +62,7 @@ struct Options {
     results: PathBuf,
     listen: String,
     peers: String,
+    batches: Option<Vec<u32>>,
     form: Form,
     timeout: Duration,
 }
@@ -70,13 +73,14 @@ fn options(args: &Args) -> Result<Options, String> {
         results: args.need("results")?.into(),
         listen: args.need("listen")?.into(),
         peers: args.need("peers")?.into(),
+        batches: args.numbers("batches")?,
         form: if args.choice("r", &["seed", "strings"])? == "seed" { Form::Seed } else { Form::Strings },
         timeout: Duration::from_secs(args.number("timeout", 1, 86_400)?.unwrap_or(30)),
     })
 }
 
 fn main() -> ExitCode {
-    let names = ["inputs", "results", "listen", "peers", "r", "timeout"];
+    let names = ["inputs", "results", "listen", "peers", "batches", "r", "timeout"];
     let options = match Args::parse(env::args().skip(1), &names) {
         Ok(None) => {
             print!("{USAGE}");
@@ -108,6 +112,11 @@ fn run(options: &Options, number: &mut Option<usize>) -> Result<(), Failure> {
     *number = Some(header.i);
     let Header { n, i, l, id, .. } = header;
     println!("box {i} read {:.6}", begin.elapsed().as_secs_f64());
+    let counts = options.batches.clone().unwrap_or(vec![l as u32]);
+    // A list that is none is for opening to refuse.
+    if let Some(other) = sum(&counts).ok().filter(|sum| *sum != l) {
+        return Err(Failure::Usage(format!("--batches has {other} ANDs, the inputs are for {l}")));
+    }
 
     let listener = TcpListener::bind(&options.listen)
         .map_err(|error| Failure::Host(format!("can't listen on {}: {error} (does another box have this address?)", options.listen)))?;
@@ -124,10 +133,13 @@ fn run(options: &Options, number: &mut Option<usize>) -> Result<(), Failure> {
 
     let mut lines = Lines::connect(Who { n, i, l, id }, &listener, &peers, options.timeout).map_err(Failure::Line)?;
     drop(listener);
-    match session(header, inputs, options.form, &mut lines) {
-        Ok((results, totals)) => {
+    match session(header, &counts, inputs, options.form, &mut lines) {
+        Ok((results, batches, totals)) => {
             lines.close().map_err(Failure::Line)?;
             files::write_results(&options.results, header, &results)?;
+            for (number, Batch { first, count }) in batches.iter().enumerate() {
+                println!("box {i} batch {number} first {first} count {count}");
+            }
             let Totals { sent, received, calls } = totals;
             let (calls, cpu) = (calls.as_secs_f64(), sys::cpu_time().as_secs_f64());
             println!("box {i} done sent {sent} received {received} calls {calls:.6} cpu {cpu:.6} memory {}", sys::peak_memory());
@@ -174,10 +186,16 @@ struct Totals {
 }
 
 /// The session itself: opening, and then one exchange and one call for each round.
-fn session(header: Header, inputs: Inputs, form: Form, lines: &mut Lines) -> Result<(Vec<u8>, Totals), Failure> {
+fn session(
+    header: Header,
+    counts: &[u32],
+    inputs: Inputs,
+    form: Form,
+    lines: &mut Lines,
+) -> Result<(Vec<u8>, Vec<Batch>, Totals), Failure> {
     let (i, plan) = (header.i, header.plan());
     let (begin, cpu) = (Instant::now(), sys::cpu_time());
-    let (mut session, mut outgoing) = Session::open(plan, i, &inputs).map_err(Failure::Refused)?;
+    let (mut session, mut outgoing) = Session::open(plan.n, i, counts, &inputs).map_err(Failure::Refused)?;
     let mut totals = Totals { sent: 0, received: 0, calls: sys::cpu_time() - cpu };
     println!("box {i} opened call {:.6}", begin.elapsed().as_secs_f64());
     drop(inputs); // the work area has them now
@@ -215,7 +233,7 @@ fn session(header: Header, inputs: Inputs, form: Form, lines: &mut Lines) -> Res
         totals.calls += cpu;
         match step {
             Step::Send(next) => outgoing = next,
-            Step::Done(results) => return Ok((results, totals)),
+            Step::Done { results, batches } => return Ok((results, batches, totals)),
         }
     }
 }

@@ -16,13 +16,14 @@ use std::{
 use nuzsdike_host::{
     args::Args,
     check::{self, Checked, Outputs},
-    dealer, files, round_title, Plan,
+    dealer, files, round_title, sum, Batch, Plan, Reason,
 };
 
 const USAGE: &str = include_str!("../../usage.txt");
 
 struct Options {
     plan: Plan,
+    counts: Vec<u32>,
     seed: u64,
     r: &'static str,
     timeout: u64,
@@ -31,7 +32,13 @@ struct Options {
 
 fn options(args: &Args) -> Result<Options, String> {
     let n = args.number("n", 2, 8)?.unwrap_or(3);
-    let l = args.number("l", 1, 300_000)?.unwrap_or(1000);
+    let counts = match (args.number("l", 1, 300_000)?, args.numbers("batches")?) {
+        (Some(_), Some(_)) => return Err("--l and --batches are both there: --l is one batch".into()),
+        (None, Some(counts)) => counts,
+        (l, None) => vec![l.unwrap_or(1000)],
+    };
+    let refused = |reason: Reason| format!("--batches: refused {reason}: {}", reason.meaning());
+    let l = sum(&counts).map_err(refused)?;
     let seed = match args.number("seed", 0, u64::MAX)? {
         Some(seed) => seed,
         None => random().map_err(|error| format!("no random seed: {error}"))?,
@@ -39,7 +46,7 @@ fn options(args: &Args) -> Result<Options, String> {
     let r = args.choice("r", &["seed", "strings", "mixed"])?;
     // A box waits while slower ones compute, and all of them may share two cores.
     let timeout = args.number("timeout", 1, 86_400)?.unwrap_or(30 + (l * n * n / 4000) as u64);
-    Ok(Options { plan: Plan::new(n, l), seed, r, timeout, keep: args.get("keep").map(PathBuf::from) })
+    Ok(Options { plan: Plan::new(n, l), counts, seed, r, timeout, keep: args.get("keep").map(PathBuf::from) })
 }
 
 fn random() -> io::Result<u64> {
@@ -49,7 +56,7 @@ fn random() -> io::Result<u64> {
 }
 
 fn main() -> ExitCode {
-    let options = match Args::parse(env::args().skip(1), &["n", "l", "seed", "r", "timeout", "keep"]) {
+    let options = match Args::parse(env::args().skip(1), &["n", "l", "batches", "seed", "r", "timeout", "keep"]) {
         Ok(None) => {
             print!("{USAGE}");
             return ExitCode::SUCCESS;
@@ -121,7 +128,11 @@ impl Drop for Boxes {
 fn run(options: &Options) -> Result<(), String> {
     let Plan { n, l } = options.plan;
     let folder = Folder::new(&options.keep)?;
-    println!("{n} boxes, {} ANDs, seed {}", grouped(l), options.seed);
+    let batches = match options.counts.len() {
+        1 => String::new(),
+        several => format!(" in {several} batches"),
+    };
+    println!("{n} boxes, {} ANDs{batches}, seed {}", grouped(l), options.seed);
     println!(
         "r        {}",
         match options.r {
@@ -177,8 +188,12 @@ fn run(options: &Options) -> Result<(), String> {
     let ran = begin.elapsed();
 
     let begin = Instant::now();
-    let Checked { ands, macs } = verdict(options.plan, &folder).map_err(|why| format!("results are WRONG: {why}"))?;
+    let checked = verdict(options, &view.batches, &folder).map_err(|why| format!("results are WRONG: {why}"))?;
+    let (ands, macs) = checked.iter().fold((0, 0), |(ands, macs), (_, batch)| (ands + batch.ands, macs + batch.macs));
     println!("results  {} ANDs and {} MACs are right, by a checker that sees all boxes' outputs", grouped(ands), grouped(macs));
+    for (number, (Batch { first, .. }, Checked { ands, macs })) in checked.iter().enumerate() {
+        println!("batch {number:<2} from position {}: {} ANDs and {} MACs are right", grouped(*first), grouped(*ands), grouped(*macs));
+    }
     for i in 0..n {
         println!("{}", view.summary(i));
     }
@@ -209,6 +224,12 @@ fn form(r: &'static str, i: usize) -> &'static str {
     }
 }
 
+/// The words of a box's command line that say its batches.
+fn batches(counts: &[u32]) -> [String; 2] {
+    let words: Vec<String> = counts.iter().map(u32::to_string).collect();
+    ["--batches".into(), words.join(",")]
+}
+
 fn start(options: &Options, folder: &Folder, sender: Sender<(usize, Event)>) -> Result<Boxes, String> {
     let program = env::current_exe().map_err(|error| error.to_string())?.with_file_name("nuzsdike-box");
     let mut boxes = Boxes(vec![]);
@@ -216,6 +237,7 @@ fn start(options: &Options, folder: &Folder, sender: Sender<(usize, Event)>) -> 
         let _ = fs::remove_file(folder.results(i)); // of an earlier run
         let mut child = Command::new(&program)
             .args(["--listen", "127.0.0.1:0", "--peers", "-", "--r", form(options.r, i), "--timeout", &options.timeout.to_string()])
+            .args(batches(&options.counts))
             .arg("--inputs")
             .arg(folder.inputs(i))
             .arg("--results")
@@ -247,7 +269,24 @@ fn introduce(boxes: &mut Boxes, addresses: &str) {
     }
 }
 
-fn verdict(plan: Plan, folder: &Folder) -> Result<Checked, String> {
+/// Where batches of these counts lie.
+fn laid_out(counts: &[u32]) -> Vec<Batch> {
+    let mut first = 0;
+    let batch = |count: &u32| {
+        let batch = Batch { first, count: *count as usize };
+        first += batch.count;
+        batch
+    };
+    counts.iter().map(batch).collect()
+}
+
+/// Checks the results, batch by batch, where every box has to have told that they lie.
+fn verdict(options: &Options, told: &HashMap<usize, Vec<Batch>>, folder: &Folder) -> Result<Vec<(Batch, Checked)>, String> {
+    let plan = options.plan;
+    let batches = laid_out(&options.counts);
+    if let Some(i) = (0..plan.n).find(|i| told.get(i) != Some(&batches)) {
+        return Err(format!("box {i} tells other batches than it was given: {:?}", told.get(&i)));
+    }
     let mut parts = vec![];
     for i in 0..plan.n {
         let (_, inputs) = files::load(&folder.inputs(i), files::read_inputs).map_err(|error| error.to_string())?;
@@ -258,7 +297,12 @@ fn verdict(plan: Plan, folder: &Folder) -> Result<Checked, String> {
         parts.push((inputs.delta, inputs.alpha.clone(), inputs.beta.clone(), results));
     }
     let outputs: Vec<Outputs> = parts.iter().map(|(delta, alpha, beta, results)| Outputs { delta, alpha, beta, results }).collect();
-    check::check(plan, &outputs).map_err(|wrong| wrong.to_string())
+    let check = |(number, batch): (usize, Batch)| {
+        let part: Vec<Outputs> = outputs.iter().map(|outputs| outputs.of_batch(plan.n, batch)).collect();
+        let checked = check::check(Plan::new(plan.n, batch.count), &part);
+        checked.map(|checked| (batch, checked)).map_err(|wrong| format!("batch {number}: {wrong}"))
+    };
+    batches.into_iter().enumerate().map(check).collect()
 }
 
 /// What the boxes say, as one line per round and a bar.
@@ -270,6 +314,8 @@ struct View {
     shown: usize,
     last: Instant,
     begin: Instant,
+    /// By box, the batches that it told.
+    batches: HashMap<usize, Vec<Batch>>,
     done: HashMap<usize, HashMap<String, String>>,
     errors: HashMap<usize, String>,
     /// How far the round is on, from 0 to 1.
@@ -294,6 +340,7 @@ impl View {
             shown: 0,
             last: Instant::now(),
             begin: Instant::now(),
+            batches: HashMap::new(),
             done: HashMap::new(),
             errors: HashMap::new(),
             part: 0.0,
@@ -321,6 +368,7 @@ impl View {
                 self.part = number("received") as f64 / number("due").max(1) as f64;
                 self.bar();
             }
+            "batch" => self.batches.entry(i).or_default().push(Batch { first: number("first"), count: number("count") }),
             "done" => {
                 let pairs = words.chunks_exact(2).map(|pair| (pair[0].to_string(), pair[1].to_string()));
                 self.done.insert(i, pairs.collect());

@@ -8,8 +8,8 @@ use oracle::Party;
 #[path = "../../../host/src/ffi.rs"]
 mod c;
 
-pub use c::SESSION;
 use c::number;
+pub use c::{BATCHES, SESSION, TOLD};
 
 // Not bundled, so that what needs no session links without it.
 #[link(name = "nuzsdike", kind = "static", modifiers = "-bundle")]
@@ -19,7 +19,7 @@ pub fn open(
     session: &mut [u32],
     n: usize,
     i: usize,
-    l: usize,
+    counts: &[u32],
     p: &Party,
     work: &mut [u8],
     out: &mut [u8],
@@ -31,7 +31,8 @@ pub fn open(
             session.len(),
             number(n),
             number(i),
-            number(l),
+            counts.as_ptr(),
+            counts.len(),
             p.delta.as_ptr(),
             p.delta.len(),
             p.joint_seed.as_ptr(),
@@ -65,6 +66,7 @@ pub fn round(
     r: &[u8],
     work: &mut [u8],
     out: &mut [u8],
+    told: &mut [u32],
 ) -> u64 {
     // SAFETY: as above.
     unsafe {
@@ -86,6 +88,8 @@ pub fn round(
             work.len(),
             out.as_mut_ptr(),
             out.len(),
+            told.as_mut_ptr(),
+            told.len(),
         )
     }
 }
@@ -105,6 +109,11 @@ pub fn combine(n: usize, i: usize, count: usize, triples: &[u8], d: &[u8], out: 
             out.len(),
         )
     }
+}
+
+pub fn sum(counts: &[u32]) -> u64 {
+    // SAFETY: as above.
+    unsafe { c::nuzsdike_sum(counts.as_ptr(), counts.len()) }
 }
 
 pub fn due(session: &[u32]) -> usize {

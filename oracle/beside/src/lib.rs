@@ -32,6 +32,9 @@ pub struct Ran {
     pub seeded: u8,
     /// Boxes whose work area has the permutation that their joint seed draws.
     pub permutations: usize,
+    /// Boxes that were opened with several batches, and of all boxes those that were told theirs at the end.
+    pub batched: usize,
+    pub told: usize,
     /// CPU time of each party, its calls alone.
     pub nanoseconds: Vec<u64>,
     /// CPU time of each round call, by round and party.
@@ -142,10 +145,18 @@ pub fn lengths(s: &Session) -> Vec<String> {
 struct Host<'a> {
     s: &'a Session,
     i: usize,
+    counts: Vec<u32>,
     session: [u32; ffi::SESSION],
     work: Vec<u8>,
     out: Vec<u8>,
+    told: Told,
 }
+
+/// What is told of batches, and a number behind it.
+type Told = [u32; ffi::TOLD + 1];
+
+/// All that a call may write.
+type Memory = ([u32; ffi::SESSION], Vec<u8>, Vec<u8>, Told);
 
 /// What a round call is lent beside the host's own.
 #[derive(Clone, Default)]
@@ -155,17 +166,18 @@ struct Lent {
     lens: Vec<usize>,
     missing: Vec<u8>,
     r: Vec<u8>,
+    /// How many numbers there are for the batches.
+    told: usize,
 }
 
 impl Host<'_> {
     fn open(&mut self) -> (u8, usize) {
         let p = &self.s.parties[self.i];
-        let (n, l) = (self.s.n, self.s.l);
         answer(ffi::open(
             &mut self.session,
-            n,
+            self.s.n,
             self.i,
-            l,
+            &self.counts,
             p,
             &mut self.work,
             &mut self.out,
@@ -184,8 +196,36 @@ impl Host<'_> {
             &t.r,
             work,
             out,
+            &mut self.told[..t.told],
         ))
     }
+
+    fn memory(&self) -> Memory {
+        (self.session, self.work.clone(), self.out.clone(), self.told)
+    }
+}
+
+/// Counts of up to 16 batches whose sum is l.
+fn batches(g: &mut SplitMix, l: usize) -> Vec<u32> {
+    let most = ffi::BATCHES.min(l);
+    let mut counts = vec![1; 1 + g.below(most)];
+    for _ in counts.len()..l {
+        let at = g.below(counts.len());
+        counts[at] += 1;
+    }
+    counts
+}
+
+/// What the last call is to tell of batches of these counts, and the number behind that as it was.
+fn told(counts: &[u32], behind: u32) -> Told {
+    let mut told = [0; ffi::TOLD + 1];
+    let mut first = 0;
+    for (pair, count) in told.chunks_exact_mut(2).zip(counts) {
+        pair.copy_from_slice(&[first, *count]);
+        first += count;
+    }
+    told[ffi::TOLD] = behind;
+    told
 }
 
 /// The bytes of a section of docs/WORK_AREA.md: start and length.
@@ -245,7 +285,7 @@ fn spoil(g: &mut SplitMix, s: &Session, i: usize, round: u8, t: &mut Lent) -> (u
     let n = s.n;
     let other = (i + 1 + g.below(n - 1)) % n;
     let due = usize::from(round);
-    match g.below(7) {
+    match g.below(8) {
         0 => {
             let wrong = [0, due + 1, due - 1, 23, usize::MAX, g.below(30)];
             let wrong = wrong[g.below(6)];
@@ -274,6 +314,10 @@ fn spoil(g: &mut SplitMix, s: &Session, i: usize, round: u8, t: &mut Lent) -> (u
             t.lens[other] = t.incoming.len() - t.starts[other] + 1;
             (due, 17)
         }
+        6 => {
+            t.told = [0, ffi::TOLD - 1, ffi::TOLD + 1][g.below(3)];
+            (due, 17)
+        }
         _ => {
             t.missing[other] = 0;
             (t.starts[other], t.lens[other]) = (usize::MAX - g.below(2), 1 + g.below(3));
@@ -282,12 +326,12 @@ fn spoil(g: &mut SplitMix, s: &Session, i: usize, round: u8, t: &mut Lent) -> (u
     }
 }
 
-/// An opening with something wrong: n, i, l, what is lent, lengths of work area and outgoing buffer off
+/// An opening with something wrong: n, i, counts, what is lent, lengths of work area and outgoing buffer off
 /// by so much, and its number.
 struct Wrong {
     n: usize,
     i: usize,
-    l: usize,
+    counts: Vec<u32>,
     lent: Party,
     work: isize,
     out: isize,
@@ -300,7 +344,7 @@ fn spoil_opening(g: &mut SplitMix, s: &Session, i: usize) -> Wrong {
     let mut w = Wrong {
         n,
         i,
-        l,
+        counts: batches(g, l),
         lent: s.parties[i].clone(),
         work: 0,
         out: 0,
@@ -325,8 +369,18 @@ fn spoil_opening(g: &mut SplitMix, s: &Session, i: usize) -> Wrong {
             w.number = 15;
         }
         2 => {
-            w.l = [300_001, usize::MAX][g.below(2)];
-            w.number = 16;
+            let l = l as u32;
+            let lists = [
+                (vec![], 23),
+                (vec![1; ffi::BATCHES + 1], 23),
+                (vec![300_001], 16),
+                // in 32 bits it would be l
+                (vec![u32::MAX, l + 1], 16),
+                (vec![0, 300_001], 16),
+                (vec![l, 0], 3),
+                (vec![0, l], 3),
+            ];
+            (w.counts, w.number) = lists[g.below(lists.len())].clone();
         }
         3 => {
             let list = &mut w.lent.lists_mut()[which];
@@ -383,8 +437,9 @@ fn spoil_opening(g: &mut SplitMix, s: &Session, i: usize) -> Wrong {
 }
 
 /// Runs our n boxes on the inputs of a session, in lockstep as `oracle::run` has it; `tamper` is as
-/// there. Where r has a seed, all boxes or some are lent that. `seeds` are the tossed seeds of the Rust,
-/// where they are to be compared.
+/// there. Where r has a seed, all boxes or some are lent that. With all care half of the sessions are opened
+/// with a list of batches, another for each box. `seeds` are the tossed seeds of the Rust, where they are to
+/// be compared.
 pub fn run(
     s: &Session,
     tamper: &mut dyn FnMut(u8, usize, usize, Vec<u8>) -> Option<Vec<u8>>,
@@ -397,12 +452,14 @@ pub fn run(
     let mut broken = vec![];
     let mut probes = 0;
     let mut permutations = 0;
+    let mut all_told = 0;
     let mut nanoseconds = vec![0; n];
     let mut calls = BTreeMap::new();
     let mut sent: BTreeMap<(u8, usize), Vec<u8>> = BTreeMap::new();
     let mut ends: Vec<Option<End>> = vec![None; n];
     let all: Vec<u8> = rounds(n).collect();
     let seeded = seeded(g, s, care);
+    let several = care == Care::All && g.below(2) == 0;
 
     // What lies in lent memory before a call is of no account.
     let dirt = |g: &mut SplitMix, len: usize| match care {
@@ -414,17 +471,23 @@ pub fn run(
         .map(|i| Host {
             s,
             i,
-            session: [g.word() as u32; 4],
+            counts: match several {
+                true => batches(g, l),
+                false => vec![l as u32],
+            },
+            session: [g.word() as u32; ffi::SESSION],
             work: dirt(g, work_len),
             out: dirt(g, ffi::out_len(n, l, 0)),
+            told: [g.word() as u32; ffi::TOLD + 1],
         })
         .collect();
+    let batched = hosts.iter().filter(|h| h.counts.len() > 1).count();
     // A session that is over answers 20 and touches nothing.
     let over = |h: &mut Host, g: &mut SplitMix, broken: &mut Vec<String>| {
         if ffi::due(&h.session) != 0 {
             broken.push(format!("party {}: over, and a round is due", h.i));
         }
-        let before = (h.session, h.work.clone(), h.out.clone());
+        let before = h.memory();
         let round = g.below(24);
         let a = h.round(round, &Lent::default());
         if a != (20, h.i) {
@@ -433,7 +496,7 @@ pub fn run(
                 h.i
             ));
         }
-        if before != (h.session, h.work.clone(), h.out.clone()) {
+        if before != h.memory() {
             broken.push(format!("party {}: 20 changed memory", h.i));
         }
     };
@@ -447,10 +510,19 @@ pub fn run(
             let (mut work, mut out) = (g.bytes(work_len), g.bytes(out_len));
             let before = (work.clone(), out.clone());
             // The session's length is one more 17, before the lent bytes.
-            let mut session = vec![7; [4, 4, 4, 3, 5, 0][g.below(6)]];
-            let a = ffi::open(&mut session, w.n, w.i, w.l, &w.lent, &mut work, &mut out);
+            const DUE: usize = ffi::SESSION;
+            let mut session = vec![7; [DUE, DUE, DUE, DUE - 1, DUE + 1, 0][g.below(6)]];
+            let a = ffi::open(
+                &mut session,
+                w.n,
+                w.i,
+                &w.counts,
+                &w.lent,
+                &mut work,
+                &mut out,
+            );
             let number = match w.number {
-                1 | 22 | 4 if session.len() != 4 => 17,
+                1 | 22 | 4 if session.len() != DUE => 17,
                 number => number,
             };
             let due = (number, w.i);
@@ -458,12 +530,20 @@ pub fn run(
                 let a = answer(a);
                 broken.push(format!("party {i}: opening answers {a:?} and not {due:?}"));
             }
+            // The counts' refusals, which name no party there.
+            let sum = match w.number {
+                23 | 16 | 3 => u64::from(number) | 1 << 40,
+                _ => l as u64,
+            };
+            if ffi::sum(&w.counts) != sum {
+                broken.push(format!("the sum of {:?} is not {sum}", w.counts));
+            }
             if before != (work, out) || session.iter().any(|x| *x != 7) {
                 broken.push(format!("party {i}: opening, {number} changed memory"));
             }
             probes += 1;
         }
-        let before = (!care.times()).then(|| (h.session, h.work.clone(), h.out.clone()));
+        let before = (!care.times()).then(|| h.memory());
         let start = cpu_time();
         let (number, party) = h.open();
         nanoseconds[i] += cpu_time() - start;
@@ -473,7 +553,7 @@ pub fn run(
                 round: 0,
                 party,
             });
-            if before.is_some_and(|b| b != (h.session, h.work.clone(), h.out.clone())) {
+            if before.is_some_and(|b| b != h.memory()) {
                 broken.push(format!("party {i}: a refused opening wrote"));
             }
             continue;
@@ -515,6 +595,7 @@ pub fn run(
                 starts: vec![0; n],
                 lens: vec![0; n],
                 missing: vec![0; n],
+                told: ffi::TOLD,
                 ..Default::default()
             };
             let turn = if care == Care::All { g.below(n) } else { 0 };
@@ -554,18 +635,19 @@ pub fn run(
             if care == Care::All && g.below(4) == 0 {
                 let mut wrong = t.clone();
                 let (call, number) = spoil(g, s, i, round, &mut wrong);
-                let before = (h.session, h.work.clone(), h.out.clone());
+                let before = h.memory();
                 let a = h.round(call, &wrong);
                 if a != (number, i) {
                     broken.push(format!("party {i} round {round}: {a:?} and not {number}"));
                 }
-                if before != (h.session, h.work.clone(), h.out.clone()) {
+                if before != h.memory() {
                     broken.push(format!("party {i} round {round}: {number} changed memory"));
                 }
                 probes += 1;
             }
 
             let before = (!care.times()).then(|| h.out.clone());
+            let told_before = h.told;
             let start = cpu_time();
             let (number, party) = h.round(round.into(), &t);
             let took = cpu_time() - start;
@@ -577,7 +659,7 @@ pub fn run(
                     round,
                     party,
                 });
-                if before.is_some_and(|out| out != h.out) {
+                if before.is_some_and(|out| out != h.out) || h.told != told_before {
                     broken.push(format!("party {i} round {round}: a refused call wrote"));
                 }
                 if h.work.iter().any(|byte| *byte != 0) {
@@ -611,10 +693,18 @@ pub fn run(
                     if ffi::due(&h.session) != next.into() {
                         broken.push(format!("party {i}: round {next} is not due after {round}"));
                     }
+                    if h.told != told_before {
+                        broken.push(format!("party {i}: batches are told in round {round}"));
+                    }
                     sent.insert((next, i), h.out.clone());
                 }
                 None => {
                     ends[i] = Some(End::Done(h.out.clone()));
+                    if h.told == told(&h.counts, told_before[ffi::TOLD]) {
+                        all_told += 1;
+                    } else {
+                        broken.push(format!("party {i}: other batches than {:?}", h.counts));
+                    }
                     if h.work.iter().any(|byte| *byte != 0) {
                         broken.push(format!("party {i}: done, work area not zero"));
                     }
@@ -632,6 +722,8 @@ pub fn run(
         probes,
         seeded,
         permutations,
+        batched,
+        told: all_told,
         nanoseconds,
         calls,
     }
@@ -664,9 +756,11 @@ pub fn open_nothing(s: &Session, i: usize) -> (u8, usize) {
     let mut h = Host {
         s,
         i,
-        session: [7; 4],
+        counts: vec![0],
+        session: [7; ffi::SESSION],
         work: vec![],
         out: vec![],
+        told: [7; ffi::TOLD + 1],
     };
     h.open()
 }

@@ -4,7 +4,7 @@ use Rattle.admit.proofs.alive.Statement.{statement}
 use Rattle.admit.proofs.alive.Tie as tie
 
 returns : tie.Need-returns
-returns c = ap₂ _&&_ (c .before .fine .ensures) (c .is-round .ensures)
+returns c = ap₂ _&&_ (ap₂ _&&_ (c .before .before .fine .ensures) (c .before .are-whole .ensures)) (c .is-round .ensures)
 
 pub alive-spec : {M : Type 1} → statement M
-alive-spec = tie.close (tie.spec (λ c κs. search needs) (λ c κs. search needs) returns)
+alive-spec = tie.close (tie.spec (λ c κs. search needs) (λ c κs. search needs) (λ c κs. search needs) returns)

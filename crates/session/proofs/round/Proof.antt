@@ -1,4 +1,4 @@
-use Rattle.lists.specs.Kit.{_≡_, sym, ap, subst, _∙_, ℕ, true, now, needs}
+use Rattle.lists.specs.Kit.{_≡_, sym, ap, subst, _∙_, ℕ, true, arith, now, needs}
 use Rattle.engine.specs.Step.{Lent, replyOf, mask, part, partsIn, faultOf}
 use Rattle.engine.specs.StepLaws.{or-zero}
 use Rattle.engine.specs.Plain.{ruleOf}
@@ -7,7 +7,7 @@ use Rattle.rounds.specs.Mail.{letter}
 use Rattle.rounds.specs.FaultLaws.{Finds}
 use Rattle.rounds.specs.Table.{table}
 use Rattle.admit.specs.Admit.{given, posted}
-use Rattle.admit.specs.AdmitLaws.{Admitted, received, letters-are, parts-posted, fault-posted, reason-zero}
+use Rattle.admit.specs.AdmitLaws.{Admitted, received, letters-are, parts-posted, fault-posted, alive-total, reason-zero}
 use Rattle.session.specs.CallLaws.{call-refused, call-faulted, call-accepted}
 use Rattle.session.proofs.round.Statement.{statement}
 use Rattle.session.proofs.round.Tie as tie
@@ -21,9 +21,11 @@ lent s =
 returns : tie.Need-returns
 unfolding replyOf
 returns c =
-    let s = c .before .before .before .before .before .before .before .before .before .before .before .before in
-    call-refused (s .args .s) (s .args .k) (lent s) (now (s .args .work)) (c .before .reason .result) (c .before .reason .ensures)
-    (c .if1 .taken)
+    let t = c .before in
+    let s = t .before .before .before .before .before .before .before .before .before .before .before .before in
+    rw (c .silent .ensures .0, c .silent .ensures .1, c .silent .ensures .2)
+    (call-refused (s .args .s) (s .args .k) (lent s) (now (s .args .work)) (t .before .reason .result) (t .before .reason .ensures)
+    (t .if1 .taken))
 
 -- ---- a call that has no reason
 abbrev start : tie.Else1 → tie.Start
@@ -73,13 +75,15 @@ found x =
 returns-2 : tie.Need-returns-2
 unfolding replyOf
 returns-2 c =
-    let t = c .before .before .before .before .before in
+    let d = c .before in
+    let t = d .before .before .before .before .before in
     let x = t .before .before in
     let e = x .before .before .before in
     let a = start e .args in
-    call-faulted (a .s) (a .k) (lent (start e)) (now (a .work)) (sym (e .before .reason .ensures) ∙ e .if1 .left)
-    (x .fault .result .code) (x .fault .result .party) (c .ended .result) (c .before .before .before .clear .last .0) (found x)
-    (t .if2 .taken) (c .ended .ensures) (c .before .before .before .clear .ensures)
+    rw (c .silent2 .ensures .0, c .silent2 .ensures .1, c .silent2 .ensures .2)
+    (call-faulted (a .s) (a .k) (lent (start e)) (now (a .work)) (sym (e .before .reason .ensures) ∙ e .if1 .left)
+    (x .fault .result .code) (x .fault .result .party) (d .ended .result) (d .before .before .before .clear .last .0) (found x)
+    (t .if2 .taken) (d .ended .ensures) (d .before .before .before .clear .ensures))
 
 step-requires : tie.Need-step-requires
 unfolding faultOf letter part
@@ -98,10 +102,17 @@ step-requires c κs =
       (none .1, (A .out-whole, A .lent-fits)),
     )
 
+-- the counts of a session that is alive make its l
+told-after-requires : tie.Need-told-after-requires
+told-after-requires c κs =
+    let A = let-in (c .before .before .before .before .before .before .before .before .before .before .before .before .before .before) in
+    omega (arith, alive-total _ (A .alive-is), A .ranges .range .most)
+
 returns-3 : tie.Need-returns-3
 unfolding replyOf
 returns-3 c =
-    let p = c .before .before .before .before .before in
+    let n = c .before .before in
+    let p = n .before .before .before .before .before in
     let t = p .before .before .before in
     let x = t .before .before in
     let m = x .before .before in
@@ -110,7 +121,7 @@ returns-3 c =
     let f = a .s .party in
     call-accepted (a .s) (a .k) (lent (start e)) (now (a .work)) (sym (e .before .reason .ensures) ∙ e .if1 .left)
     (sym (found x .code-is) ∙ t .if2 .left)
-    (c .next-round .result) (c .next-round .ensures)
+    (n .next-round .result) (n .next-round .ensures) (c .told-after .result) (c .told-after .ensures)
     (mask f (letter (now (a .incoming)) (m .mail-of .result)))
     (ap (λ (y : Mail). mask f (letter (now (a .incoming)) y)) (m .mail-of .ensures)
     ∙ letters-are f (now (a .incoming)) (now (a .starts)) (now (a .lens)) (now (a .missing)) (now (a .r)) (now (a .out)))
@@ -118,6 +129,6 @@ returns-3 c =
 
 pub round-spec : {M : Type 1} → statement M
 round-spec =
-    tie.close (tie.spec (λ c κs. search needs) (λ c. search needs) (λ c. search needs) returns mail-of-requires fault-requires (λ c κs. search needs)
-    (λ c κs. search needs) (λ c. search needs) (λ c. search needs) returns-2 step-requires (λ c κs. search needs) (λ c. search needs)
-    (λ c. search needs) returns-3)
+    tie.close (tie.spec (λ c κs. search needs) (λ c κs. search needs) (λ c. search needs) (λ c. search needs) returns mail-of-requires
+    fault-requires (λ c κs. search needs) (λ c κs. search needs) (λ c κs. search needs) (λ c. search needs) (λ c. search needs) returns-2
+    step-requires (λ c κs. search needs) told-after-requires (λ c. search needs) (λ c. search needs) returns-3)

@@ -6,10 +6,10 @@ use Rattle.sessions.proofs.deal.shares.Statement.{statement}
 use Rattle.sessions.proofs.deal.shares.Tie as tie
 
 abbrev Inv-loop : tie.InvT-loop
-Inv-loop t₀ from end n x size y₀ at₀ t y at = (at ≤ 25300) × (1 ≤ size) × (size ≤ LENT-MOST)
+Inv-loop t₀ from end n x size y₀ at₀ t y at = (at ≤ 42100) × (1 ≤ size) × (size ≤ LENT-MOST)
 
 abbrev μ-loop : tie.MeasureT-loop
-μ-loop t₀ from end n x size y₀ at₀ t y at = 25300 - at
+μ-loop t₀ from end n x size y₀ at₀ t y at = 42100 - at
 
 pub shares-spec : {M : Type 1} → statement M
 shares-spec =

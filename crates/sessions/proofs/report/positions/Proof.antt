@@ -6,10 +6,10 @@ use Rattle.sessions.proofs.report.positions.Statement.{statement}
 use Rattle.sessions.proofs.report.positions.Tie as tie
 
 abbrev Inv-loop : tie.InvT-loop
-Inv-loop t n len size at₀ at = (at ≤ 600) × (1 ≤ size) × (size ≤ LENT-MOST)
+Inv-loop t n len size at₀ at = (at ≤ 2000) × (1 ≤ size) × (size ≤ LENT-MOST)
 
 abbrev μ-loop : tie.MeasureT-loop
-μ-loop t n len size at₀ at = 600 - at
+μ-loop t n len size at₀ at = 2000 - at
 
 pub positions-spec : {M : Type 1} → statement M
 positions-spec =
