@@ -26,7 +26,7 @@ abbrev pub sumOf : List ℕ → ℕ
 sumOf counts = pick (leb (length counts) MOST) (total counts) 0
 
 -- ---- what opening refuses of them
--- "no batch or more than 16"
+-- 23 is "no batch or more than 16"
 unfoldable pub few : List ℕ → Bool
 few counts = leb 1 (length counts) && leb (length counts) MOST
 
@@ -47,7 +47,7 @@ tally counts = tab MOST (λ j. getD counts j 0)
 unfoldable pub joined : List ℕ → Bool
 joined counts = allOf (MOST - 1) (λ j. not (eqb (getD counts j 0) 0) || eqb (getD counts (suc j) 0) 0)
 
--- counts that a session with l can have
+-- counts that a session with l can have; of others no opening made it (BatchLaws, `whole-tally`, `opened-with`)
 unfoldable pub whole : ℕ → List ℕ → Bool
 whole l counts = eqb (total counts) l && joined counts
 

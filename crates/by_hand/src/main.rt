@@ -109,14 +109,16 @@ fn echo(s: Session, work: &mut [u8; WORK_LEN], out: &mut [u8]) -> u8 {
     number(v)
 }
 
-// The same session with other counts.
-fn forged(s: Session, first: u32, second: u32) -> Session {
+// The call for round 1, with an outgoing buffer as it is due, of the same session with other counts.
+fn forged(what: &[u8], s: Session, first: u32, second: u32, work: &mut [u8; WORK_LEN]) {
     let party = s.party;
-    Session {
+    let other = Session {
         party: party,
         due: s.due,
         counts: [first, second, 0, 0, 0, 0, 0, 0, 0, 0, 0, 0, 0, 0, 0, 0],
-    }
+    };
+    let mut out = [0u8; 784];
+    line(what, echo(other, work, &mut out));
 }
 
 fn eight() {
@@ -130,55 +132,67 @@ fn eight() {
         b"echoes of 113 bytes among 8",
         echo(s, &mut work, &mut long),
     );
+    forged(b"no batch in the session", s, 0, 0, &mut work);
+    forged(b"batches of 2 for 1 result", s, 2, 0, &mut work);
+    forged(b"batches of 1 and 1 for 1 result", s, 1, 1, &mut work);
+    forged(b"batches of 0 and 1 for 1 result", s, 0, 1, &mut work);
     let mut out = [0u8; 784];
-    line(
-        b"no batch in the session",
-        echo(forged(s, 0, 0), &mut work, &mut out),
-    );
-    line(
-        b"batches of 2 for 1 result",
-        echo(forged(s, 2, 0), &mut work, &mut out),
-    );
-    line(
-        b"batches of 1 and 1 for 1 result",
-        echo(forged(s, 1, 1), &mut work, &mut out),
-    );
-    line(
-        b"batches of 0 and 1 for 1 result",
-        echo(forged(s, 0, 1), &mut work, &mut out),
-    );
     line(b"echoes of 112 bytes among 8", echo(s, &mut work, &mut out));
+}
+
+// One batch, and two.
+fn one(what: &[u8], n: usize, count: u32) {
+    line(what, bare(n, &[count]));
+}
+
+fn two(what: &[u8], n: usize, first: u32, second: u32) {
+    line(what, bare(n, &[first, second]));
+}
+
+// None, 16 and 17 of `count` each.
+fn none(what: &[u8], n: usize) {
+    let counts = [1u32];
+    line(what, bare(n, &counts[..0]));
+}
+
+fn sixteen(what: &[u8], n: usize, count: u32) {
+    let counts = [count; 16];
+    line(what, bare(n, &counts));
+}
+
+fn seventeen(what: &[u8], n: usize, count: u32) {
+    let counts = [count; 17];
+    line(what, bare(n, &counts));
 }
 
 // How many batches there may be, and that 15 comes before it.
 fn batches() {
-    let none = [1u32];
-    line(b"no batch", bare(2, &none[..0]));
-    line(b"16 batches, no share lists", bare(2, &[18750u32; 16]));
-    line(b"17 batches", bare(2, &[1u32; 17]));
-    line(b"17 batches of 300000", bare(2, &[300000u32; 17]));
-    line(b"9 boxes, no batch", bare(9, &none[..0]));
-    line(b"9 boxes, 17 batches", bare(9, &[1u32; 17]));
+    none(b"no batch", 2);
+    sixteen(b"16 batches, no share lists", 2, 18750);
+    seventeen(b"17 batches", 2, 1);
+    seventeen(b"17 batches of 300000", 2, 300000);
+    none(b"9 boxes, no batch", 9);
+    seventeen(b"9 boxes, 17 batches", 9, 1);
 }
 
 // Their sum, and batches of 0.
 fn sums() {
-    line(b"299999 and 1, no share lists", bare(2, &[299999u32, 1]));
-    line(b"299999 and 2", bare(2, &[299999u32, 2]));
-    line(b"4294967295 and 2", bare(2, &[4294967295u32, 2]));
-    line(b"16 of 4294967295", bare(2, &[4294967295u32; 16]));
-    line(b"0", bare(2, &[0u32]));
-    line(b"0 and 1", bare(2, &[0u32, 1]));
-    line(b"300000 and 0", bare(2, &[300000u32, 0]));
-    line(b"300001 and 0", bare(2, &[300001u32, 0]));
-    line(b"9 boxes, 300001 and 0", bare(9, &[300001u32, 0]));
+    two(b"299999 and 1, no share lists", 2, 299999, 1);
+    two(b"299999 and 2", 2, 299999, 2);
+    two(b"4294967295 and 2", 2, 4294967295, 2);
+    sixteen(b"16 of 4294967295", 2, 4294967295);
+    one(b"0", 2, 0);
+    two(b"0 and 1", 2, 0, 1);
+    two(b"300000 and 0", 2, 300000, 0);
+    two(b"300001 and 0", 2, 300001, 0);
+    two(b"9 boxes, 300001 and 0", 9, 300001, 0);
 }
 
 fn main() {
-    line(b"300000 results, no share lists", bare(2, &[300000u32]));
-    line(b"300001 results", bare(2, &[300001u32]));
-    line(b"8 boxes, no share lists", bare(8, &[1u32]));
-    line(b"9 boxes", bare(9, &[1u32]));
+    one(b"300000 results, no share lists", 2, 300000);
+    one(b"300001 results", 2, 300001);
+    one(b"8 boxes, no share lists", 8, 1);
+    one(b"9 boxes", 9, 1);
     batches();
     sums();
     eight();

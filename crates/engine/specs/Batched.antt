@@ -7,7 +7,7 @@ use Prim.Native.Nat.{ℕ}
 use lib.Dec.{eqb}
 use Rattle.lists.specs.Pick.{pick}
 use Rattle.batches.specs.Batches.{whole, untold}
-use Rattle.engine.specs.Step.{Frame, Session, Lent, Reply, Accepted, Refused, Outcome, Fault, Protocol, reasonOf, faultOf, toldAfter}
+use Rattle.engine.specs.Step.{Frame, Session, Lent, Reply, Accepted, Refused, Outcome, leaves, Fault, Protocol, reasonOf, faultOf, toldAfter}
 use Rattle.engine.specs.Step.{refused, faulted, accepted, roundSpec}
 use Rattle.engine.specs.World.{Box, turnedBox}
 use Rattle.engine.specs.OneBox.{Turn, turnBox, taken}
@@ -61,6 +61,10 @@ module _ (T : Table) (c d : List ℕ) where
     beside : (due : ℕ) → Beside c d (record { party = f; due = due; counts = c }) (record { party = f; due = due; counts = d })
     beside due = record { party = refl; due = refl; first = refl; second = refl; first-makes = hc; second-makes = hd }
 
+    left : (due : ℕ) (v : Reply) (w o t u : List ℕ) → t ≡ pick (taken v) (toldAfter due c) untold → u ≡ pick (taken v) (toldAfter due d) untold
+        → Equal c d (leaves (record { party = f; due = due; counts = c }) v t w o) (leaves (record { party = f; due = due; counts = d }) v u w o)
+    left due v w o t u et eu = record { reply = refl; work = refl; out = refl; sessions = beside due; told-first = et; told-second = eu }
+
     call-same : Equal c d (roundSpec P s a q w) (roundSpec P t a q w)
     unfolding roundSpec refused faulted accepted
     call-same = rw reason-same (go (eqb (reasonOf P t a q w) 0) (eqb (faultOf (P .rule a) f q w .code) 0))
@@ -74,9 +78,9 @@ module _ (T : Table) (c d : List ℕ) where
         go : (b z : Bool)
             → Equal c d (pick b (pick z (accepted P s a q w) (faulted s e q w)) (refused s code q w))
             (pick b (pick z (accepted P t a q w) (faulted t e q w)) (refused t code q w))
-        go true true = unfold accepted in record { reply = refl; work = refl; out = refl; sessions = beside _; told-first = refl; told-second = refl }
-        go true false = unfold faulted in record { reply = refl; work = refl; out = refl; sessions = beside 0; told-first = refl; told-second = refl }
-        go false z = unfold refused in record { reply = refl; work = refl; out = refl; sessions = beside k; told-first = refl; told-second = refl }
+        go true true = unfold accepted in left _ Accepted _ _ _ _ refl refl
+        go true false = unfold faulted in left 0 (Refused (e .code) (e .party)) _ _ _ _ refl refl
+        go false z = unfold refused in left k (Refused code (f .i)) _ _ _ _ refl refl
 
   -- one call of two boxes
   pub one-same : (s t : Session) (w v : List ℕ) → Beside c d s t → w ≡ v → (a : ℕ) (q : Lent)

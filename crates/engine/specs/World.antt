@@ -116,8 +116,8 @@ pub record Course (P : Protocol) (n l : ℕ) (counts : ℕ → List ℕ) : Type 
   pub live : (d b : ℕ) → d < steps → b < n → P .alive (sessionOf n l (counts b) b (number d)) ≡ true
   pub over : (b : ℕ) → P .alive (sessionOf n l (counts b) b (number steps)) ≡ false
 
--- what a claim on lists of calls is about: n boxes with one l, which each box's own counts make. Agrees k: "its r Blocks .., where due, equal the other boxes'", of
--- a call for round k; Given b: "one opening with the inputs of demand 3", for box b
+-- what a claim on lists of calls is about: n boxes with one l. counts b: what box b keeps of its own list, whose sum is l; Agrees k: "its r
+-- Blocks .., where due, equal the other boxes'", of a call for round k; Given b: "one opening with the inputs of demand 3", for box b
 pub record Scene (Args : Type 0) : Type 1 where
   pub protocol : Protocol
   pub opens : Opening Args

@@ -36,8 +36,8 @@ pub record Run : Type 0 where
   pub strings : List ℕ
 
 -- ---- as they are lent
--- What the box f is opened with, work area and outgoing buffer aside: counts whose sum is its l, exact lengths, bytes, bits 0 or 1, labels as due, own entries zero.
--- Of the seeds and of the delta nothing is asked, and nothing of the masks for the box itself.
+-- What the box f is opened with, work area and outgoing buffer aside: counts whose sum is its l, exact lengths, bytes, bits 0 or 1, labels as
+-- due, own entries zero. Of the seeds and of the delta nothing is asked, and nothing of the masks for the box itself.
 pub record Own (f : Frame) (a : Args) : Type 0 where
   pub party : party a ≡ f
   pub counts-taken : countsFault (a .counts) ≡ 0

@@ -1,6 +1,6 @@
 // What opening refuses (document 01, "Opening: 15, 16, 3 for l = 0, 6, 17, then lent bytes in order (1 before 4)"; document 02, order 5: 22
-// between the two; order 7: 23 before 16, of the counts: crate batches): the lengths and the bytes of its inputs. The definition stands in crates/rounds (Opening). Secret bytes decide nothing
-// but a refusal: bit bytes, own entries and mask bytes (1, 4).
+// between the two; order 7: 23 before 16): the lengths and the bytes of its inputs; what is refused of the counts is crate batches'. The
+// definition stands in crates/rounds (Opening). Secret bytes decide nothing but a refusal: bit bytes, own entries and mask bytes (1, 4).
 ghost use mathlib.Core.Path.{_≡_};
 ghost use Prim.Native.Nat.{_+_, _*_, _≤_, _<_};
 ghost use lib.ListN.{length, getD};

@@ -1,5 +1,5 @@
--- The calls for C (include/nuzsdike.h): a session is twenty numbers, an answer is one, and what is told of the batches stands in a lent buffer.
--- What each leaves is what the call's definition leaves.
+-- The calls for C (include/nuzsdike.h): a session is twenty numbers, an answer is one, and what is told of the batches stands in a lent
+-- buffer. What each leaves is what the call's definition leaves.
 use mathlib.Core.Bool.{not, _&&_}
 use mathlib.Core.List.{List, [], _∷_, _++_}
 use Prim.Native.Nat.{ℕ, _+_, _*_}

@@ -193,16 +193,20 @@ module _ (s : Session) (k : ℕ) (q : Lent) (w : List ℕ) where
       go false true = omega arith
       go false false = omega arith
 
+  -- the same session with another round due
+  narrow-due : {due : ℕ} → Narrow s → due < 0x1_0000_0000 → Narrow (record { party = s .party; due = due; counts = s .counts })
+  narrow-due h d = record { n-fits = h .n-fits; i-fits = h .i-fits; l-fits = h .l-fits; due-fits = d; counts-fit = h .counts-fit }
+
   -- a round call leaves a session that fits
   pub round-narrow : Narrow s → Narrow (roundSpec (protocolOf table) s k q w .session)
   unfolding accepted
   round-narrow h =
       round-cases (protocolOf table) s k q w (λ (o : Outcome). Narrow (o .session)) (λ ne. h)
-      (λ z ne. rw (round-faults (protocolOf table) s k q w z ne) (record { n-fits = h .n-fits; i-fits = h .i-fits; l-fits = h .l-fits; due-fits = omega arith; counts-fit = h .counts-fit }))
+      (λ z ne. rw (round-faults (protocolOf table) s k q w z ne) (narrow-due h (omega arith)))
       (λ z f.
       let A = reason-zero s k q w z in
       let low = round-low (s .party .n) (s .due) (alive-round s (A .alive-is)) in
-      record { n-fits = h .n-fits; i-fits = h .i-fits; l-fits = h .l-fits; counts-fit = h .counts-fit; due-fits = next-small (omega (arith, A .due-is, low)) (eqb (s .party .n) 2) })
+      narrow-due h (next-small (omega (arith, A .due-is, low)) (eqb (s .party .n) 2)))
 
   -- and names a party that fits
   pub round-named : Narrow s → named (roundSpec (protocolOf table) s k q w .reply) ≤ NO-PARTY
@@ -231,7 +235,8 @@ combine-named a v o e h = zero? (Combine.reason a) (named v ≤ NO-PARTY) some n
 -- ---- what a host asks
 -- ---- a session in its numbers
 -- all from COUNTS on
-pub loaded : (s x : List ℕ) (k : ℕ) → length s ≡ SESSION → k ≡ length s - COUNTS → x ≡ tally (take k (drop COUNTS s)) → x ≡ tally (drop COUNTS s)
+pub loaded : (s x : List ℕ) (k : ℕ) → length s ≡ SESSION → k ≡ length s - COUNTS → x ≡ tally (take k (drop COUNTS s))
+    → x ≡ tally (drop COUNTS s)
 loaded s x k h e ex =
     ex ∙ ap (λ m. tally (take m (drop COUNTS s))) (e ∙ sym (length-drop COUNTS s)) ∙ ap tally (take-length (drop COUNTS s))
 

@@ -1,6 +1,5 @@
-// What the calls for C are in numbers: a session as twenty numbers, an answer as one, what is told of the batches in a lent buffer, and what a
-// host asks for, 0 where there is none.
-// specs/Interface.antt has what the calls themselves leave; crate nuzsdike exports them.
+// What the calls for C are in numbers: a session as twenty numbers, an answer as one, what is told of the batches in a lent buffer, and what
+// a host asks for, 0 where there is none. specs/Interface.antt has what the calls themselves leave; crate nuzsdike exports them.
 ghost use mathlib.Core.Path.{_≡_};
 ghost use Prim.Native.Nat.{_<_, _≤_};
 ghost use lib.ListN.{length};
@@ -8,8 +7,8 @@ ghost use Rattle.plan.specs.Plan.{within};
 ghost use Rattle.engine.specs.Step.{Refused, replyOf, frame};
 ghost use Rattle.engine.specs.Area.{off};
 ghost use Rattle.rounds.specs.Area.{sizeOf};
-ghost use Rattle.interface.specs.Interface.{COUNTS, SESSION, TOLD, sessionAt, headOf, numbersOf, packedOf, NO-PARTY, toldC, toldReason, sumC, dueOf};
-ghost use Rattle.interface.specs.Interface.{roundAfter, messageLen, nameByte, recordBytes, bucketOf, jointAt, pairwiseAt};
+ghost use Rattle.interface.specs.Interface.{COUNTS, SESSION, TOLD, sessionAt, headOf, numbersOf, packedOf, NO-PARTY, toldC, toldReason};
+ghost use Rattle.interface.specs.Interface.{sumC, dueOf, roundAfter, messageLen, nameByte, recordBytes, bucketOf, jointAt, pairwiseAt};
 ghost use Rattle.interface.specs.Narrow.{Narrow, named};
 use batches::Pairs;
 use engine::Frame;

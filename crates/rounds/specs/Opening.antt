@@ -82,7 +82,8 @@ lengthsFault f counts bits alpha beta rest =
     6))
     15
 
--- "Opening: 15, 16, 3 for l = 0, 6, 17, then lent bytes in order", with 23 "after 15 and before 16" (02, order 7): the first that it has, or 0
+-- "Opening: 15, 16, 3 for l = 0, 6, 17, then lent bytes in order", with 23 "after 15 and before 16" (02, order 7): the first that it has,
+-- or 0
 unfoldable pub reason : Args → ℕ
 reason a =
     orFault (lengthsFault (party a) (countsFault (a .counts)) (length (a .bits)) (length (a .alpha)) (length (a .beta)) (buffersDue a))
