@@ -5,26 +5,25 @@ use mathlib.Core.Bool.{Bool, true, false, _&&_}
 use mathlib.Core.Logic.{_≢_}
 use mathlib.Core.List.{List, [], _∷_}
 use Prim.Native.Nat.{ℕ}
-use native.Mathlib.Omega.{arith}
 use lib.ListN.{length}
 use lib.Dec.{ltb, leb, eqb}
-use borrow.Author.Tests.{eq-eqb, ne-eqb, leb-true}
+use borrow.Author.Tests.{ne-eqb, leb-true}
 use Rattle.lists.specs.Pick.{pick}
 use Rattle.lists.specs.All.{and-both}
 use Rattle.lists.specs.Rows.{cat-ext}
 use Rattle.batches.specs.Batches.{MOST, total, countsFault, tally, whole, told, untold}
-use Rattle.batches.specs.BatchLaws.{Taken, taken, total-single, single-taken, told-tally, whole-tally, Behind, behind, opened-with}
+use Rattle.batches.specs.BatchLaws.{taken, total-single, single-taken, told-tally, whole-tally, Behind, behind, opened-with}
 use Rattle.plan.specs.Plan.{theRounds}
 use Rattle.engine.specs.declared.Frame.{Frame}
 use Rattle.engine.specs.declared.Session.{Session}
-use Rattle.engine.specs.Step.{Reply, Accepted, Refused, Outcome, toldAfter}
+use Rattle.engine.specs.Step.{Accepted, Refused, Outcome, toldAfter}
 use Rattle.engine.specs.OneBox.{Turn}
 use Rattle.engine.specs.OneBox as OneBox
-use Rattle.engine.specs.Batched.{Beside, Equal, outcomes, AllEqual, all-same}
+use Rattle.engine.specs.Batched.{Equal, outcomes, AllEqual, all-same}
 use Rattle.engine.specs.Order.{roundIn}
 use Rattle.engine.specs.Plain.{protocolOf}
 use Rattle.rounds.specs.Area.{SECTIONS}
-use Rattle.rounds.specs.Opening.{Args, party, buffersDue, masksFault, bytesFault, reason, kept, section, area, spec}
+use Rattle.rounds.specs.Opening.{Args, party, buffersDue, masksFault, bytesFault, reason, section, area, spec}
 use Rattle.rounds.specs.OpeningLaws.{passed}
 use Rattle.rounds.specs.Table.{fine, table}
 use Rattle.alone.specs.Opening.{spec-takes}

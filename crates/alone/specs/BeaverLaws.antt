@@ -13,7 +13,7 @@ use Rattle.share.specs.Lent.{lentOf}
 use Rattle.share.specs.LentLaws.{agree-lent}
 use Rattle.encode.specs.Encode.{twoBitsTwoBlocks}
 use Rattle.engine.specs.declared.Frame.{Frame}
-use Rattle.rounds.specs.Opening.{Args, party}
+use Rattle.rounds.specs.Opening.{party}
 use Rattle.rounds.specs.Buckets.{Triple, permBytes}
 use Rattle.rounds.specs.Beaver as B
 use Rattle.alone.specs.Formula as F

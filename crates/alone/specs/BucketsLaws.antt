@@ -22,7 +22,7 @@ use Rattle.encode.specs.Encode.{dvalueItem}
 use Rattle.plan.specs.Plan.{leaky, bucketSize}
 use Rattle.plan.specs.PlanLaws.{leaky-most, bucket-low}
 use Rattle.engine.specs.declared.Frame.{Frame}
-use Rattle.rounds.specs.Opening.{Args, party}
+use Rattle.rounds.specs.Opening.{party}
 use Rattle.rounds.specs.Haand.{x, y, zRows}
 use Rattle.rounds.specs.Flaand.{eRows}
 use Rattle.rounds.specs.Buckets.{Triple, two, combine, order, permBytes, entry, later, d, dvalueMsg, dTold, dOpened, ds, zShare}

@@ -16,7 +16,7 @@ use Rattle.message.specs.declared.Kind.the-variants.{Dms}
 use Rattle.message.specs.Format.{formOf}
 use Rattle.plan.specs.Plan.{dmLen}
 use Rattle.engine.specs.declared.Frame.{Frame}
-use Rattle.rounds.specs.Opening.{Args, party}
+use Rattle.rounds.specs.Opening.{party}
 use Rattle.rounds.specs.Fashare.{d0, d1, dmAt, verFaults, dmRows, dmRow, others1, dibiMsg}
 use Rattle.rounds.specs.DmLaws.{Dues, clean-dues, ver-clean, dues-place, dues-in}
 use Rattle.alone.specs.Formula as F

@@ -21,7 +21,7 @@ use Rattle.encode.specs.Encode.{bitBlock}
 use Rattle.plan.specs.Plan.{leaky}
 use Rattle.engine.specs.declared.Frame.{Frame}
 use Rattle.rounds.specs.Area.{rows}
-use Rattle.rounds.specs.Opening.{Args, party}
+use Rattle.rounds.specs.Opening.{party}
 use Rattle.rounds.specs.Haand.{x, r, G, phi, u, leakyRows, zRows}
 use Rattle.rounds.specs.Flaand.{e, flaandMsg, eTold, uTold, eRows, zKey, h, hs, commMsg, hashMsg}
 use Rattle.rounds.specs.Buckets.{zShare}

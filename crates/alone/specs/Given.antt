@@ -9,7 +9,7 @@ use Rattle.block.specs.Trip.{small-at}
 use Rattle.share.specs.ShareLaws.{SmallShare, small-share-at}
 use Rattle.plan.specs.Plan.{InRange}
 use Rattle.engine.specs.declared.Frame.{Frame}
-use Rattle.rounds.specs.Opening.{Args, party}
+use Rattle.rounds.specs.Opening.{party}
 use Rattle.rounds.specs.Haand as Haand
 use Rattle.rounds.specs.Beaver as Beaver
 use Rattle.alone.specs.Formula as F

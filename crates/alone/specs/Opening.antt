@@ -2,11 +2,11 @@
 use mathlib.Core.Path.{_≡_, refl, sym, ap, _∙_}
 use mathlib.Core.Bool.{Bool, true, false, _&&_}
 use mathlib.Core.List.{List, [], _∷_}
-use Prim.Native.Nat.{ℕ, _-_, _*_, _<_, _≤_}
+use Prim.Native.Nat.{ℕ, _-_, _*_, _<_}
 use native.Mathlib.Omega.{arith}
-use lib.ListN.{length, replicate, length-replicate}
+use lib.ListN.{length, length-replicate}
 use lib.Dec.{ltb, leb, eqb}
-use borrow.Author.Tests.{ltb-true, ltb-false, leb-true, eqb-true, eqb-false, eq-eqb, ne-eqb}
+use borrow.Author.Tests.{ltb-true, ltb-false, eqb-true, eq-eqb}
 use Rattle.lists.specs.Pick.{pick}
 use Rattle.lists.specs.All.{allOf, of-all, and-both}
 use Rattle.lists.specs.Bytes.{Bytes}
@@ -23,7 +23,7 @@ use Rattle.engine.specs.Sheet.{Known, known-lay}
 use Rattle.engine.specs.Honest.{due}
 use Rattle.rounds.specs.Area.{DELTA, SEED, PAIRS, MASKS, BITS, ALPHA, BETA, ROUNDS-OWN, sizes, sizeOf, workLen}
 use Rattle.rounds.specs.Opening.{Args, party, buffersDue, reason, kept, section, area, spec}
-use Rattle.rounds.specs.OpeningLaws.{passed}
+use Rattle.rounds.specs.OpeningLaws.{passed, section-zero}
 use Rattle.rounds.specs.Toss as Toss
 use Rattle.alone.specs.Holds.{since, storeOf, holds}
 use Rattle.alone.specs.Formula.{Seen}
@@ -95,20 +95,6 @@ inputs = DELTA ∷ SEED ∷ PAIRS ∷ MASKS ∷ BITS ∷ ALPHA ∷ BETA ∷ []
 pub first-seven : (Q : ℕ → Type 0) → Every Q inputs → (s : ℕ) → s < 7 → Q s
 unfolding allOf mem
 first-seven Q h s l = every-mem Q inputs h s (of-all 7 (λ s. mem s inputs) refl s l)
-
--- all else is zero
-section-zero : (a : Args) (s : ℕ) → 7 ≤ s → section a s ≡ replicate (sizeOf (party a) s) 0
-unfolding section
-section-zero a s h =
-    rw (
-      ne-eqb s 0 (omega arith),
-      ne-eqb s 1 (omega arith),
-      ne-eqb s 2 (omega arith),
-      ne-eqb s 3 (omega arith),
-      ne-eqb s 4 (omega arith),
-      ne-eqb s 5 (omega arith),
-      ne-eqb s 6 (omega arith),
-    ) refl
 
 section-len : (a : Args) → Lens a → (s : ℕ) → length (section (kept a) s) ≡ sizeOf (party a) s
 unfolding section sizeOf sizes

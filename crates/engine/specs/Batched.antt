@@ -1,7 +1,7 @@
 -- "Once opened, messages, refusals and results equal those of a single batch of l with the same inputs and calls" (02, order 7): two sessions
 -- that differ in their counts alone, which make one l, answer every list of calls alike.
 use mathlib.Core.Path.{_≡_, refl, sym, ap, ap₂, _∙_, subst}
-use mathlib.Core.Bool.{Bool, true, false, _&&_}
+use mathlib.Core.Bool.{Bool, true, false}
 use mathlib.Core.List.{List, [], _∷_}
 use Prim.Native.Nat.{ℕ}
 use lib.Dec.{eqb}

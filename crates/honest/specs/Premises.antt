@@ -1,14 +1,14 @@
 -- The premises of demand 3 in its own words: "inputs that 01 gives opening no reason to refuse" are those that Inputs.antt lists.
 use mathlib.Core.Path.{_≡_, refl, sym, ap, _∙_, subst}
-use mathlib.Core.Bool.{Bool, true, _&&_}
+use mathlib.Core.Bool.{Bool, true}
 use mathlib.Core.Logic.{_≢_}
 use mathlib.Core.List.{List}
 use Prim.Native.Nat.{ℕ, suc, _+_, _-_, _*_, _<_, _≤_}
 use native.Mathlib.Omega.{arith}
 use lib.ListN.{length, getD, length-replicate}
-use lib.Dec.{ltb, leb, eqb}
+use lib.Dec.{leb, eqb}
 use borrow.Author.Tests.{leb-true, eqb-true}
-use Rattle.lists.specs.Pick.{pick, pick-then, pick-else}
+use Rattle.lists.specs.Pick.{pick, pick-then}
 use Rattle.lists.specs.All.{allOf, of-all, and-both}
 use Rattle.lists.specs.Bytes.{Bytes}
 use Rattle.algebra.specs.Sum.{neq, neq-true}
@@ -20,7 +20,7 @@ use Rattle.plan.specs.Plan.{InRange, leaky, bitsCount, msgLen}
 use Rattle.engine.specs.declared.Frame.{Frame}
 use Rattle.rounds.specs.Area.{workLen}
 use Rattle.rounds.specs.OpeningLaws.{neither, passed}
-use Rattle.rounds.specs.Opening.{Args, party, listsDue, buffersDue, masksFault, bytesFault, lengthsFault, reason}
+use Rattle.rounds.specs.Opening.{Args, party, listsDue, buffersDue, masksFault, bytesFault, reason}
 use Rattle.honest.specs.Inputs.{Run, box, deltas, Own, lentBits, lentAlphas, lentBetas, Opened}
 use Rattle.honest.specs.Course.{lawful}
 use Rattle.honest.specs.Opening.{Given, honest-opening}

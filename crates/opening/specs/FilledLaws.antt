@@ -7,7 +7,6 @@ use native.Mathlib.Numerals.{add-one}
 use native.Mathlib.Omega.{arith}
 use lib.ListN.{length, take, drop, replicate, replicate-append-replicate, drop-of-length-le, length-drop}
 use lib.Seq.{take-at}
-use borrow.Author.Tests.{ne-eqb}
 use borrow.Rule.Slice.PartMut.{putMid}
 use Rattle.lists.specs.Over.{cat, Written, written-zero, written-turn}
 use Rattle.lists.specs.Rows.{cat-part}
@@ -22,6 +21,7 @@ use Rattle.engine.specs.Area.{off, sec, putSec, toOthers}
 use Rattle.rounds.specs.Area.{SEED, BITS, SECTIONS, sizes, sizeOf, workLen, at, keep}
 use Rattle.rounds.specs.Toss as Toss
 use Rattle.rounds.specs.Opening.{Args, party, kept, section, area, spec}
+use Rattle.rounds.specs.OpeningLaws.{section-zero}
 use Rattle.area.specs.Given.{Work}
 use Rattle.area.specs.GivenLaws.{section-inside}
 use Rattle.area.specs.Sizes.{size-bits, size-alpha, size-beta}
@@ -73,20 +73,6 @@ module _ (size : ℕ → ℕ) (g : ℕ → List ℕ) where
         ∙ ap (λ k. cat b g ++ replicate k 0) (let q : rest (S - b) ≡ off size S - off size b = omega arith in q)
 
 -- ---- opening's
--- all else is zero
-section-zero : (a : Args) (s : ℕ) → EMPTY ≤ s → section a s ≡ replicate (sizeOf (party a) s) 0
-unfolding section
-section-zero a s h =
-    rw (
-      ne-eqb s 0 (omega arith),
-      ne-eqb s 1 (omega arith),
-      ne-eqb s 2 (omega arith),
-      ne-eqb s 3 (omega arith),
-      ne-eqb s 4 (omega arith),
-      ne-eqb s 5 (omega arith),
-      ne-eqb s 6 (omega arith),
-    ) refl
-
 -- where nothing is refused
 module _ (a : Args) (D : Due (party a) (lens a)) where
   abbrev f : Frame

@@ -1,16 +1,17 @@
--- What no fault of opening says.
+-- What no fault of opening says, and what it leaves behind the inputs.
 use mathlib.Core.Path.{_≡_, refl}
 use mathlib.Core.Bool.{Bool, true, false, _&&_}
 use Prim.Native.Nat.{ℕ, suc, _<_, _≤_}
 use native.Mathlib.Omega.{arith}
-use lib.ListN.{length}
+use lib.ListN.{length, replicate}
 use lib.Dec.{ltb, leb, eqb}
-use borrow.Author.Tests.{ltb-true, leb-true, eqb-true, eqb-false}
+use borrow.Author.Tests.{ltb-true, leb-true, eqb-true, eqb-false, ne-eqb}
 use Rattle.lists.specs.Pick.{pick, pick-then}
 use Rattle.lists.specs.All.{and-both}
 use Rattle.batches.specs.Batches.{countsFault}
 use Rattle.engine.specs.declared.Frame.{Frame}
-use Rattle.rounds.specs.Opening.{Args, party, listsDue, buffersDue, orFault, bytesFault, lengthsFault, reason}
+use Rattle.rounds.specs.Area.{COMMS, sizeOf}
+use Rattle.rounds.specs.Opening.{Args, party, listsDue, buffersDue, orFault, bytesFault, lengthsFault, reason, section}
 
 pub neither : (a b : ℕ) → orFault a b ≡ 0 → (a ≡ 0) × (b ≡ 0)
 unfolding orFault
@@ -59,3 +60,17 @@ pub record Passed (a : Args) : Type 0 where
 pub passed : (a : Args) → reason a ≡ 0 → Passed a
 unfolding reason
 passed a h = let e = neither _ (bytesFault a) h in record { numbers = within _ _ _ _ _ _ (e .0); bytes = e .1 }
+
+-- what it leaves behind the inputs is zero
+pub section-zero : (a : Args) (s : ℕ) → COMMS ≤ s → section a s ≡ replicate (sizeOf (party a) s) 0
+unfolding section
+section-zero a s h =
+    rw (
+      ne-eqb s 0 (omega arith),
+      ne-eqb s 1 (omega arith),
+      ne-eqb s 2 (omega arith),
+      ne-eqb s 3 (omega arith),
+      ne-eqb s 4 (omega arith),
+      ne-eqb s 5 (omega arith),
+      ne-eqb s 6 (omega arith),
+    ) refl

@@ -1,4 +1,4 @@
-use Rattle.lists.specs.Kit.{_≡_, sym, ap, subst, _∙_, ℕ, true, arith, now, needs}
+use Rattle.lists.specs.Kit.{_≡_, sym, ap, subst, _∙_, true, arith, now, needs}
 use Rattle.engine.specs.Step.{Lent, replyOf, mask, part, partsIn, faultOf}
 use Rattle.engine.specs.StepLaws.{or-zero}
 use Rattle.engine.specs.Plain.{ruleOf}
