@@ -1,6 +1,8 @@
 // What a round call refuses before it looks at what was received (document 01, "Round call: 20, 19, 17, 18"; 18 no longer occurs since 02,
 // order 6): it leaves everything as it was. 14, 13, 21 and 6: crate form. The definitions are those of crates/engine (Step, Plain) over the table of crates/rounds. Nothing here is
 // secret. A host may lend anything: every number is taken as it comes, and no sum wraps.
+#![tactic(auto)]
+
 ghost use Rattle.std.specs.Prelude.{◌≡◌, true, ◌&&◌, [], ℕ, ◌<◌, ◌≤◌, length, eqb};
 ghost use Rattle.plan.specs.Plan.{InRange};
 ghost use Rattle.engine.specs.Step.{frame, parts_in, reason_of};

@@ -1,6 +1,8 @@
 // AES-128's cipher (FIPS 197, 5.1) by tables: a round is 16 reads of crate aes_tables' words and 16 XORs, the State four columns in
 // registers. The definition is crate fips197's, specs/Cipher.antt. Bytes of the State are indices: what is drawn from a seed is known to
 // every box, and so is the seed (docs/SECURITY.md); nothing secret may be enciphered by this.
+#![tactic(auto)]
+
 ghost use Rattle.std.specs.Prelude.{◌≡◌, ◌≤◌};
 ghost use Rattle.block.specs.Block.{bytes_of};
 ghost use Rattle.fips197.specs.Cipher as C;
@@ -13,7 +15,7 @@ use aes_tables::ENTRIES;
 use block::Block;
 
 // The State: four columns, the first byte of each lowest.
-#[derive(Drop)]
+#[derive(Clone, Copy)]
 pub struct Columns(pub u32, pub u32, pub u32, pub u32);
 
 // A Block as the State.

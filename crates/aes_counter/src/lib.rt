@@ -2,6 +2,8 @@
 // column, and the second adds up what the columns give, so after two rounds the State is the XOR of three parts, one for each byte: tables
 // of 256 of them are made once for a key, and eight rounds of ten are left for each Block. Seed and counter are known to every box and may
 // be indices (docs/SECURITY.md).
+#![tactic(auto)]
+
 ghost use Rattle.std.specs.Prelude.{◌≡◌, List, ℕ, ◌<◌, ◌^◌};
 ghost use Rattle.block.specs.Block.{bytes_of};
 ghost use Rattle.fips197.specs.Cipher as C;
@@ -19,7 +21,7 @@ use block::Block;
 pub const PARTS: usize = 1536;
 
 // Two Blocks.
-#[derive(Drop)]
+#[derive(Clone, Copy)]
 pub struct Two(pub Block, pub Block);
 
 // What the bytes of the column e add to columns of the next round.

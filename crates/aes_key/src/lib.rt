@@ -1,5 +1,7 @@
 // KeyExpansion of AES-128 (FIPS 197, 5.2): the 44 words of a key. The definition is crate fips197's, specs/Key.antt. The key is a seed that
 // all boxes share and may be an index.
+#![tactic(auto)]
+
 ghost use Rattle.std.specs.Prelude.{◌≡◌, ◌+◌, ◌-◌, ◌/◌, ◌%◌, ◌<◌, ◌≤◌, length};
 ghost use Rattle.fips197.specs.Key.{power, key_expansion};
 ghost use Rattle.aes_tables.specs.Tables as T;

@@ -1,6 +1,8 @@
 // AES's tables of 32-bit words, derived from the S-box (the definitions are those of crate fips197): what a byte adds to a column, SubBytes
 // and MixColumns in one, for each of the four places that it may have in it, and the S-box itself. 1,280 words, made once a call and lent:
 // a constant of that size would be laid down anew wherever it is read.
+#![tactic(auto)]
+
 ghost use Rattle.std.specs.Prelude.{◌≡◌, ◌<◌};
 ghost use Rattle.fips197.specs.Field.{product};
 ghost use Rattle.fips197.specs.Sbox as S;

@@ -2,6 +2,8 @@
 // results of appendices B and C.1; the Blocks that seed 1 draws, a line for each number; and BLAKE3 of the Blocks that 1,000 seeds draw, for
 // each seed those numbers in order. The numbers lie on both sides of 2^8, 2^16 and 2^32. make-stdout makes the file stdout: the standard's
 // values as it prints them, and the Blocks of src/crypto/aes_rng.rs compiled (oracle/aes-blocks).
+#![tactic(auto)]
+
 ghost use Rattle.std.specs.Prelude.{◌≡◌, ◌^◌, ◌<◌, length};
 ghost use Rattle.aes_tables.specs.Tables as T;
 ghost use Rattle.window.specs.Ready.{Ready};

@@ -1,5 +1,7 @@
 // The work area (docs/WORK_AREA.md; crates/rounds, Area): its sections by name, how long each is, where it lies, and how long the whole is.
 // All of that goes by n and l, which are public. And own delta, which is read from it.
+#![tactic(auto)]
+
 ghost use Rattle.std.specs.Prelude.{◌≡◌, ◌+◌, ◌-◌, ◌*◌, ◌≤◌, ◌<◌, length};
 ghost use Rattle.lists.specs.Pick.{pick};
 ghost use Rattle.lists.specs.Sect.{get};
@@ -132,7 +134,7 @@ pub fn work_len(n: usize, l: usize) -> usize
 }
 
 // Where a section starts and where it ends.
-#[derive(Drop)]
+#[derive(Clone, Copy)]
 pub struct Span(pub usize, pub usize);
 
 pub fn place(f: Frame, s: usize) -> Span

@@ -1,5 +1,7 @@
 // Several batches in one session (document 02, order 7): the sum of a list of counts and what opening refuses of it, the counts as a
 // session keeps them, and what is answered of them. Nothing here is secret; every count is taken as it comes, and no sum wraps.
+#![tactic(auto)]
+
 ghost use Rattle.std.specs.Prelude.{◌≡◌, ◌<◌, ◌≤◌, length, eqb};
 ghost use Rattle.lists.specs.Pick.{pick};
 ghost use Rattle.batches.specs.Batches.{MOST, total, sum_of, filled, counts_fault, tally, joined, whole, told};

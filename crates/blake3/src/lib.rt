@@ -4,6 +4,8 @@
 // One tree serves two kinds of list: bytes that lie side by side (stride 1), and the first bytes of items of `stride` bytes behind the 8
 // bytes of a count (echoes 7 and 16), which are gathered chunk by chunk. Of the first kind four whole chunks are hashed at once: the crate
 // blake3_chunks.
+#![tactic(auto)]
+
 ghost use Rattle.std.specs.Prelude.{◌≡◌, ◌+◌, ◌-◌, ◌*◌, ◌/◌, ◌^◌, ◌<◌, ◌≤◌, length, get_or};
 ghost use Rattle.lists.specs.Sect.{get};
 ghost use Rattle.lists.specs.Same.{same?};
@@ -121,7 +123,7 @@ fn joined(low: u32, high: u32) -> u64
 }
 
 // The hash as eight words.
-#[derive(Drop)]
+#[derive(Clone, Copy)]
 pub struct Digest(pub [u32; 8]);
 
 impl Digest {

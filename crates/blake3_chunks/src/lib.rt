@@ -3,6 +3,8 @@
 // Speed: the loop over the lanes has no call left in it once `lane` is inlined, and LLVM then turns it into vector code for the four
 // lanes. That needs words of 32 bits alone in it, so a chunk's number comes as two words, and `lane` called at one place: `compress`,
 // which many call, would stay a call, and so would a function of the seven rounds for both.
+#![tactic(auto)]
+
 ghost use Rattle.std.specs.Prelude.{◌≡◌, ◌+◌, ◌*◌, ◌/◌, ◌%◌, ◌^◌, ◌<◌, ◌≤◌, length, get_or};
 ghost use Rattle.lists.specs.Over.{tab};
 ghost use Rattle.blake3_node.specs.Node as N;
@@ -22,7 +24,7 @@ pub const WINDOW: usize = LANES * CHUNK_LEN;
 const LAST: usize = CHUNK_LEN / BLOCK_LEN - 1;
 
 // A chaining value.
-#[derive(Drop)]
+#[derive(Clone, Copy)]
 struct Node([u32; 8]);
 
 // `compress` of block k of a whole chunk.

@@ -2,6 +2,8 @@
 //
 // Speed: a round is written as two calls, `columns` and `diagonals`, and `compress` names them seven times. Each is small enough to be
 // inlined there, the state then stays in registers and `permute` costs nothing; a function for a whole round would stay a call.
+#![tactic(auto)]
+
 ghost use Rattle.std.specs.Prelude.{◌≡◌, ◌+◌, ◌/◌, ◌%◌, ◌^◌, ◌<◌, get_or};
 ghost use Rattle.std.specs.Int.Bits.{bit_xor};
 ghost use Rattle.word.specs.Word.{rotr};

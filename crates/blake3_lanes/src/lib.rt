@@ -3,6 +3,8 @@
 // Speed: the loop over the lanes of a window has no call left in it once `lane` is inlined, and LLVM then turns it into vector code for
 // four lanes at a time. That needs words of 32 bits alone in it (`Words`, `Digest`), 64 turns, and `lane` called at one place: `compress`,
 // which many call, would stay a call. The words of the message that are 0 are constants there, and their additions go.
+#![tactic(auto)]
+
 ghost use Rattle.std.specs.Prelude.{◌≡◌, ◌*◌, ◌<◌, ◌≤◌, length, get_or};
 ghost use Rattle.lists.specs.Over.{tab, cat};
 ghost use Rattle.blake3_lanes.specs.Lanes as S;
@@ -22,7 +24,7 @@ const BLOCKS_LEN: usize = LANES * 16;
 const HASHES_LEN: usize = LANES * 32;
 
 // The four words of a Block.
-#[derive(Drop)]
+#[derive(Clone, Copy)]
 struct Words(u32, u32, u32, u32);
 
 fn split(b: Block) -> Words

@@ -1,6 +1,8 @@
 // BLAKE3's nodes: the chaining value of a chunk, of at most 1024 bytes, and that of a parent over two nodes.
 // From the BLAKE3 specification, 2.4 and 2.5, with the names of the authors' reference_impl.rs. The tree over the nodes is the crate
 // blake3.
+#![tactic(auto)]
+
 ghost use Rattle.std.specs.Prelude.{◌≡◌, ◌++◌, ◌+◌, ◌<◌, ◌≤◌, length};
 ghost use Rattle.blake3_core.specs.Compress as S;
 ghost use Rattle.blake3_node.specs.Node as N;

@@ -1,5 +1,7 @@
 // BLAKE3's published test vectors: the hash of the first n bytes of 0, 1, .., 250, 0, 1, .. at the 35 published lengths n.
 // A line for each: the length, a space, the hash. The file stdout beside src/ was made by Debian's b3sum: make-stdout makes it again.
+#![tactic(auto)]
+
 use libc::STDOUT_FILENO;
 
 const LENGTHS: [usize; 35] = [

@@ -1,13 +1,15 @@
 // Blocks: 16 bytes, byte 0 lowest. From src/block.rs (`Block`: low, high, `const_mul`, XOR, equality) and src/utils.rs (`xor_inplace`).
 // A Block is kept as its low and its high 64 bits; in memory it is its 16 bytes.
 // Secrets decide no branch and no index here: `const_mul` multiplies by the bit, `equals` looks at both words.
+#![tactic(auto)]
+
 ghost use Rattle.std.specs.Prelude.{◌≡◌, ◌+◌, ◌≤◌, ◌<◌, length, get_or};
 ghost use Rattle.algebra.specs.Group.{sel, odd, num};
 ghost use Rattle.block.specs.Block.{le_of, word_at, block_at, eq_block, le8, bytes_of, xor_inplace};
 ghost use Rattle.block.specs.Group.{blocks};
 
 // The low and the high 64 bits.
-#[derive(Drop)]
+#[derive(Clone, Copy)]
 pub struct Block(pub u64, pub u64);
 
 impl Block {

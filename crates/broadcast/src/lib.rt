@@ -2,6 +2,8 @@
 // a round that is echoed keeps the hashes of the lists and the fault that it found; the echo's call compares the hashes, then reports that
 // fault. So a fault is known to all before anybody stops for it. The definitions are those of crate engine, specs/Plain.antt; crate echo
 // reads and writes the messages.
+#![tactic(auto)]
+
 ghost use Rattle.std.specs.Prelude.{◌≡◌, ◌≢◌, ◌-◌, ◌*◌, ◌<◌, ◌≤◌, length, eqb};
 ghost use Rattle.lists.specs.Pick.{pick};
 ghost use Rattle.plan.specs.Plan.{kind_of, count_due, msg_len};

@@ -1,6 +1,8 @@
 // A bucket of leaky ANDs as one sum over records where they lie: for x all x, for z all z and each later x whose d is 1 (../algebra,
 // Bucket). From `combine_bucket` and `combine_two_leaky_ands` of src/mpc/faand.rs; the public call (combine) and the triples of a session
 // (triples) take it. Each bit, MAC and key of x and z is written once. Bits, MACs and keys decide no branch and no index; d is a mask.
+#![tactic(auto)]
+
 ghost use Rattle.std.specs.Prelude.{◌≡◌, ◌++◌, ℕ, ◌+◌, ◌*◌, ◌<◌, ◌≤◌, length, get_or};
 ghost use Rattle.algebra.specs.Group.{bits, odd};
 ghost use Rattle.algebra.specs.Bucket.{bucketX, bucketZ};
@@ -15,14 +17,14 @@ use share::{ENTRY, Entry};
 // ---- the sums
 
 // A party's entries of the combined x and z.
-#[derive(Drop)]
+#[derive(Clone, Copy)]
 pub struct Sums {
     pub x: Entry,
     pub z: Entry,
 }
 
 // Their bits.
-#[derive(Drop)]
+#[derive(Clone, Copy)]
 pub struct Bits {
     pub x: bool,
     pub z: bool,

@@ -1,5 +1,7 @@
 // The permutation, drawn into the work area, and the entries of a bucket of leaky ANDs: where they lie in it, and where their records y lie.
 // For rounds 21 and 22, from `faand` of src/mpc/faand.rs; the definitions stand in crates/rounds (Buckets). The permutation is public.
+#![tactic(auto)]
+
 ghost use Rattle.std.specs.Prelude.{◌≡◌, ◌++◌, ◌+◌, ◌-◌, ◌*◌, ◌<◌, length, replicate};
 ghost use Rattle.lists.specs.Over.{tab};
 ghost use Rattle.share.specs.Record.{record_len};

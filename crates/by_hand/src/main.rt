@@ -2,6 +2,8 @@
 // lists the reason is another, 6: the limit lets it pass; host/large runs such a session. The limits of document 02, order 7, likewise, in
 // their order: 15, 23, 16, 3. A session of 8 is opened and called: the echo among 8 has 112 bytes, and counts that opening can't have made
 // are 20. (The program `sizes` has the lengths by plan, `sessions` those of sessions of 2 and 3; `cases` the starred ones.)
+#![tactic(auto)]
+
 use engine::{Answer, Session, Verdict};
 use libc::STDOUT_FILENO;
 

@@ -2,6 +2,8 @@
 //
 // Speed: `columns` and `diagonals`, each half of `inner_block`, are small enough to be inlined where they are called, and the state then
 // stays in registers.
+#![tactic(auto)]
+
 ghost use Rattle.std.specs.Prelude.{◌≡◌, ◌<◌, length};
 ghost use Rattle.word.specs.Word.{rotl, word_list};
 ghost use Rattle.chacha20.specs.ChaCha20 as C;

@@ -2,6 +2,8 @@
 //
 // Speed: the loop over the lanes has no call left in it once `one` is inlined, and LLVM then turns it into vector code for the four. For
 // that `one` has a single call, and its ten double rounds are written out: a loop in the loop would keep LLVM from it.
+#![tactic(auto)]
+
 ghost use Rattle.std.specs.Prelude.{◌≡◌, ◌+◌, ◌^◌, ◌≤◌};
 ghost use Rattle.lists.specs.Over.{tab};
 ghost use Rattle.chacha20_lanes.specs.Lanes as L;
@@ -12,7 +14,7 @@ use chacha20::{columns, diagonals};
 pub const LANES: usize = 4;
 
 // The words of a block.
-#[derive(Drop)]
+#[derive(Clone, Copy)]
 pub struct Lane(pub [u32; 16]);
 
 // The block with this counter.

@@ -2,6 +2,8 @@
 // line for each word; the blocks of 2.3.2 and of appendix A.1; the permutation of 17 numbers from the key 00 .. 1f; and BLAKE3 of
 // permutations as they are kept, behind their lengths: from that key at lengths on both sides of a power of two, and then from a key for which
 // a word is passed over. make-stdout makes the file stdout: the RFC's values as it prints them, and the lists by Python.
+#![tactic(auto)]
+
 ghost use Rattle.std.specs.Prelude.{◌≡◌, ◌*◌, ◌≤◌, length};
 
 use libc::STDOUT_FILENO;

@@ -1,5 +1,7 @@
 // Combining leaky ANDs as a public call. From `combine_bucket` of src/mpc/faand.rs, as one sum over the bucket (../bucket_sum). Records are
 // read where they lie, and each bit, MAC and key is written once. Bits, MACs and keys decide no branch and no index.
+#![tactic(auto)]
+
 ghost use Rattle.std.specs.Prelude.{◌≡◌, ◌+◌, ◌*◌, ◌<◌, ◌≤◌, length, get_or, drop, leb};
 ghost use Rattle.lists.specs.All.{all_of};
 ghost use Rattle.lists.specs.Pick.{pick};

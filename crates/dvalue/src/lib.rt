@@ -1,5 +1,7 @@
 // The d values of the buckets, as they are sent in round 21. From `faand` of src/mpc/faand.rs; the definitions stand in crates/rounds
 // (Buckets). The permutation is public; bits, MACs, keys and delta decide no branch and no index.
+#![tactic(auto)]
+
 ghost use Rattle.std.specs.Prelude.{◌≡◌, ◌-◌, ◌*◌, ◌<◌, length};
 ghost use Rattle.algebra.specs.Group.{bits};
 ghost use Rattle.encode.specs.Encode.{dvalue_item};

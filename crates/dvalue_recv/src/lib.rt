@@ -1,5 +1,7 @@
 // What is received in round 21: the d values judged and kept. From `check_dvalue` of src/mpc/faand.rs; the definitions stand in
 // crates/rounds (Buckets). The permutation is public; bits, MACs, keys and delta decide no branch and no index.
+#![tactic(auto)]
+
 ghost use Rattle.std.specs.Prelude.{◌≡◌, ◌-◌, ◌*◌, ◌<◌, ◌≤◌, ◌++◌, length, replicate};
 ghost use Rattle.algebra.specs.Group.{bits, sel};
 ghost use Rattle.algebra.specs.Sum.{neq};

@@ -1,6 +1,8 @@
 // Echoes (document 01, "What each round means"): everybody tells everybody the hash of each list that it got in the round before. From
 // src/mpc/faand.rs of polytune (`broadcast_verification`, `hash_vec`). What is kept of the lists, what is sent, and the check of what the
 // others heard; the definitions stand in crates/rounds (Echo). A list that was broadcast is public, and so is its hash.
+#![tactic(auto)]
+
 ghost use Rattle.std.specs.Prelude.{◌≡◌, ◌≢◌, true, ◌&&◌, ℕ, ◌+◌, ◌-◌, ◌*◌, ◌<◌, ◌≤◌, length, replicate};
 ghost use Rattle.lists.specs.Pick.{pick};
 ghost use Rattle.algebra.specs.Sum.{neq};

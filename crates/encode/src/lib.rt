@@ -1,6 +1,8 @@
 // Messages written: the items of bincode legacy lists (document 01, "Messages"), each onto an exact part of the outgoing buffer, which the
 // caller lends as `&mut out[a..e]`. Reading what was written gives back the value: specs/Kinds.antt, specs/Fields.antt. A loop that writes
 // a count and then item after item leaves the list: specs/Stretch.antt. From src/utils/serde.rs of polytune.
+#![tactic(auto)]
+
 ghost use Rattle.std.specs.Prelude.{◌≡◌, ◌++◌, ℕ, ◌+◌, ◌*◌, ◌<◌, length};
 ghost use Rattle.block.specs.Block.{le8, bytes_of};
 ghost use Rattle.encode.specs.Encode as E;

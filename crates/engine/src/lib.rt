@@ -1,5 +1,7 @@
 // The machinery of demand 3 over lists of calls, in specs/: what a round call does, whatever the rounds are, and what follows for every
 // list of calls. It knows no round. Here: what a session is, and what a call answers (document 01, "The call").
+#![tactic(auto)]
+
 ghost use Rattle.std.specs.Prelude.{◌≡◌};
 ghost use Rattle.batches.specs.Batches.{untold};
 ghost use Rattle.engine.specs.Step.{ended};
@@ -7,7 +9,7 @@ ghost use Rattle.engine.specs.Step.{ended};
 use batches::{Counts, Pairs};
 
 // What the rounds go by: n parties, the own number i, and l.
-#[derive(Drop)]
+#[derive(Clone, Copy)]
 pub struct Frame {
     pub n: usize,
     pub i: usize,
@@ -16,14 +18,14 @@ pub struct Frame {
 
 // due: the number of the round that is due, 0 once the session is done or ended. counts: those of the batches that make l, 0 where unused
 // (crate batches); no round looks at them.
-#[derive(Drop)]
+#[derive(Clone, Copy)]
 pub struct Session {
     pub party: Frame,
     pub due: usize,
     pub counts: Counts,
 }
 
-#[derive(Drop)]
+#[derive(Clone, Copy)]
 pub enum Verdict {
     Accepted,
     // The number of the reason and a party.
@@ -31,7 +33,7 @@ pub enum Verdict {
 }
 
 // What a call returns. told: where each batch lies among the results, after the last round, and zeros else.
-#[derive(Drop)]
+#[derive(Clone, Copy)]
 pub struct Answer {
     pub session: Session,
     pub verdict: Verdict,

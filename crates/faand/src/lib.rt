@@ -1,6 +1,8 @@
 // The triples a, b, c become the ANDs of alpha and beta: round 22 and the results, `beaver_aand` of src/mpc/faand.rs. The definitions stand
 // in crates/rounds (Beaver). Bits, MACs, keys and delta decide no branch and no index; the permutation is public, and so is what a check
 // found.
+#![tactic(auto)]
+
 ghost use Rattle.std.specs.Prelude.{◌≡◌, ◌+◌, ◌-◌, ◌*◌, ◌<◌, length};
 ghost use Rattle.algebra.specs.Group.{bits};
 ghost use Rattle.algebra.specs.Sum.{others};
@@ -27,7 +29,7 @@ pub const D_MAC: usize = 2;
 pub const E_MAC: usize = 18;
 
 // Where the sections start that are read; the permutation is lent, so with its end.
-#[derive(Drop)]
+#[derive(Clone, Copy)]
 pub struct Places {
     pub recs: usize,
     pub perm: Span,
@@ -55,7 +57,7 @@ pub fn sections(f: Frame) -> Places
 }
 
 // Where the records of a bucket start in the work area.
-#[derive(Drop)]
+#[derive(Clone, Copy)]
 pub struct Records {
     pub a: usize,
     pub c: usize,

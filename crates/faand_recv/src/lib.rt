@@ -1,5 +1,7 @@
 // What is received in round 22: d and e judged. From `beaver_aand` of src/mpc/faand.rs; the definitions stand in crates/rounds (Beaver).
 // Bits, MACs, keys and delta decide no branch and no index.
+#![tactic(auto)]
+
 ghost use Rattle.std.specs.Prelude.{◌≡◌, ◌+◌, ◌-◌, ◌*◌, ◌<◌, ◌≤◌, length};
 ghost use Rattle.lists.specs.All.{all_of};
 ghost use Rattle.message.specs.declared.Kind.TheVariants.{Items};

@@ -1,6 +1,8 @@
 // Round 6, `fabitn` (document 01, "What each round means"; `fabitn` of src/mpc/faand.rs): 120 random strings check the MACs of all bits.
 // Here the sums are sent and the key sums kept; crate fabitn_recv judges what is received. The definitions are those of crate rounds,
 // specs/Fabitn.antt; the sums are made by crate rsums, all in one pass. Bits, MACs and keys are secret, and decide no branch and no index.
+#![tactic(auto)]
+
 ghost use Rattle.std.specs.Prelude.{◌≡◌, true, ◌≢◌, ◌+◌, ◌-◌, ◌*◌, ◌<◌, ◌≤◌, length, get_or};
 ghost use Rattle.lists.specs.Over.{cat};
 ghost use Rattle.lists.specs.Sect.{put};

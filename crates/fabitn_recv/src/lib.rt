@@ -1,5 +1,7 @@
 // What is received in round 6: the sums judged. From `fabitn` of src/mpc/faand.rs; the definitions stand in crates/rounds (Fabitn).
 // Bits, MACs, keys and delta are secret, and decide no branch and no index; what a check found is public.
+#![tactic(auto)]
+
 ghost use Rattle.std.specs.Prelude.{◌≡◌, ◌+◌, ◌-◌, ◌*◌, ◌<◌, ◌≤◌, length};
 ghost use Rattle.engine.specs.Step.{by_party};
 ghost use Rattle.rounds.specs.Area.{KEY_SUMS, at};

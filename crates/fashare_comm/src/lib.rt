@@ -1,6 +1,8 @@
 // Round 8, the commitments of `fashare` (document 01, "What each round means"; `fashare` of src/mpc/faand.rs), and what rounds 10 and 12,
 // the crates fashare_ver and fashare_dibi, make of the same records: d0 and dm. The definitions are those of crate rounds,
 // specs/Fashare.antt. Bits, MACs, keys and delta are secret, and decide no branch and no index.
+#![tactic(auto)]
+
 ghost use Rattle.std.specs.Prelude.{◌≡◌, ◌-◌, ◌*◌, ◌<◌, length};
 ghost use Rattle.lists.specs.Over.{cat};
 ghost use Rattle.blake3.specs.Tree as T;

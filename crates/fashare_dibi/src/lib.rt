@@ -1,6 +1,8 @@
 // Round 12 of `fashare` (document 01, "What each round means"; `fashare` of src/mpc/faand.rs): each party opens d0 or d1 by the XOR of the
 // others' bits, and the others compare it with what it committed to and with the XOR of the MACs for it. The definitions are those of crate
 // rounds, specs/Fashare.antt. Bits, MACs, keys and delta are secret, and decide no branch and no index; what a check found is public.
+#![tactic(auto)]
+
 ghost use Rattle.std.specs.Prelude.{◌≡◌, ◌+◌, ◌-◌, ◌*◌, ◌<◌, ◌≤◌, length};
 ghost use Rattle.algebra.specs.Group.{sel};
 ghost use Rattle.algebra.specs.Sum.{neq};

@@ -1,5 +1,7 @@
 // Round 10 of `fashare`, against the third commitments of round 8 (document 02, order 2): "each received dm, whole, is checked against it".
 // The definitions are those of crate rounds, specs/Fashare.antt. A dm that was sent is public. It is hashed where it lies, and once.
+#![tactic(auto)]
+
 ghost use Rattle.std.specs.Prelude.{◌≡◌, ◌+◌, ◌*◌, ◌<◌, ◌≤◌, length};
 ghost use Rattle.message.specs.Format.{form_of};
 ghost use Rattle.rounds.specs.Area as Area;

@@ -1,6 +1,8 @@
 // Round 10 of `fashare` (document 01, "What each round means"; `fashare` of src/mpc/faand.rs): each party sends dm, its bit and MACs of
 // each of the 40 strings. The definitions are those of crate rounds, specs/Fashare.antt. Before they are sent, bit and MACs decide no branch
 // and no index.
+#![tactic(auto)]
+
 ghost use Rattle.std.specs.Prelude.{◌≡◌, ◌+◌, ◌-◌, ◌*◌, ◌<◌, length};
 ghost use Rattle.encode.specs.Encode.{dm_item};
 ghost use Rattle.plan.specs.Plan.{FASHARE_VER, dm_len, msg_len};

@@ -1,6 +1,8 @@
 // Round 10 of `fashare` as it is received (document 01, "What each round means"; `fashare` of src/mpc/faand.rs): each dm is held to its
 // commitment (crate fashare_third), its length and its bit are checked, and it is kept. The definitions are those of crate rounds,
 // specs/Fashare.antt. A dm that was sent is public.
+#![tactic(auto)]
+
 ghost use Rattle.std.specs.Prelude.{◌≡◌, ℕ, ◌*◌, ◌<◌, ◌≤◌, length};
 ghost use Rattle.plan.specs.Plan.{dm_len};
 ghost use Rattle.engine.specs.Step.{by_party};

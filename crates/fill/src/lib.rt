@@ -1,4 +1,6 @@
 // Bytes as they are: copied, cleared.
+#![tactic(auto)]
+
 ghost use Rattle.std.specs.Prelude.{◌≡◌, ◌≤◌, length, take, replicate};
 
 // As many bytes are copied at once.

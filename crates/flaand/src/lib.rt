@@ -1,6 +1,8 @@
 // Round 15, `flaand` of src/mpc/faand.rs: the leaky AND (WRK17b, Pi_LaAND). e and u are sent, the others' e are kept, and h is made.
 // What was hashed of the x keys and MACs stands in the rows that `fhaand` kept (crate haand). The definitions are those of crate rounds,
 // specs/Flaand.antt. Bits, MACs, keys, delta, z and h are secret: they decide no branch and no index. An e that was received is public.
+#![tactic(auto)]
+
 ghost use Rattle.std.specs.Prelude.{◌≡◌, ◌+◌, ◌-◌, ◌*◌, ◌<◌, ◌≤◌, length, get_or};
 ghost use Rattle.lists.specs.Over.{tab};
 ghost use Rattle.algebra.specs.Group.{XorGroup, sel, odd, num};

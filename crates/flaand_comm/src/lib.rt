@@ -1,6 +1,8 @@
 // Round 17, `flaand comm`: the commitments to h (`flaand` of src/mpc/faand.rs; WRK17b, Pi_LaAND). The own ones are made of the h of
 // round 15 and sent, the others' are kept. The definitions are those of crate rounds, specs/Flaand.antt. h is secret: it decides no
 // branch and no index.
+#![tactic(auto)]
+
 ghost use Rattle.std.specs.Prelude.{◌≡◌, ◌+◌, ◌-◌, ◌*◌, ◌<◌, length, take, drop};
 ghost use Rattle.plan.specs.Plan.{FLAAND_COMM, leaky, msg_len};
 ghost use Rattle.engine.specs.Area.{to_others};

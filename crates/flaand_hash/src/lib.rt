@@ -1,5 +1,7 @@
 // Round 19, `flaand hash`: h (`flaand` of src/mpc/faand.rs; WRK17b, Pi_LaAND). The own ones are sent; the others' are opened against their
 // commitments, and all are summed. The definitions are those of crate rounds, specs/Flaand.antt. What is sent or received here is public.
+#![tactic(auto)]
+
 ghost use Rattle.std.specs.Prelude.{◌≡◌, ◌+◌, ◌-◌, ◌*◌, ◌%◌, ◌<◌, ◌≤◌, length};
 ghost use Rattle.lists.specs.Over.{cat};
 ghost use Rattle.lists.specs.Same.{same?};

@@ -1,6 +1,8 @@
 // What is received, by its form (document 01: "then party by party 14, 13, 6", and 21 between the last two: 02, order 1): each message is
 // read once. The definitions are those of crates/engine (Step, Plain) over the table of crates/rounds. Nothing here is secret; every number
 // is taken as it comes, and no sum wraps.
+#![tactic(auto)]
+
 ghost use Rattle.std.specs.Prelude.{◌≡◌, true, ◌<◌, ◌≤◌, length};
 ghost use Rattle.engine.specs.Step.{parts_in, by_party, form_fault};
 ghost use Rattle.engine.specs.Plain.{ruleOf};

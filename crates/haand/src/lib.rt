@@ -1,5 +1,7 @@
 // Round 14, `fhaand` of src/mpc/faand.rs: the half AND (WRK17b, Pi_HaAND), what is sent: the bits H stand in the rows of LEAKY (crate
 // haand_rows). Bits, MACs, keys, delta and masks are secret: they decide no branch and no index.
+#![tactic(auto)]
+
 ghost use Rattle.std.specs.Prelude.{◌≡◌, ◌+◌, ◌-◌, ◌*◌, ◌<◌, ◌≤◌, length, get_or};
 ghost use Rattle.algebra.specs.Group.{odd};
 ghost use Rattle.share.specs.Record.{record_len};

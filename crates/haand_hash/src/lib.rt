@@ -1,6 +1,8 @@
 // Round 14, what is hashed (WRK17b, Pi_HaAND): the x keys of the other parties, those keys plus delta, and the x MACs, 64 Blocks at a time.
 // A window has the Blocks of as many whole positions as it has lanes for; lanes that are left over hash zeros.
 // Keys, MACs and delta are secret: they decide no branch and no index.
+#![tactic(auto)]
+
 ghost use Rattle.std.specs.Prelude.{◌≡◌, ◌≢◌, ◌+◌, ◌-◌, ◌*◌, ◌<◌, ◌≤◌, length};
 ghost use Rattle.lists.specs.Over.{cat};
 ghost use Rattle.block.specs.Block.{block_at, bytes_of};
@@ -38,7 +40,7 @@ pub fn window(lanes: usize, n: usize, left: usize) -> usize
 }
 
 // G and H of a Block.
-#[derive(Drop)]
+#[derive(Clone, Copy)]
 pub struct Hashes(pub Block, pub bool);
 
 // The place of party k among those but i.

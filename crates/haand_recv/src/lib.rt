@@ -1,6 +1,8 @@
 // Round 14, `fhaand` of src/mpc/faand.rs: the half AND (WRK17b, Pi_HaAND), what is received. What `flaand` needs of the same hashes,
 // the sums of G over the x MACs, is computed here too: a MAC is hashed once, a window of MACs at a time.
 // Bits, MACs and masks are secret: they decide no branch and no index.
+#![tactic(auto)]
+
 ghost use Rattle.std.specs.Prelude.{◌≡◌, ◌+◌, ◌-◌, ◌*◌, ◌<◌, ◌≤◌, length};
 ghost use Rattle.lists.specs.Over.{cat};
 ghost use Rattle.algebra.specs.Group.{bits, sel};

@@ -1,6 +1,8 @@
 // The rows of LEAKY, made with the messages of round 14: phi, the sum of G over the x keys, and for each party u and the bits H. A key is
 // hashed once, with and without delta, a window of keys at a time, for the half AND and the leaky AND (`fhaand`, `flaand` of
 // src/mpc/faand.rs). Bits, MACs, keys and delta decide no branch and no index.
+#![tactic(auto)]
+
 ghost use Rattle.std.specs.Prelude.{◌≡◌, ◌+◌, ◌-◌, ◌*◌, ◌<◌, ◌≤◌, length};
 ghost use Rattle.lists.specs.Over.{cat};
 ghost use Rattle.algebra.specs.Group.{sel};

@@ -1,6 +1,8 @@
 // What opening refuses (document 01, "Opening: 15, 16, 3 for l = 0, 6, 17, then lent bytes in order (1 before 4)"; document 02, order 5: 22
 // between the two; order 7: 23 before 16): the lengths and the bytes of its inputs; what is refused of the counts is crate batches'. The
 // definition stands in crates/rounds (Opening). Secret bytes decide nothing but a refusal: bit bytes, own entries and mask bytes (1, 4).
+#![tactic(auto)]
+
 ghost use Rattle.std.specs.Prelude.{◌≡◌, ◌+◌, ◌*◌, ◌≤◌, ◌<◌, length, get_or, leb};
 ghost use Rattle.lists.specs.All.{all_of};
 ghost use Rattle.lists.specs.Pick.{pick};
@@ -12,7 +14,7 @@ ghost use Rattle.inputs.specs.Given.{Counted, lists?, buffers?, masks?, bytes_of
 use engine::Frame;
 
 // The lengths of what is lent.
-#[derive(Drop)]
+#[derive(Clone, Copy)]
 pub struct Lens {
     pub delta: usize,
     pub seed: usize,

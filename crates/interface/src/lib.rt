@@ -1,5 +1,7 @@
 // What the calls for C are in numbers: a session as twenty numbers, an answer as one, what is told of the batches in a lent buffer, and what
 // a host asks for, 0 where there is none. specs/Interface.antt has what the calls themselves leave; crate nuzsdike exports them.
+#![tactic(auto)]
+
 ghost use Rattle.std.specs.Prelude.{◌≡◌, ◌<◌, ◌≤◌, length};
 ghost use Rattle.plan.specs.Plan.{within};
 ghost use Rattle.engine.specs.Step.{Refused, reply_of, frame};

@@ -1,1 +1,2 @@
 // Laws about lists and buffers, in specs/. No code.
+#![tactic(auto)]

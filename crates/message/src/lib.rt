@@ -1,13 +1,15 @@
 // Messages read: bincode legacy lists (document 01, "Messages"), where they lie in the incoming buffer. One reader for every kind of list,
 // and one walk over a message: it tells the length used, and `form_of` 13, 21, 6 or nothing wrong; `part` hands back the part of the buffer
 // that holds a message. The crate encode writes them. From src/channel.rs (list checks) and src/utils/serde.rs of polytune.
+#![tactic(auto)]
+
 ghost use Rattle.std.specs.Prelude.{◌≡◌, true, ℕ, ◌+◌, ◌<◌, ◌≤◌, min, length, drop};
 ghost use Rattle.lists.specs.Sect.{get};
 ghost use Rattle.message.specs.Format as F;
 ghost use Rattle.message.specs.Read as R;
 
 // What the items of a list are.
-#[derive(Drop)]
+#[derive(Clone, Copy)]
 pub enum Kind {
     // A fixed number of bytes, the first few of them bools: size, bools.
     Items(usize, usize),
@@ -163,7 +165,7 @@ fn inner_due(kind: Kind, s: &[u8], at: usize) -> bool
 }
 
 // What is read of a message: the length used, its count included, 0 if it doesn't decode; and whether the counts are those due.
-#[derive(Drop)]
+#[derive(Clone, Copy)]
 pub struct Reading {
     pub used: usize,
     pub due: bool,

@@ -1,6 +1,8 @@
 // The interface for C: include/nuzsdike.h. Numbers and slices only; a session is twenty numbers in a lent buffer, an answer is one number.
 // The calls promise what `opening`, `session` and `combine` promise, refused calls included; the rest tells a host the lengths of what it
 // lends.
+#![tactic(auto)]
+
 ghost use Rattle.std.specs.Prelude.{◌≡◌};
 ghost use Rattle.plan.specs.Plan.{within, out_len, bits_len, shares_len, masks_len, pairs_len, r_due};
 ghost use Rattle.engine.specs.Step.{frame};

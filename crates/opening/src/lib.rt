@@ -1,5 +1,7 @@
 // Opening a session (document 01, "The call"): what is refused (crate inputs), what is kept of the inputs, and the first messages. The
 // definition stands in crates/rounds (Opening).
+#![tactic(auto)]
+
 ghost use Rattle.std.specs.Prelude.{◌≡◌, ◌*◌, ◌<◌, ◌≤◌, length};
 ghost use Rattle.share.specs.Record.{record_len};
 ghost use Rattle.share.specs.Lent.{lent_len, kept_of};

@@ -1,6 +1,8 @@
 // The plain rounds, all but the echoes (crates/rounds, Table): `judge` is the content check of the messages received and `keep` what stays
 // of them; `make` keeps what the next messages need and writes them. The round's number is public and chooses; the rounds' own crates do
 // the work. Own messages are never read.
+#![tactic(auto)]
+
 ghost use Rattle.std.specs.Prelude.{◌≡◌, true, ◌≢◌, ◌-◌, ◌*◌, ◌≤◌, length};
 ghost use Rattle.plan.specs.Plan.{FABITN, kind_of, count_due, msg_len};
 ghost use Rattle.engine.specs.Step.{Loan, mask};

@@ -2,6 +2,8 @@
 // their names, what each round's messages are, and the length of every buffer that is lent. `bucket_size` is that of
 // src/mpc/faand.rs; the rest stands there as lengths of vectors. Nothing here is secret.
 // What a host may call takes any numbers; the others ask for those that opening lets through.
+#![tactic(auto)]
+
 ghost use Rattle.std.specs.Prelude.{◌≡◌, ℕ, ◌+◌, ◌*◌, ◌<◌, ◌≤◌, [], get_or};
 ghost use Rattle.engine.specs.Area.{nth};
 ghost use Rattle.plan.specs.Plan as S;

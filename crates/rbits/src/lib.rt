@@ -2,6 +2,8 @@
 // bits, and of the chosen MACs and keys. Records are taken 64 at a time: one word of each string. Here are the tables: four records have 16
 // sums, low and high word side by side, and four digits of a string's word say which of the 16 it takes (crate rpairs); and the bits, as
 // the digits of a word. r is public, so it may be an index. Bits, MACs and keys are secret, and decide no branch and no index.
+#![tactic(auto)]
+
 ghost use Rattle.std.specs.Prelude.{◌≡◌, ◌+◌, ◌*◌, ◌^◌, ◌≤◌, ◌<◌, length, get_or};
 ghost use Rattle.lists.specs.Over.{tab};
 ghost use Rattle.std.specs.Int.Count.{ones};

@@ -1,5 +1,7 @@
 // The check of lent share records (refusals 1, 22 and 4): a bit byte above 1, a label that isn't as due, an own entry that isn't zero.
 // Bits, MACs and keys decide no branch before all records are seen.
+#![tactic(auto)]
+
 ghost use Rattle.std.specs.Prelude.{◌≡◌, true, ◌+◌, ◌-◌, ◌*◌, ◌<◌, ◌≤◌, length, get_or, eqb};
 ghost use Rattle.lists.specs.All.{all_of};
 ghost use Rattle.share.specs.Record.{own_zero};

@@ -1,5 +1,7 @@
 // The results: c + d·beta + e·a of every bucket, d and e opened. From `beaver_aand` of src/mpc/faand.rs; the definitions stand in
 // crates/rounds (Beaver). Shares decide no branch and no index.
+#![tactic(auto)]
+
 ghost use Rattle.std.specs.Prelude.{◌≡◌, ◌+◌, ◌-◌, ◌*◌, ◌<◌, ◌≤◌, length, get_or, drop};
 ghost use Rattle.lists.specs.Over.{cat};
 ghost use Rattle.algebra.specs.Group.{bits, sel, odd};

@@ -1,19 +1,21 @@
 // What the rounds of a session are: the definitions in specs/ (document 01, "What each round means"), cited by every crate above. Here:
 // what those crates share.
+#![tactic(auto)]
+
 ghost use Rattle.std.specs.Prelude.{◌≡◌, ◌++◌, ℕ, ◌+◌, ◌-◌, ◌*◌, ◌<◌, ◌≤◌, length, get_or};
 ghost use Rattle.block.specs.Block.{le8};
 ghost use Rattle.engine.specs.Area.{to_others};
 ghost use Rattle.rounds.specs.Mail as M;
 
 // A received fault: its number in document 01, 0 for none, and the party that it names.
-#[derive(Drop)]
+#[derive(Clone, Copy)]
 pub struct Fault {
     pub code: u8,
     pub party: usize,
 }
 
 // Where the messages of a round lie in the incoming buffer: a start and a length for each party.
-#[derive(Drop)]
+#[derive(Clone, Copy)]
 pub struct Mail {
     pub starts: [usize; 8],
     pub lens: [usize; 8],

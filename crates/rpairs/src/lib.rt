@@ -1,6 +1,8 @@
 // The random sums of `fabitn` for two Blocks of each record, the MAC and the key of a party, by the tables of crate rbits: the digits of a
 // string's word are taken once for both, and a Block takes a third less time. r is public, so it may be an index. The Blocks are secret,
 // and decide no branch and no index.
+#![tactic(auto)]
+
 ghost use Rattle.std.specs.Prelude.{◌≡◌, ◌+◌, ◌*◌, ◌^◌, ◌<◌, ◌≤◌, length};
 ghost use Rattle.rbits.specs.Chosen.{words_of};
 ghost use Rattle.rbits.specs.Tables.{record_block, tables, lookup};
@@ -10,7 +12,7 @@ use block::Block;
 use rbits::WINDOW;
 
 // What w chooses in the tables of two Blocks a record.
-#[derive(Drop)]
+#[derive(Clone, Copy)]
 struct Chosen(Block, Block);
 
 // The sums of the 64 records that w chooses, in two tables: four digits of w at a time, by shift and mask.

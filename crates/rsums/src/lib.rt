@@ -1,6 +1,8 @@
 // All sums of `fabitn` in one pass over the records: for each string the bits, and for each other party the MACs and the keys that it
 // chooses. The strings, lent or drawn (crates draw and window), are made once, a window of 128 records at a time, and serve all parties.
 // r is public and may be an index. Bits, MACs and keys are secret, and decide no branch and no index.
+#![tactic(auto)]
+
 ghost use Rattle.std.specs.Prelude.{◌≡◌, ◌+◌, ◌*◌, ◌-◌, ◌^◌, ◌<◌, ◌≤◌, length};
 ghost use Rattle.lists.specs.Over.{tab};
 ghost use Rattle.algebra.specs.Group.{num};
@@ -15,7 +17,7 @@ use rbits::WINDOW;
 pub const WORDS: usize = 1680;
 
 // The sums: of bits as 0 or 1; of MACs and of keys two words a Block, other party q's being Blocks 120q to 120q + 119, zero past the last.
-#[derive(Drop)]
+#[derive(Clone, Copy)]
 pub struct AllSums {
     pub bits: [u8; 120],
     pub macs: [u64; WORDS],

@@ -21,7 +21,7 @@ pub const NEVER: usize = 23;
 
 // A session: how many boxes and results, whether each box has its own list of batches, and the bit that is flipped on the way: the lowest of
 // a byte of the message of a round. No flip: round 0, or NEVER where no round is printed.
-#[derive(Drop)]
+#[derive(Clone, Copy)]
 pub struct Play {
     pub n: usize,
     pub l: usize,
@@ -36,7 +36,7 @@ pub struct Play {
 // ---- batches
 
 // Counts, and how many of them there are.
-#[derive(Drop)]
+#[derive(Clone, Copy)]
 pub struct List {
     pub counts: [u32; 16],
     pub len: usize,

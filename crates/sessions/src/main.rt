@@ -3,6 +3,8 @@
 // flipped on the way. Then sessions whose boxes have their results in batches, each by a list of its own (document 02, order 7), against the
 // same in one batch. The inputs are those of `oracle gen N L 32`, so the Rust of oracle/ can be held against every line but those of round
 // 11 (it doesn't open the third commitment), and of batches.
+#![tactic(auto)]
+
 ghost use Rattle.std.specs.Prelude.{◌*◌, ◌≤◌};
 
 use boxes::{NEVER, Play, Works};

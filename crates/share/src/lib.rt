@@ -1,5 +1,7 @@
 // Shares of authenticated bits: the types Delta, Mac and Key with the sums that are allowed, and share records in lent bytes.
 // From src/mpc/data_types.rs of polytune.
+#![tactic(auto)]
+
 ghost use Rattle.std.specs.Prelude.{◌≡◌, ◌++◌, ◌+◌, ◌*◌, ◌<◌, ◌≤◌, length, get_or, drop};
 ghost use Rattle.algebra.specs.Group.{XorGroup, sel, odd};
 ghost use Rattle.block.specs.Block.{block_at, bytes_of, eq_block};
@@ -12,15 +14,15 @@ ghost use Rattle.share.specs.Lent.{LABEL, lent_len, lent_head, lent_at};
 use block::Block;
 
 // The global key of one party, which authenticates the others' bits to it.
-#[derive(Drop)]
+#[derive(Clone, Copy)]
 pub struct Delta(pub Block);
 
 // A party's MAC of its bit for another party.
-#[derive(Drop)]
+#[derive(Clone, Copy)]
 pub struct Mac(pub Block);
 
 // A party's key of another party's bit.
-#[derive(Drop)]
+#[derive(Clone, Copy)]
 pub struct Key(pub Block);
 
 impl Delta {
@@ -84,7 +86,7 @@ impl Key {
 }
 
 // What a record has of one party: the MAC for it, and the key of its bit.
-#[derive(Drop)]
+#[derive(Clone, Copy)]
 pub struct Entry {
     pub mac: Mac,
     pub key: Key,

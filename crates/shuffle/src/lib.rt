@@ -2,6 +2,8 @@
 // 21 and 22 take their buckets. All boxes know the joint seed from round 3 on, so its words may be branched on and used as indices.
 //
 // A word costs one division: with r = w mod m the m numbers from w − r on all lie below 2^32, or w is to be passed over.
+#![tactic(auto)]
+
 ghost use Rattle.std.specs.Prelude.{◌≡◌, List, ℕ, ◌+◌, ◌*◌, ◌%◌, ◌^◌, ◌<◌, ◌≤◌, length, get_or, ltb};
 ghost use Rattle.lists.specs.Over.{tab};
 ghost use Rattle.word.specs.Word.{word_list, le4s};
@@ -19,7 +21,7 @@ const PASSED: usize = 64;
 const WORDS: usize = 0x1_0000_0000;
 
 // Where the shuffle stands: the index, and how many words may still be passed over at it.
-#[derive(Drop)]
+#[derive(Clone, Copy)]
 struct Turn {
     t: usize,
     left: usize,

@@ -1,4 +1,6 @@
 // Prints the numbers of document 01, "Checked by hand": message lengths, what a box sends, echoes, bucket sizes.
+#![tactic(auto)]
+
 ghost use Rattle.plan.specs.Plan.{InRange};
 
 use libc::STDOUT_FILENO;

@@ -1,6 +1,8 @@
 // Tosses (document 01, "What each round means"): rounds 1 and 3 toss the joint seed, rounds 4 and 5 the pairwise ones. From
 // src/mpc/faand.rs of polytune (`shared_rng`, `shared_rng_pairwise`). What is sent; the definitions stand in crates/rounds (Toss). Seeds
 // decide no branch and no index here.
+#![tactic(auto)]
+
 ghost use Rattle.std.specs.Prelude.{◌≡◌, ◌+◌, ◌-◌, ◌*◌, ◌<◌, ◌≤◌, length};
 ghost use Rattle.lists.specs.Rows.{chunk};
 ghost use Rattle.blake3.specs.Tree as B;

@@ -1,6 +1,8 @@
 // What is received in the tosses: the commitments kept, the seeds opened against them, the joint seed and the pairwise seeds. From
 // `shared_rng` and `shared_rng_pairwise` of src/mpc/faand.rs; the definitions stand in crates/rounds (Toss). Seeds decide no branch and no
 // index.
+#![tactic(auto)]
+
 ghost use Rattle.std.specs.Prelude.{◌≡◌, ◌+◌, ◌-◌, ◌*◌, ◌<◌, ◌≤◌, length};
 ghost use Rattle.lists.specs.Rows.{chunk};
 ghost use Rattle.block.specs.Block.{xor_inplace};

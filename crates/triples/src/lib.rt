@@ -2,6 +2,8 @@
 // `faand` and `combine_bucket` of src/mpc/faand.rs; the definitions stand in crates/rounds (Buckets). Records are read where they lie, and
 // each bit, MAC and key of a row is written once. The permutation and the opened d are public; bits, MACs, keys and delta decide no branch
 // and no index.
+#![tactic(auto)]
+
 ghost use Rattle.std.specs.Prelude.{◌≡◌, List, ℕ, ◌+◌, ◌*◌, ◌<◌, length, get_or};
 ghost use Rattle.lists.specs.Sect.{put};
 ghost use Rattle.lists.specs.Rows.{chunk};
@@ -75,7 +77,7 @@ fn party(recs: &[u8], es: &[u8], ts: &[usize], d: &[u8], delta: Delta, f: Frame,
 // ---- from the work area
 
 // Where the sections lie that the triples are made from.
-#[derive(Drop)]
+#[derive(Clone, Copy)]
 struct Places {
     recs: Span,
     zs: Span,

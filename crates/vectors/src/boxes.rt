@@ -10,7 +10,7 @@ pub const MARK: u8 = 165;
 
 // The calls for round k, 0 for opening: the round after it, the bytes of a message, where what was sent starts, where what is written goes,
 // and the recorded hashes of that.
-#[derive(Drop)]
+#[derive(Clone, Copy)]
 pub struct Turn {
     pub k: usize,
     pub next: usize,
@@ -23,7 +23,7 @@ pub struct Turn {
 // ---- mail
 
 // The messages for a box, by sender.
-#[derive(Drop)]
+#[derive(Clone, Copy)]
 pub struct Mail {
     pub starts: [usize; 8],
     pub lens: [usize; 8],
@@ -105,7 +105,7 @@ pub(crate) fn delivered(t: &mut Table, p: Play, r: Turn, i: usize) -> Mail {
 
 // What a call answered: the number and party of a refusal, the round due, and whether the session is still that of the box, and told what
 // is due.
-#[derive(Drop)]
+#[derive(Clone, Copy)]
 pub struct Reply {
     pub code: usize,
     pub party: usize,

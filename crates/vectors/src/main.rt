@@ -1,6 +1,8 @@
 // Replays recorded answers of the Rust, and those of document 02 that it has none of (docs/VECTORS.md has the format and how they were
 // made), through `opening::open`, `session::round` and `combine::combine`: every message, result and refusal, and the state after. Prints
 // how many were compared, and a line for each difference.
+#![tactic(auto)]
+
 ghost use Rattle.std.specs.Prelude.{◌≤◌};
 
 use block::Block;

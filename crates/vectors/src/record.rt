@@ -7,7 +7,7 @@ use block::Block;
 use share::LABEL;
 
 // How many boxes, results and leaky ANDs; the seed; and where rules, hashes and ends start.
-#[derive(Drop)]
+#[derive(Clone, Copy)]
 pub struct Play {
     pub n: usize,
     pub l: usize,

@@ -1,5 +1,7 @@
 // The Blocks of the r strings, lent or drawn (crate draw): a counter gives every Block by itself, so they are made as the sums of `fabitn`
 // need them, a Block of each string at a time, and stored nowhere. The seed and what is drawn are known to all boxes and may be indices.
+#![tactic(auto)]
+
 ghost use Rattle.std.specs.Prelude.{◌≡◌, ℕ, ◌+◌, ◌*◌, ◌/◌, ◌%◌, ◌^◌, ◌<◌, ◌≤◌, length};
 ghost use Rattle.block.specs.Block.{block_at};
 ghost use Rattle.rbits.specs.Tables.{window_of};
@@ -14,7 +16,7 @@ use block::Block;
 
 // What a seed's Blocks are made with: AES's tables, the seed's words and the parts that counters begin with. Where the strings are lent
 // nobody looks at it.
-#[derive(Drop)]
+#[derive(Clone, Copy)]
 pub struct Cipher {
     pub tables: [u32; ENTRIES],
     pub words: [u32; WORDS],

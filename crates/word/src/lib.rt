@@ -1,4 +1,6 @@
 // Words of 32 bits: their sum modulo 2^32, and their bytes, the lowest first.
+#![tactic(auto)]
+
 ghost use Rattle.std.specs.Prelude.{◌≡◌, ◌+◌, ◌<◌, length};
 ghost use Rattle.word.specs.Word.{plus, word, word_at, le4};
 

@@ -1,0 +1,11 @@
+use Rattle.lists.specs.Kit.{◌≡◌, refl, ap, ◌∙◌, ◌++◌, ◌-◌, ◌≤◌, arith, length, drop, replicate, rules}
+use lib.ListN.{length-set}
+use borrow.Author.Fill.{fill_none, fill_more}
+use Rattle.lists.specs.Over.{over-full}
+use Rattle.fill.proofs.clear.Given as goal
+
+abbrev pub invariant-loop-t : goal.invariant-loop-t
+invariant-loop-t l = (l.t ≤ length l.initial.out) × (length l.out ≡ length l.initial.out) × (l.out ≡ replicate l.t 0 ++ drop l.t l.initial.out)
+
+abbrev pub decreases-loop-t : goal.decreases-loop-t
+decreases-loop-t l = length l.initial.out - l.t
