@@ -1,0 +1,8 @@
+-- `aes_tables::column` meets its contract.
+use Rattle.lists.specs.Kit.{refl, rules}
+use Rattle.aes_tables.specs.Word.{column4}
+use Rattle.aes_tables.proofs.column.Goals as goal
+
+pub returns : goal.returns
+unfolding column4
+returns c = refl

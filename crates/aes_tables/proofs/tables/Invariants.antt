@@ -1,0 +1,18 @@
+-- The loop's invariant: the first i entries are written.
+use Rattle.lists.specs.Kit.{◌≡◌, refl, ap, ◌∙◌, List, ◌++◌, ℕ, ◌-◌, ◌<◌, ◌≤◌, arith, length, get_or, drop, rules}
+use Prim.Native.Nat.{◌/◌, ◌%◌}
+use lib.ListN.{length-set}
+use Rattle.lists.specs.Over.{tab, tab-zero, tab-turn, tab-end}
+use Rattle.fips197.specs.Sbox.{SBox}
+use Rattle.fips197.specs.SboxLaws.{sbox-byte}
+use Rattle.aes_tables.specs.Tables.{entry_of, tables}
+use Rattle.aes_tables.proofs.tables.Given as goal
+
+abbrev pub at : ℕ → ℕ
+at i = entry_of (i / 256) (SBox (i % 256))
+
+abbrev pub invariant-loop-i : goal.invariant-loop-i
+invariant-loop-i l = (l.i ≤ 1280) × (l.out ≡ tab l.i at ++ drop l.i l.initial.out) × (length l.out ≡ 1280)
+
+abbrev pub decreases-loop-i : goal.decreases-loop-i
+decreases-loop-i l = 1280 - l.i

@@ -1,0 +1,13 @@
+-- `batches::all_filled` meets its contract: the first j counts are looked at.
+use Rattle.lists.specs.Kit.{◌≡◌, ◌∙◌, refl, sym, ap, ◌-◌, ◌≤◌, not, arith, length, get_or, rules}
+use lib.Dec.{eqb}
+use Rattle.lists.specs.All.{all_of, all-zero}
+use Rattle.batches.specs.Batches.{filled}
+use Rattle.batches.specs.Turns.{filled-turn}
+use Rattle.batches.proofs.all_filled.Given as goal
+
+abbrev pub invariant-loop-j : goal.invariant-loop-j
+invariant-loop-j l = (l.j ≤ l.m) × (l.good ≡ all_of l.j (λ k. not (eqb (get_or l.counts k 0) 0)))
+
+abbrev pub decreases-loop-j : goal.decreases-loop-j
+decreases-loop-j l = l.m - l.j

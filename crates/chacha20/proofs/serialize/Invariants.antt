@@ -1,0 +1,17 @@
+-- The loop's invariant: the bytes of the first i words stand in front.
+use Rattle.lists.specs.Kit.{ap, List, ℕ, ◌+◌, ◌-◌, ◌*◌, ◌≤◌, arith, get_or, rules}
+use Rattle.lists.specs.Over.{Written, written-zero, written-turn, written-end, length-take-drop}
+use Rattle.word.specs.Word.{le4, le4s}
+use Rattle.word.specs.WordLaws.{length-le4}
+use Rattle.chacha20.specs.ChaCha20 as C
+use Rattle.chacha20.proofs.serialize.Given as goal
+
+-- the bytes of word i
+abbrev pub row : List ℕ → ℕ → List ℕ
+row v i = le4 (get_or v i 0)
+
+abbrev pub invariant-loop-i : goal.invariant-loop-i
+invariant-loop-i l = (l.i ≤ 16) × Written (row l.v) l.i (l.i * 4) l.initial.out l.out
+
+abbrev pub decreases-loop-i : goal.decreases-loop-i
+decreases-loop-i l = 16 - l.i

@@ -1,0 +1,11 @@
+use Rattle.lists.specs.Kit.{◌≡◌, ap, ◌∙◌, ◌-◌, ◌<◌, ◌≤◌, arith, drop, rules}
+use Rattle.message.specs.Format.{item_at, item_len}
+use Rattle.message.specs.FormatLaws.{decoded}
+use Rattle.message.proofs.Walk.{Walked, walked_start, walked-room, walked-turn, walked-item}
+use Rattle.message.proofs.item_at.Given as goal
+
+abbrev pub invariant-loop-k : goal.invariant-loop-k
+invariant-loop-k l = (l.k ≤ l.t) × Walked l.kind l.m l.k l.pos
+
+abbrev pub decreases-loop-k : goal.decreases-loop-k
+decreases-loop-k l = l.t - l.k

@@ -1,0 +1,13 @@
+-- The loop's invariant: the first k tables are written.
+use Rattle.lists.specs.Kit.{◌≡◌, ◌∙◌, List, ℕ, ◌+◌, ◌-◌, ◌*◌, ◌<◌, ◌≤◌, arith, rules}
+use Rattle.lists.specs.Over.{Written, written-zero, written-turn, written-end}
+use Rattle.block.specs.declared.Block.{Block}
+use Rattle.rbits.specs.Tables.{record_block, table4, tables}
+use Rattle.rbits.specs.TableLaws.{table4-at, length-table4}
+use Rattle.rbits.proofs.fill.Given as goal
+
+abbrev pub invariant-loop-k : goal.invariant-loop-k
+invariant-loop-k l = (l.k ≤ 16) × Written (λ k'. table4 (λ e. record_block l.s l.stride l.at l.count (l.first + (k' * 4 + e)))) l.k (l.k * 32) l.initial.out l.out
+
+abbrev pub decreases-loop-k : goal.decreases-loop-k
+decreases-loop-k l = 16 - l.k

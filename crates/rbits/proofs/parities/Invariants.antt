@@ -1,0 +1,13 @@
+-- The loop's invariant: the bits of the first j strings are written.
+use Rattle.lists.specs.Kit.{◌≡◌, refl, ◌-◌, ◌≤◌, arith, length, get_or, rules}
+use lib.Count.{ones}
+use Rattle.algebra.specs.Group.{odd, num}
+use Rattle.rbits.specs.LoopLaws.{Filled, filled_zero, filled-turn, filled-end}
+use Rattle.rbits.specs.DigitLaws.{num-mod}
+use Rattle.rbits.proofs.parities.Given as goal
+
+abbrev pub invariant-loop-j : goal.invariant-loop-j
+invariant-loop-j l = (l.j ≤ 120) × (length l.initial.out ≡ 120) × Filled (λ j'. num (odd (ones (get_or l.acc j' 0)))) l.j l.initial.out l.out
+
+abbrev pub decreases-loop-j : goal.decreases-loop-j
+decreases-loop-j l = 120 - l.j

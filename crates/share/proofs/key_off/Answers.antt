@@ -1,0 +1,7 @@
+use Rattle.lists.specs.Kit.{arith, rules}
+use Rattle.share.specs.Layout.{key_off}
+use Rattle.share.proofs.key_off.Goals as goal
+
+pub returns : goal.returns
+unfolding key_off
+returns c = omega arith

@@ -1,0 +1,16 @@
+use Rattle.lists.specs.Kit.{ap, ◌∙◌, ◌+◌, arith, rules}
+use Rattle.block.specs.Block.{block_at}
+use Rattle.share.specs.Layout.{entry-last}
+use Rattle.share.specs.Record.{mac_at}
+use Rattle.share.proofs.mac_at.Goals as goal
+
+pub overflow_add-at : goal.overflow_add-at
+overflow_add-at c = omega (arith, entry-last c.args.k)
+
+pub load-requires : goal.load-requires
+load-requires c = omega (arith, entry-last c.args.k)
+
+pub returns : goal.returns
+unfolding mac_at
+returns c =
+    c.load.ensures ∙ ap (λ x. block_at c.args.s.now (c.args.at + x)) c.mac_off.ensures

@@ -1,0 +1,7 @@
+use Rattle.lists.specs.Kit.{arith, rules}
+use Rattle.share.specs.Layout.{mac_off}
+use Rattle.share.proofs.mac_off.Goals as goal
+
+pub returns : goal.returns
+unfolding mac_off
+returns c = omega arith
