@@ -64,7 +64,7 @@ pub record Duty {Args : Type 0} (S : Scene Args) : Type 1 where
   pub base : Holds (S.course.number 0) first
   pub rounds : (d : ℕ) → d < S.course.steps → HonestRound S.protocol S.n S.l loans Holds (S.course.number d)
 
-all_in : {A : Type 0} (Q : A → Type 0) {l : List A} {a : A} → All Q l → In a l → Q a
+all_in : {A : Type 0} (Q : A → Type 0) {a : A} {l : List A} → All Q l → In a l → Q a
 all_in Q h here = h.0
 all_in Q h (there m) = all_in Q h.1 m
 

@@ -1,0 +1,7 @@
+use Rattle.lists.specs.Kit.{refl, rules}
+use Rattle.aes.specs.Columns.{columns_of}
+use Rattle.aes.proofs.split.Goals as goal
+
+pub returns : goal.returns
+unfolding columns_of
+returns c = refl

@@ -1,0 +1,19 @@
+-- The loops' invariants: the first i words have the bytes of the key's first 4 i; then they are the expansion's.
+use Rattle.lists.specs.Kit.{◌≡◌, refl, ◌∙◌, ◌-◌, ◌*◌, ◌≤◌, arith, length, take, rules}
+use lib.ListN.{length-set}
+use Rattle.fips197.specs.Key.{words}
+use Rattle.aes_key.specs.Words.{words_bytes}
+use Rattle.aes_key.specs.WordsLaws.{words-none, words-load, words-own, words-next, words-end}
+use Rattle.aes_key.proofs.expand.Given as goal
+
+abbrev pub invariant-loop-i : goal.invariant-loop-i
+invariant-loop-i l = (l.i ≤ 4) × (length l.w ≡ 44) × (words_bytes l.i l.w ≡ take (l.i * 4) l.key)
+
+abbrev pub decreases-loop-i : goal.decreases-loop-i
+decreases-loop-i l = 4 - l.i
+
+abbrev pub invariant-loop-i-2 : goal.invariant-loop-i-2
+invariant-loop-i-2 l = (4 ≤ l.i) × (l.i ≤ 44) × (length l.w ≡ 44) × (words_bytes l.i l.w ≡ words l.key (l.i - 4))
+
+abbrev pub decreases-loop-i-2 : goal.decreases-loop-i-2
+decreases-loop-i-2 l = 44 - l.i

@@ -1,0 +1,6 @@
+use Rattle.blake3.specs.ByteLaws.{last_bit}
+use borrow.Author.Rules.{rules}
+use Rattle.blake3.proofs.Digest.bit.Goals as goal
+
+pub returns : goal.returns
+returns c = last_bit c.args.self.0

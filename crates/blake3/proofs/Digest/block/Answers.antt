@@ -1,0 +1,16 @@
+use Rattle.lists.specs.Kit.{◌∙◌, ℕ, arith, get_or, rules}
+use mir.Syntax.{w32}
+use mir.Val.{Fits}
+use Rattle.block.specs.Block.{block_at}
+use Rattle.blake3.specs.ByteLaws.{two-words}
+use Rattle.blake3.proofs.Digest.block.Goals as goal
+
+pub returns : goal.returns
+unfolding block_at
+returns c =
+    let h = c.args.self.0 in
+    let w : (k : ℕ) → Fits w32 (get_or h k 0) = λ k. search rules in
+    λ i. record {
+      0 = (c.joined.ensures ∙ two-words h 0 (omega arith) (w 0).fits (w 1).fits) i;
+      1 = (c.joined-2.ensures ∙ two-words h 2 (omega arith) (w 2).fits (w 3).fits) i;
+    }

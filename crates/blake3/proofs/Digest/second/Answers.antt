@@ -1,0 +1,16 @@
+use Rattle.lists.specs.Kit.{◌∙◌, ℕ, arith, get_or, rules}
+use mir.Syntax.{w32}
+use mir.Val.{Fits}
+use Rattle.block.specs.Block.{block_at}
+use Rattle.blake3.specs.ByteLaws.{two-words}
+use Rattle.blake3.proofs.Digest.second.Goals as goal
+
+pub returns : goal.returns
+unfolding block_at
+returns c =
+    let h = c.args.self.0 in
+    let w : (k : ℕ) → Fits w32 (get_or h k 0) = λ k. search rules in
+    λ i. record {
+      0 = (c.joined.ensures ∙ two-words h 4 (omega arith) (w 4).fits (w 5).fits) i;
+      1 = (c.joined-2.ensures ∙ two-words h 6 (omega arith) (w 6).fits (w 7).fits) i;
+    }

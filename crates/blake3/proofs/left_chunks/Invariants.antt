@@ -1,0 +1,9 @@
+use Rattle.lists.specs.Kit.{◌-◌, ◌<◌, arith}
+use Rattle.blake3.specs.TreeLaws.{Power, power-one, power-double, power_pos}
+use Rattle.blake3.proofs.left_chunks.Given as goal
+
+abbrev pub invariant-loop-k : goal.invariant-loop-k
+invariant-loop-k l = Power l.k × (l.k < l.n)
+
+abbrev pub decreases-loop-k : goal.decreases-loop-k
+decreases-loop-k l = l.n - l.k

@@ -1,0 +1,31 @@
+use Rattle.lists.specs.Kit.{◌≡◌, refl, ap, ◌∙◌, List, ◌++◌, ℕ, ◌+◌, ◌-◌, ◌*◌, ◌≤◌, arith, get_or, take, drop}
+use Rattle.lists.specs.Over.{tab, tab-zero, tab-turn, tab-end, length-take-drop}
+use Rattle.blake3_chunks.specs.declared.Node.{Node}
+use Rattle.blake3_chunks.specs.Chunks.{no_node, chunk_of, pressed}
+use Rattle.blake3_chunks.proofs.lanes.Goals as goal
+
+-- the part that lane j is lent
+own : (s : List ℕ) (j : ℕ) (r n : Node) (k low high f : ℕ)
+    → r ≡ pressed n (take (1024 * j + 1024 - 1024 * j) (drop (1024 * j) s)) k low high f
+    → r ≡ pressed n (chunk_of s j) k low high f
+own s j r n k low high f e =
+    let q : 1024 * j + 1024 - 1024 * j ≡ 1024 = omega arith in e ∙ ap (λ (m : ℕ). pressed n (take m (drop (1024 * j) s)) k low high f) q
+
+pub loop-j-init : goal.loop-j-init
+loop-j-init c = (omega arith, tab-zero _ _)
+
+pub lane-requires : goal.lane-requires
+lane-requires c =
+    let j = c.loop-j.j in
+    record { chunk_len = omega (arith, c.requires.s_len, length-take-drop (1024 * j) (1024 * j + 1024) c.args.s.now); k_bound = c.requires.k_bound }
+
+pub loop-j-preserved : goal.loop-j-preserved
+loop-j-preserved c =
+    let l = c.loop-j in
+    let s = c.args.s.now in (
+      omega arith,
+      tab-turn l.j _ _ l.ds _ l.invariant.1 (own s l.j _ _ _ _ _ _ c.lane.ensures) c.loop-j-test.true,
+    )
+
+pub returns : goal.returns
+returns c = let l = c.loop-j in tab-end l.j 4 _ _ l.ds l.invariant.1 (omega arith) refl

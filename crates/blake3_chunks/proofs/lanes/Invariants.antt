@@ -1,0 +1,12 @@
+-- The loop's invariant: what the first j lanes give stands in front.
+use Rattle.lists.specs.Kit.{◌≡◌, refl, ap, ◌∙◌, List, ◌++◌, ℕ, ◌+◌, ◌-◌, ◌*◌, ◌≤◌, arith, get_or, take, drop}
+use Rattle.lists.specs.Over.{tab, tab-zero, tab-turn, tab-end, length-take-drop}
+use Rattle.blake3_chunks.specs.declared.Node.{Node}
+use Rattle.blake3_chunks.specs.Chunks.{no_node, chunk_of, pressed}
+use Rattle.blake3_chunks.proofs.lanes.Given as goal
+
+abbrev pub invariant-loop-j : goal.invariant-loop-j
+invariant-loop-j l = (l.j ≤ 4) × (l.ds ≡ tab l.j (λ i. pressed (get_or l.hs i no_node) (chunk_of l.s i) l.k (get_or l.lows i 0) (get_or l.highs i 0) l.f) ++ drop l.j l.initial.ds)
+
+abbrev pub decreases-loop-j : goal.decreases-loop-j
+decreases-loop-j l = 4 - l.j

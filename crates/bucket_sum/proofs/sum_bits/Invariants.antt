@@ -1,0 +1,25 @@
+-- The loop's invariant: x and z have the bits of the first e records of the bucket.
+use Rattle.lists.specs.Kit.{◌≡◌, sym, ap, ◌∙◌, List, Bool, ℕ, suc, ◌+◌, ◌-◌, ◌*◌, ◌<◌, ◌≤◌, arith, length, get_or, rules}
+use native.Mathlib.Nat.{add-zero}
+use Rattle.algebra.specs.Group.{bits, odd}
+use Rattle.algebra.specs.Bucket.{bucketX, bucketZ, first-x, first-z}
+use Rattle.share.specs.Share.{share_at}
+use Rattle.bucket_sum.specs.Sums.{x_among, step-most, bit-turn-x, bit-turn-z}
+use Rattle.bucket_sum.proofs.sum_bits.Given as goal
+
+-- the bits of x, of z, and d
+abbrev pub xs : ℕ → List ℕ → List ℕ → ℕ → Bool
+xs len s ts e = (x_among len s ts e).bit
+
+abbrev pub zs : List ℕ → List ℕ → ℕ → ℕ → ℕ → Bool
+zs z ts behind step e = odd (get_or z ((get_or ts e 0 + behind) * step) 0)
+
+abbrev pub ds : List ℕ → ℕ → Bool
+ds d e = odd (get_or d e 0)
+
+abbrev pub invariant-loop-e : goal.invariant-loop-e
+invariant-loop-e l = (1 ≤ l.e) × (l.e ≤ length l.ts) × (l.x ≡ bucketX bits (xs l.len l.s l.ts) (l.e - 1))
+    × (l.z ≡ bucketZ bits (xs l.len l.s l.ts) (zs l.zs l.ts l.behind l.step) (ds l.d) (l.e - 1))
+
+abbrev pub decreases-loop-e : goal.decreases-loop-e
+decreases-loop-e l = length l.ts - l.e

@@ -1,0 +1,22 @@
+-- The loop's invariant: x and z have the first e records of the bucket.
+use Rattle.lists.specs.Kit.{◌≡◌, ap₂, subst, ◌∙◌, List, ℕ, suc, ◌+◌, ◌-◌, ◌*◌, ◌<◌, ◌≤◌, arith, length, get_or, rules}
+use Rattle.algebra.specs.Group.{XorGroup, odd}
+use Rattle.algebra.specs.Bucket.{bucketX, bucketZ}
+use Rattle.block.specs.Group.{blocks}
+use Rattle.share.specs.Layout.{record-within}
+use Rattle.share.specs.Record.{record_len}
+use Rattle.share.specs.Share.{share_at, shares}
+use Rattle.bucket_sum.specs.declared.Sums.{Sums}
+use Rattle.bucket_sum.specs.Sums.{x_among, z_among, Summed, x_fits, no_wrap, summed-first, summed_turn}
+use Rattle.bucket_sum.proofs.sum_entries.Given as goal
+
+-- the sums over the first c + 1
+abbrev pub Sofar : ℕ → List ℕ → List ℕ → ℕ → List ℕ → ℕ → ℕ → Sums → Type 0
+Sofar len s ts behind d k c r =
+    Summed k (bucketX shares (x_among len s ts) c) (bucketZ shares (x_among len s ts) (z_among len s ts behind) (λ i. odd (get_or d i 0)) c) r
+
+abbrev pub invariant-loop-e : goal.invariant-loop-e
+invariant-loop-e l = (1 ≤ l.e) × (l.e ≤ length l.ts) × Sofar l.len l.s l.ts l.behind l.d l.k (l.e - 1) (record { x = l.x; z = l.z })
+
+abbrev pub decreases-loop-e : goal.decreases-loop-e
+decreases-loop-e l = length l.ts - l.e

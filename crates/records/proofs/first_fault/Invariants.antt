@@ -1,0 +1,11 @@
+use Rattle.lists.specs.Kit.{◌≡◌, sym, ap, ◌∙◌, ◌+◌, ◌-◌, ◌*◌, ◌≤◌, arith, length, rules}
+use Rattle.lists.specs.Over.{in-record}
+use Rattle.share.specs.Lent.{lent_len, record_fault, records_fault}
+use Rattle.share.specs.LentLaws.{faults-zero, faults-turn, faults-stay}
+use Rattle.records.proofs.first_fault.Given as goal
+
+abbrev pub invariant-loop-t : goal.invariant-loop-t
+invariant-loop-t l = (l.t ≤ l.count) × (records_fault l.n l.i l.s l.t ≡ 0)
+
+abbrev pub decreases-loop-t : goal.decreases-loop-t
+decreases-loop-t l = l.count - l.t

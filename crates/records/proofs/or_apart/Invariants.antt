@@ -1,0 +1,15 @@
+use Rattle.lists.specs.Kit.{◌≡◌, refl, ap, ◌∙◌, List, ◌++◌, ℕ, ◌+◌, ◌-◌, ◌<◌, ◌≤◌, arith, length, get_or, drop, rules}
+use lib.ListN.{length-set}
+use lib.Bits.{bit_or, bit_xor}
+use Rattle.lists.specs.Over.{tab, length-tab, tab-zero, tab-turn, tab-end, over-get}
+use Rattle.records.specs.Seen.{ored}
+use Rattle.records.proofs.or_apart.Given as goal
+
+abbrev pub both : List ℕ → List ℕ → ℕ → List ℕ → ℕ → ℕ
+both e s at due k = bit_or (get_or e k 0) (bit_xor (get_or s (at + k) 0) (get_or due k 0))
+
+abbrev pub invariant-loop-k : goal.invariant-loop-k
+invariant-loop-k l = (l.k ≤ length l.initial.e) × (length l.e ≡ length l.initial.e) × (l.e ≡ tab l.k (both l.initial.e l.s l.at l.due) ++ drop l.k l.initial.e)
+
+abbrev pub decreases-loop-k : goal.decreases-loop-k
+decreases-loop-k l = length l.initial.e - l.k

@@ -1,0 +1,16 @@
+-- The loop's invariant: a and b, and c and d, are the words of the sums of the first k entries.
+use Rattle.lists.specs.Kit.{◌≡◌, refl, ap, ◌∙◌, ◌+◌, ◌-◌, ◌*◌, ◌<◌, ◌≤◌, arith, rules}
+use Prim.Native.Nat.{◌/◌, ◌^◌}
+use lib.Bits.{bit_and, mask_lt}
+use Rattle.algebra.specs.Sum.{sum}
+use Rattle.block.specs.Block.{zero_of}
+use Rattle.block.specs.Group.{blocks}
+use Rattle.rbits.specs.Tables.{entry, lookup}
+use Rattle.rbits.specs.TableLaws.{lookup-turn}
+use Rattle.rpairs.proofs.choose_two.Given as goal
+
+abbrev pub invariant-loop-k : goal.invariant-loop-k
+invariant-loop-k l = (l.k ≤ 16) × (record { 0 = l.a; 1 = l.b } ≡ sum blocks l.k (entry l.t l.w)) × (record { 0 = l.c; 1 = l.d } ≡ sum blocks l.k (entry l.u l.w))
+
+abbrev pub decreases-loop-k : goal.decreases-loop-k
+decreases-loop-k l = 16 - l.k

@@ -1,0 +1,29 @@
+use native.Mathlib.Nat.{mod-lt}
+use Rattle.lists.specs.Kit.{◌+◌, arith, rules}
+use Rattle.shuffle.specs.TurnLaws.{went-used, went-passed, some_left}
+use Rattle.shuffle.proofs.step.Goals as goal
+
+pub swap-requires : goal.swap-requires
+swap-requires c =
+    omega (arith, mod-lt c.args.v {m = c.args.s.t + 1} (omega arith))
+
+pub returns-then-fits-left : goal.returns-then-fits-left
+returns-then-fits-left c =
+    record {
+      less = search rules;
+      by_index = λ w k e n p K.
+          went-used w n k c.args.v c.fits.result c.args.s p c.swap.new.section c.requires.0 e
+          c.fits.ensures c.if-fits-left.true (c.swap.ensures n p K);
+    }
+
+pub overflow_sub-result-2 : goal.overflow_sub-result-2
+overflow_sub-result-2 c = some_left c.fits.result c.args.s.left c.if-fits-left.false
+
+pub returns : goal.returns
+returns c =
+    let some = some_left c.fits.result c.args.s.left c.if-fits-left.false in record {
+      less = search rules;
+      by_index = λ w k e n p K.
+          went-passed w n k c.args.v c.fits.result c.args.s p c.args.section.now c.requires.0 e
+          c.fits.ensures c.if-fits-left.false K;
+    }

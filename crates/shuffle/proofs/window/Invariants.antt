@@ -1,0 +1,11 @@
+use Rattle.lists.specs.Kit.{◌≡◌, subst, [], get_or, ◌-◌, ◌≤◌, arith, rules}
+use Rattle.chacha20_lanes.specs.declared.Lane.{Lane}
+use Rattle.shuffle.specs.Turns.{Blocks}
+use Rattle.shuffle.specs.TurnLaws.{blocks-zero, lane-at, lane-turn}
+use Rattle.shuffle.proofs.window.Given as goal
+
+abbrev pub invariant-loop-k : goal.invariant-loop-k
+invariant-loop-k l = (l.k ≤ 4) × Blocks l.key l.counter l.initial.section l.initial.at l.section l.at l.k
+
+abbrev pub decreases-loop-k : goal.decreases-loop-k
+decreases-loop-k l = 4 - l.k
