@@ -17,13 +17,12 @@ overflow_add-from c =
     omega (arith, firsts-fit c.args.stride c.args.s.now c.requires.stride_nonzero.0)
 
 pub loop-i-preserved : goal.loop-i-preserved
-loop-i-preserved c =
-    let l = c.loop-i in (
-      ap₂ (λ (x : List ℕ) (y : ℕ). set x l.i y) l.invariant.0 c.first.ensures
-          ∙ tab-step l.i (λ j. get_or (firsts c.args.stride c.args.s.now) (c.args.from + j) 0) (replicate 1024 0) (omega arith),
-      length-set l.b l.i _ ∙ l.invariant.1,
-      omega arith,
-    )
+loop-i-preserved c = (
+  ap₂ (λ (x : List ℕ) (y : ℕ). set x c.loop-i.i y) c.loop-i.invariant.0 c.first.ensures
+      ∙ tab-step c.loop-i.i (λ j. get_or (firsts c.args.stride c.args.s.now) (c.args.from + j) 0) (replicate 1024 0) (omega arith),
+  length-set c.loop-i.b c.loop-i.i _ ∙ c.loop-i.invariant.1,
+  omega arith,
+)
 
 -- what is lent to `chunk`
 lent : (s b : List ℕ) (stride from len i : ℕ) → from + len ≤ length (firsts stride s) → i ≡ len

@@ -11,8 +11,7 @@ of_words b h e w = e ∙ ap (λ (m : List ℕ). compress IV m 0 16 11) w ∙ blo
 
 pub returns : goal.returns
 returns c =
-    let b = c.args.b in
-    of_words b (record { low = omega arith; high = omega arith }) c.compress.ensures
+    of_words c.args.b (record { low = omega arith; high = omega arith }) c.compress.ensures
     (λ i.
     c.low.ensures i ∷ c.high.ensures i ∷ c.low-2.ensures i ∷ c.high-2.ensures i
     ∷ 0 ∷ 0 ∷ 0 ∷ 0 ∷ 0 ∷ 0 ∷ 0 ∷ 0 ∷ 0 ∷ 0 ∷ 0 ∷ 0 ∷ [])

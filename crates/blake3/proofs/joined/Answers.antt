@@ -6,7 +6,5 @@ use Rattle.blake3.proofs.joined.Goals as goal
 
 pub returns : goal.returns
 returns c =
-    let l = c.args.low in
-    let h = c.args.high in
-    let e : h * 2 ^ 32 % 2 ^ 64 ≡ h * 2 ^ 32 = omega arith in
-    ap (bit_or l) e ∙ or_shifted_r h 32 l c.ranges.low.fits ∙ add_comm (h * 2 ^ 32) l
+    let e : c.args.high * 2 ^ 32 % 2 ^ 64 ≡ c.args.high * 2 ^ 32 = omega arith in
+    ap (bit_or c.args.low) e ∙ or_shifted_r c.args.high 32 c.args.low c.ranges.low.fits ∙ add_comm (c.args.high * 2 ^ 32) c.args.low

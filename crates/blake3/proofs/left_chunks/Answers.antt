@@ -3,10 +3,10 @@ use Rattle.blake3.specs.TreeLaws.{Power, power-one, power-double, power_pos}
 use Rattle.blake3.proofs.left_chunks.Goals as goal
 
 pub loop-k-smaller : goal.loop-k-smaller
-loop-k-smaller c = let l = c.loop-k in omega (arith, power_pos l.k l.invariant.0)
+loop-k-smaller c = omega (arith, power_pos c.loop-k.k c.loop-k.invariant.0)
 
 pub loop-k-preserved : goal.loop-k-preserved
-loop-k-preserved c = let l = c.loop-k in (power-double l.k l.invariant.0, omega arith)
+loop-k-preserved c = (power-double c.loop-k.k c.loop-k.invariant.0, omega arith)
 
 pub returns : goal.returns
 returns c = record { power = c.loop-k.invariant.0; below = omega arith; next = omega arith }

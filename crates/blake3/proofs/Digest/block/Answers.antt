@@ -8,9 +8,8 @@ use Rattle.blake3.proofs.Digest.block.Goals as goal
 pub returns : goal.returns
 unfolding block_at
 returns c =
-    let h = c.args.self.0 in
-    let w : (k : ℕ) → Fits w32 (get_or h k 0) = λ k. search rules in
+    let w : (k : ℕ) → Fits w32 (get_or c.args.self.0 k 0) = λ k. search rules in
     λ i. record {
-      0 = (c.joined.ensures ∙ two-words h 0 (omega arith) (w 0).fits (w 1).fits) i;
-      1 = (c.joined-2.ensures ∙ two-words h 2 (omega arith) (w 2).fits (w 3).fits) i;
+      0 = (c.joined.ensures ∙ two-words c.args.self.0 0 (omega arith) (w 0).fits (w 1).fits) i;
+      1 = (c.joined-2.ensures ∙ two-words c.args.self.0 2 (omega arith) (w 2).fits (w 3).fits) i;
     }

@@ -1,0 +1,9 @@
+use Rattle.lists.specs.Kit.{rules}
+use Rattle.aes_counter.specs.Starts.{first_of}
+use Rattle.aes_counter.specs.StartLaws.{rest-made}
+use Rattle.aes_counter.proofs.rest.Goals as goal
+
+pub returns : goal.returns
+unfolding first_of
+returns c =
+    rest-made c.args.t.now c.args.w.now c.column.result c.pieces-q.result c.pieces-q.ensures c.column.ensures

@@ -1,0 +1,21 @@
+use Rattle.lists.specs.Kit.{◌≡◌, refl, ◌∙◌, ◌++◌, ◌+◌, ◌-◌, ◌*◌, ◌≤◌, length, drop, set, arith, rules}
+use lib.ListN.{length-set}
+use Rattle.lists.specs.Over.{tab, tab-zero}
+use Rattle.aes_counter.specs.Starts.{start_at}
+use Rattle.aes_counter.specs.StartLaws.{starts-turn, starts-end}
+use Rattle.aes_counter.proofs.starts.Goals as goal
+
+pub loop-i-init : goal.loop-i-init
+loop-i-init c = (omega arith, refl, tab-zero (start_at c.args.t.now c.args.w.now) _)
+
+pub loop-i-preserved : goal.loop-i-preserved
+loop-i-preserved c = (
+  omega arith,
+  length-set (set c.loop-i.out (c.loop-i.i * 2) c.block-b.result.0) (c.loop-i.i * 2 + 1) c.block-b.result.1 ∙ length-set c.loop-i.out (c.loop-i.i * 2) c.block-b.result.0 ∙ c.loop-i.invariant.1,
+  starts-turn c.args.t.now c.args.w.now _ c.loop-i.out c.loop-i.i c.part.result c.block-b.result c.loop-i-test.true refl
+      c.loop-i.invariant.2 c.part.ensures c.block-b.ensures,
+)
+
+pub returns : goal.returns
+returns c =
+    starts-end c.args.t.now c.args.w.now _ c.loop-i.out c.loop-i.i c.requires (omega arith) refl c.loop-i.invariant.2

@@ -1,0 +1,13 @@
+-- The loop's invariant: the first i parts are written.
+use Rattle.lists.specs.Kit.{◌≡◌, refl, ◌∙◌, ◌++◌, ◌+◌, ◌-◌, ◌*◌, ◌≤◌, length, drop, set, arith, rules}
+use lib.ListN.{length-set}
+use Rattle.lists.specs.Over.{tab, tab-zero}
+use Rattle.aes_counter.specs.Starts.{start_at}
+use Rattle.aes_counter.specs.StartLaws.{starts-turn, starts-end}
+use Rattle.aes_counter.proofs.starts.Given as goal
+
+abbrev pub invariant-loop-i : goal.invariant-loop-i
+invariant-loop-i l = (l.i ≤ 768) × (length l.out ≡ 1536) × (l.out ≡ tab (l.i * 2) (start_at l.t l.w) ++ drop (l.i * 2) l.initial.out)
+
+abbrev pub decreases-loop-i : goal.decreases-loop-i
+decreases-loop-i l = 768 - l.i
