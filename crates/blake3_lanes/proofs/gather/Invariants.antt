@@ -1,0 +1,11 @@
+-- The loop's invariant: the words of the first t Blocks stand in front.
+use Rattle.lists.specs.Kit.{◌≡◌, refl, ap, ◌∙◌, ◌++◌, ◌+◌, ◌-◌, ◌≤◌, arith, drop, rules}
+use Rattle.lists.specs.Over.{tab, tab-zero, tab-turn, tab-end}
+use Rattle.blake3_lanes.specs.Lanes.{words_of, words_at}
+use Rattle.blake3_lanes.proofs.gather.Given as goal
+
+abbrev pub invariant-loop-t : goal.invariant-loop-t
+invariant-loop-t l = (l.t ≤ 64) × (l.ms ≡ tab l.t (words_at l.blocks) ++ drop l.t l.initial.ms)
+
+abbrev pub decreases-loop-t : goal.decreases-loop-t
+decreases-loop-t l = 64 - l.t

@@ -1,0 +1,12 @@
+-- The loop's invariant: the hashes of the first t Blocks stand in front.
+use Rattle.lists.specs.Kit.{◌∙◌, ◌+◌, ◌-◌, ◌*◌, ◌≤◌, arith, rules}
+use Rattle.lists.specs.Over.{Written, written-zero, written-turn, written-end}
+use Rattle.blake3_lanes.specs.Lanes.{hash_at}
+use Rattle.blake3_lanes.specs.LaneLaws.{length-hash_at, lane-hash}
+use Rattle.blake3_lanes.proofs.hash_window.Given as goal
+
+abbrev pub invariant-loop-t : goal.invariant-loop-t
+invariant-loop-t l = (l.t ≤ 64) × Written (hash_at l.blocks) l.t (l.t * 32) l.initial.out l.out
+
+abbrev pub decreases-loop-t : goal.decreases-loop-t
+decreases-loop-t l = 64 - l.t

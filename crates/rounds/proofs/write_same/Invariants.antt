@@ -1,0 +1,14 @@
+-- The loop's invariant: the stretches of the first q other parties are written.
+use Rattle.lists.specs.Kit.{List, ◌++◌, ℕ, ◌+◌, ◌-◌, ◌*◌, ◌≤◌, arith, length, rules}
+use native.Mathlib.Nat.{zero-mul}
+use Rattle.lists.specs.Over.{Written, in-chunks, length-take-drop}
+use Rattle.block.specs.Block.{le8}
+use Rattle.engine.specs.Area.{to_others}
+use Rattle.lists.specs.Rows.{even-zero, even-turn, even-end}
+use Rattle.rounds.proofs.write_same.Given as goal
+
+abbrev pub invariant-loop-q : goal.invariant-loop-q
+invariant-loop-q l = (l.q ≤ l.n - 1) × Written (λ k. le8 l.count ++ l.items) l.q (l.q * (8 + length l.items)) l.initial.out l.out
+
+abbrev pub decreases-loop-q : goal.decreases-loop-q
+decreases-loop-q l = l.n - 1 - l.q
