@@ -1,0 +1,39 @@
+-- The loop's invariant: y is written, and of x and z the entries of the first k parties.
+use Rattle.lists.specs.Kit.{◌≡◌, refl, sym, ap, subst, ◌∙◌, List, ◌++◌, ℕ, ◌+◌, ◌-◌, ◌*◌, ◌≤◌}
+use Rattle.lists.specs.Kit.{arith, length, get_or, take, drop, rules}
+use lib.ListN.{length-append, length-drop}
+use lib.Seq.{length-take-le}
+use Rattle.lists.specs.Over.{length-take-drop}
+use Rattle.lists.specs.Sect.{put, get-rest}
+use Rattle.algebra.specs.Group.{bits, odd}
+use Rattle.algebra.specs.Bucket.{bucketX, bucketZ}
+use Rattle.share.specs.Layout.{entry-within}
+use Rattle.share.specs.Record.{record_len, bit_at}
+use Rattle.share.specs.Share.{Share, share_at, shares}
+use Rattle.share.specs.ShareLaws.{bit-bucket-x, bit-bucket-z}
+use Rattle.share.specs.Lent.{LABEL, lent_len, lent_of, lent_at}
+use Rattle.share.specs.LentLaws.{lent_longer, lent-most, head-within, lent-headed, length-lent_of}
+use Rattle.rounds.specs.Combine.{triple}
+use Rattle.bucket_sum.specs.Sums.{x_among, Within, BucketIn, x-bits, z-bits}
+use Rattle.combine.specs.Triples.{x_places, x_lent, z_lent, triples-in, y-inside, sum-records, bits_in}
+use Rattle.combine.specs.Out.{Lined, lined-none, lined-row, lined-long, lined-part, lined-turn, lined-end}
+use Rattle.combine.proofs.combine_all.Given as goal
+
+-- the numbers of the records x, and the sums
+abbrev pub ts : List ℕ → List ℕ
+ts d = take (length d + 1) x_places
+
+abbrev pub X : ℕ → List ℕ → List ℕ → Share
+X n s d = bucketX shares (x_lent n s (ts d)) (length d)
+
+abbrev pub Z : ℕ → List ℕ → List ℕ → Share
+Z n s d = bucketZ shares (x_lent n s (ts d)) (z_lent n s (ts d)) (λ e. odd (get_or d e 0)) (length d)
+
+abbrev pub Y : ℕ → ℕ → List ℕ → List ℕ
+Y n i s = lent_of n i (triple n s 0).ty
+
+abbrev pub invariant-loop-k : goal.invariant-loop-k
+invariant-loop-k l = (l.k ≤ l.n) × Lined l.n l.i l.k (X l.n l.triples l.d) (Z l.n l.triples l.d) (Y l.n l.i l.triples) l.out
+
+abbrev pub decreases-loop-k : goal.decreases-loop-k
+decreases-loop-k l = l.n - l.k

@@ -1,0 +1,13 @@
+use Rattle.lists.specs.Kit.{◌≡◌, sym, ◌∙◌, ◌-◌, ◌≤◌, arith, rules}
+use Rattle.engine.specs.Step.{scan}
+use Rattle.engine.specs.StepLaws.{scan-turn}
+use Rattle.rounds.specs.Mail.{letter}
+use Rattle.rounds.specs.FaultLaws.{fault_at, clean-zero, finds-first, finds-none}
+use Rattle.rounds.specs.EchoLaws.{echo_faults}
+use Rattle.echo.proofs.check_echoes.Given as goal
+
+abbrev pub invariant-loop-j : goal.invariant-loop-j
+invariant-loop-j l = (l.j ≤ l.n) × ((scan l.j (fault_at l.f.i (echo_faults l.n l.f.i l.hashes (letter l.incoming l.mail)))).code ≡ 0)
+
+abbrev pub decreases-loop-j : goal.decreases-loop-j
+decreases-loop-j l = l.n - l.j

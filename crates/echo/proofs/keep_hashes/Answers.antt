@@ -1,0 +1,31 @@
+use Rattle.lists.specs.Kit.{◌∙◌, List, ℕ, ◌-◌, ◌*◌, ◌≤◌, arith, replicate, rules}
+use Rattle.lists.specs.Pick.{pick}
+use Rattle.lists.specs.Over.{Written}
+use Rattle.lists.specs.Rows.{even-zero, even-turn, even-end}
+use Rattle.algebra.specs.Sum.{neq}
+use Rattle.rounds.specs.declared.Mail.{Mail}
+use Rattle.rounds.specs.Mail.{letter}
+use Rattle.rounds.specs.Echo.{hash_vec}
+use Rattle.rounds.specs.EchoLaws.{hash-rows}
+use Rattle.echo.proofs.keep_hashes.Goals as goal
+use Rattle.echo.proofs.keep_hashes.Invariants.{row}
+
+pub loop-j-init : goal.loop-j-init
+loop-j-init c =
+    (search rules, even-zero (row c.args.incoming.now c.args.mail c.args.f.i c.args.f.l c.args.k) 16 c.args.section.now)
+
+pub loop-j-preserved : goal.loop-j-preserved
+loop-j-preserved c = (
+  omega (arith, c),
+  even-turn (row c.args.incoming.now c.args.mail c.args.f.i c.args.f.l c.args.k) c.args.f.n 16 c.args.section.now c.requires.n_bound.1
+      c.loop-j.j c.loop-j.section c.store.new.out c.loop-j-test.true c.loop-j.invariant.1 (c.store.ensures ∙ c.hash_row-h.ensures) c.store.auto.out,
+)
+
+pub shape_of-section : goal.shape_of-section
+shape_of-section c = c.loop-j.invariant.1.same
+
+pub returns : goal.returns
+returns c =
+    even-end (row c.args.incoming.now c.args.mail c.args.f.i c.args.f.l c.args.k) c.args.f.n 16 c.args.section.now c.requires.n_bound.1 c.loop-j.j
+    c.loop-j.section c.loop-j.invariant.1 (omega arith)
+    ∙ hash-rows c.args.f.n c.args.f.l c.args.f.i (λ j. hash_vec c.args.k (letter c.args.incoming.now c.args.mail j))

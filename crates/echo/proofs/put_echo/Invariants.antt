@@ -1,0 +1,13 @@
+use Rattle.lists.specs.Kit.{◌≡◌, refl, sym, ap, ◌∙◌, ◌+◌, ◌-◌, ◌≤◌, arith, length, rules}
+use Rattle.lists.specs.Over.{length-take-drop}
+use Rattle.encode.specs.Stretch.{Stretch, stretch-count, stretch-self, stretch-turn, stretch-end}
+use Rattle.plan.specs.Plan.{msg_len}
+use Rattle.rounds.specs.Echo.{echo_msg}
+use Rattle.rounds.specs.EchoLaws.{entry, entry_at, entry_length, entry_zero, entry_next, entry-fits, entries-fill, echo-len}
+use Rattle.echo.proofs.put_echo.Given as goal
+
+abbrev pub invariant-loop-k : goal.invariant-loop-k
+invariant-loop-k l = (l.k ≤ l.n) × ((l.a ≡ entry_at l.i l.r l.hashes l.k) × ((length l.initial.out ≡ msg_len l.n 1 2) × Stretch l.n (entry l.i l.r l.hashes) l.k l.a l.initial.out l.out))
+
+abbrev pub decreases-loop-k : goal.decreases-loop-k
+decreases-loop-k l = l.n - l.k

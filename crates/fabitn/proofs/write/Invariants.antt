@@ -1,0 +1,19 @@
+-- The loop's invariant: the messages of the first q of the others are written.
+use Rattle.lists.specs.Kit.{refl, List, ℕ, ◌+◌, ◌-◌, ◌*◌, ◌≤◌, arith, get_or, rules}
+use Rattle.lists.specs.Over.{Written, length-take-drop}
+use Rattle.lists.specs.Rows.{even-zero, even-put, even-end}
+use Rattle.algebra.specs.Group.{odd}
+use Rattle.rbits.specs.Chosen.{pair_at}
+use Rattle.encode.specs.Encode.{encode, bit_block}
+use Rattle.encode.specs.Coded.{length-encode, length-bit_block}
+use Rattle.rounds.specs.Fabitn.{STRINGS, ITEM, MSG}
+use Rattle.fabitn.proofs.write.Given as goal
+
+abbrev pub message : List ℕ → List ℕ → ℕ → List ℕ
+message bits macs q = encode STRINGS (λ j. bit_block (odd (get_or bits j 0)) (pair_at macs (q * STRINGS + j)))
+
+abbrev pub invariant-loop-q : goal.invariant-loop-q
+invariant-loop-q l = (l.q ≤ l.n - 1) × Written (message l.bits l.macs) l.q (l.q * MSG) l.initial.out l.out
+
+abbrev pub decreases-loop-q : goal.decreases-loop-q
+decreases-loop-q l = l.n - 1 - l.q

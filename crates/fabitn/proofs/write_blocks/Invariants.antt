@@ -1,0 +1,15 @@
+-- The loop's invariant: the first j Blocks are written.
+use Rattle.lists.specs.Kit.{refl, ◌+◌, ◌-◌, ◌*◌, ◌≤◌, arith, rules}
+use Rattle.lists.specs.Over.{Written, written-zero}
+use Rattle.lists.specs.Rows.{even-put, even-end}
+use Rattle.block.specs.Block.{bytes_of}
+use Rattle.block.specs.Trip.{length-bytes_of}
+use Rattle.rbits.specs.Chosen.{pair_at}
+use Rattle.rounds.specs.Fabitn.{STRINGS}
+use Rattle.fabitn.proofs.write_blocks.Given as goal
+
+abbrev pub invariant-loop-j : goal.invariant-loop-j
+invariant-loop-j l = (l.j ≤ STRINGS) × Written (λ j'. bytes_of (pair_at l.words (l.base + j'))) l.j (l.j * 16) l.initial.out l.out
+
+abbrev pub decreases-loop-j : goal.decreases-loop-j
+decreases-loop-j l = STRINGS - l.j

@@ -1,0 +1,22 @@
+-- The loop's invariant: the rows of the first k parties are kept.
+use Rattle.lists.specs.Kit.{◌≡◌, refl, sym, ap, ◌∙◌, ◌≢◌, List, ℕ, ◌+◌, ◌-◌, ◌*◌, ◌≤◌, arith, length, rules}
+use Rattle.lists.specs.Sect.{length-get}
+use Rattle.engine.specs.declared.Frame.{Frame}
+use Rattle.rounds.specs.Area.{SHARE_COMMS, sizes, size_of, keep}
+use Rattle.rounds.specs.declared.Mail.{Mail}
+use Rattle.rounds.specs.Mail.{letter}
+use Rattle.rounds.specs.MailLaws.{letter-long}
+use Rattle.rounds.specs.Loops.{row_of, rows_of, length-row_of}
+use Rattle.rounds.specs.Fashare as Fashare
+use Rattle.rounds.specs.Fashare.{COMM_ROW, comms_in}
+use Rattle.area.specs.Filled.{Filled, filled_none, filled_put, filled-end, row_in, row-lent}
+use Rattle.fashare_comm.proofs.keep.Given as goal
+
+abbrev pub row : List ℕ → Mail → Frame → ℕ → List ℕ
+row incoming mail f = row_of f.i COMM_ROW (comms_in (letter incoming mail))
+
+abbrev pub invariant-loop-k : goal.invariant-loop-k
+invariant-loop-k l = (l.k ≤ l.n) × Filled l.f SHARE_COMMS COMM_ROW (row l.incoming l.mail l.f) l.k l.initial.work l.work
+
+abbrev pub decreases-loop-k : goal.decreases-loop-k
+decreases-loop-k l = l.n - l.k

@@ -1,0 +1,21 @@
+-- The loop's invariant: the rows of the first k parties are written.
+use Rattle.lists.specs.Kit.{◌≡◌, sym, ap, ◌∙◌, List, ℕ, ◌+◌, ◌-◌, ◌*◌, ◌≤◌, arith, length, rules}
+use Rattle.lists.specs.Over.{cat, tab, Written, in-chunks}
+use Rattle.lists.specs.Rows.{length-row, even-zero, even-turn, even-end}
+use Rattle.algebra.specs.Group.{num}
+use Rattle.plan.specs.Plan.{leaky}
+use Rattle.rounds.specs.declared.Mail.{Mail}
+use Rattle.rounds.specs.Mail.{letter}
+use Rattle.rounds.specs.Loops.{row_of, rows_of}
+use Rattle.rounds.specs.Flaand.{e_told, e_rows}
+use Rattle.flaand.proofs.keep_es.Given as goal
+
+-- row k, of len bytes
+abbrev pub row : List ℕ → Mail → ℕ → ℕ → ℕ → List ℕ
+row incoming mail i len = row_of i len (λ k. tab len (λ t. num (e_told (letter incoming mail) k t)))
+
+abbrev pub invariant-loop-k : goal.invariant-loop-k
+invariant-loop-k l = (l.k ≤ l.n) × Written (row l.incoming l.mail l.f.i l.len) l.k (l.k * l.len) l.initial.section l.section
+
+abbrev pub decreases-loop-k : goal.decreases-loop-k
+decreases-loop-k l = l.n - l.k

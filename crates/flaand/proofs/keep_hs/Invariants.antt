@@ -1,0 +1,24 @@
+-- The loop's invariant: h of the first t positions is kept. The other sections are as they were.
+use Rattle.lists.specs.Kit.{◌≡◌, refl, sym, ap, ap₂, ◌∙◌, ◌≢◌, List, ℕ, ◌+◌, ◌-◌, ◌*◌, ◌<◌, ◌≤◌, arith, length, rules}
+use Rattle.block.specs.declared.Block.{Block}
+use Rattle.block.specs.Block.{bytes_of}
+use Rattle.block.specs.Trip.{length-bytes_of}
+use Rattle.plan.specs.Plan.{leaky}
+use Rattle.engine.specs.declared.Frame.{Frame}
+use Rattle.rounds.specs.Area.{BITS, LEAKY, ZS, HS, size_of, at}
+use Rattle.rounds.specs.Table as Table
+use Rattle.rounds.specs.Mail.{letter}
+use Rattle.rounds.specs.Flaand as F
+use Rattle.area.specs.Sizes.{size-hs}
+use Rattle.area.specs.Filled.{Filled, filled_none, filled-work, filled-other, filled-end, row_in, filled_put}
+use Rattle.flaand.proofs.keep_hs.Given as goal
+
+-- h of position t, from the sections of w
+abbrev pub hOf : Frame → List ℕ → (ℕ → List ℕ) → ℕ → Block
+hOf f w m t = F.h f (Table.delta f w) (at f BITS w) (at f LEAKY w) (at f ZS w) m t
+
+abbrev pub invariant-loop-t : goal.invariant-loop-t
+invariant-loop-t l = (l.t ≤ leaky l.f.l) × Filled l.f HS 16 (λ t'. bytes_of (hOf l.f l.initial.work (letter l.incoming l.mail) t')) l.t l.initial.work l.work
+
+abbrev pub decreases-loop-t : goal.decreases-loop-t
+decreases-loop-t l = leaky l.f.l - l.t

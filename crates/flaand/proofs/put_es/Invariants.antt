@@ -1,0 +1,16 @@
+-- The loop's invariant: the first t bits are written.
+use Rattle.lists.specs.Kit.{◌≡◌, refl, ap, ◌∙◌, List, ◌++◌, ℕ, ◌+◌, ◌-◌, ◌*◌, ◌≤◌, arith, length, get_or, drop, set, rules}
+use lib.ListN.{length-set}
+use Rattle.lists.specs.Over.{tab, tab-zero, tab-step, tab-end, in-chunks}
+use Rattle.algebra.specs.Group.{odd, num}
+use Rattle.flaand.proofs.put_es.Given as goal
+
+-- bit t
+abbrev pub bit : List ℕ → ℕ → ℕ
+bit m t = num (odd (get_or m (8 + t * 17) 0))
+
+abbrev pub invariant-loop-t : goal.invariant-loop-t
+invariant-loop-t l = (l.t ≤ length l.initial.row) × (length l.row ≡ length l.initial.row) × (l.row ≡ tab l.t (bit l.m) ++ drop l.t l.initial.row)
+
+abbrev pub decreases-loop-t : goal.decreases-loop-t
+decreases-loop-t l = length l.initial.row - l.t

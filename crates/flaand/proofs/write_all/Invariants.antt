@@ -1,0 +1,13 @@
+-- The loop's invariant: the messages to the first q parties but i are written.
+use Rattle.lists.specs.Kit.{◌≡◌, refl, ap, List, ℕ, ◌+◌, ◌-◌, ◌*◌, ◌≤◌, arith, length, rules}
+use Rattle.plan.specs.Plan.{leaky}
+use Rattle.engine.specs.Area.{nth-below}
+use Rattle.rounds.specs.Loops.{lent-part, Sent, sent-none, sent-in, sent_back, sent-end}
+use Rattle.rounds.specs.Flaand.{flaand_msg}
+use Rattle.flaand.proofs.write_all.Given as goal
+
+abbrev pub invariant-loop-q : goal.invariant-loop-q
+invariant-loop-q l = (l.q ≤ l.n - 1) × Sent l.n l.i (8 + leaky l.f.l * 17) (flaand_msg l.f l.recs l.rows l.zs) l.q l.initial.out l.out
+
+abbrev pub decreases-loop-q : goal.decreases-loop-q
+decreases-loop-q l = l.n - 1 - l.q

@@ -1,0 +1,20 @@
+-- The loop's invariant: the sum has the first k parties.
+use Rattle.lists.specs.Kit.{◌≡◌, ap, ◌∙◌, List, ℕ, ◌-◌, ◌≤◌, arith, rules}
+use Rattle.algebra.specs.Sum.{others}
+use Rattle.block.specs.declared.Block.{Block}
+use Rattle.block.specs.Group.{blocks}
+use Rattle.rounds.specs.declared.Mail.{Mail}
+use Rattle.rounds.specs.Mail.{letter}
+use Rattle.rounds.specs.Loops.{others-none, others-turn}
+use Rattle.rounds.specs.Flaand.{h_told}
+use Rattle.flaand_hash.proofs.h_sum.Given as goal
+
+-- h of party k
+abbrev pub told : List ℕ → Mail → ℕ → ℕ → Block
+told incoming mail t k = h_told (letter incoming mail) k t
+
+abbrev pub invariant-loop-k : goal.invariant-loop-k
+invariant-loop-k l = (l.k ≤ l.n) × (l.sum ≡ others blocks l.f.i l.k (told l.incoming l.mail l.t))
+
+abbrev pub decreases-loop-k : goal.decreases-loop-k
+decreases-loop-k l = l.n - l.k

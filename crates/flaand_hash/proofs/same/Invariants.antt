@@ -1,0 +1,14 @@
+-- The loop's invariant: ok says whether the bytes before `at` are the same.
+use Rattle.lists.specs.Kit.{◌≡◌, refl, ap₂, ◌∙◌, ◌-◌, ◌≤◌, arith, length, take, rules}
+use Prim.Native.Nat.{◌%◌}
+use lib.Seq.{take_all}
+use Rattle.lists.specs.Same.{same?}
+use Rattle.block.specs.Block.{eq_block}
+use Rattle.flaand_hash.specs.Laws.{same_more}
+use Rattle.flaand_hash.proofs.same.Given as goal
+
+abbrev pub invariant-loop-at : goal.invariant-loop-at
+invariant-loop-at l = (l.at ≤ length l.a) × (l.at % 16 ≡ 0) × (l.ok ≡ same? (take l.at l.a) (take l.at l.b))
+
+abbrev pub decreases-loop-at : goal.decreases-loop-at
+decreases-loop-at l = length l.a - l.at

@@ -1,0 +1,20 @@
+-- The loop's invariant: the parts of the first p positions are written.
+use Rattle.lists.specs.Kit.{◌≡◌, refl, ap, ◌∙◌, List, ℕ, ◌+◌, ◌-◌, ◌*◌, ◌<◌, ◌≤◌, arith, length, rules}
+use Rattle.lists.specs.Over.{Written}
+use Rattle.lists.specs.Rows.{even-zero, even-in, even-put, even-end}
+use Rattle.block.specs.Block.{bytes_of}
+use Rattle.block.specs.Trip.{length-bytes_of}
+use Rattle.share.specs.Record.{record_len}
+use Rattle.plan.specs.Plan.{leaky}
+use Rattle.engine.specs.Area.{to_others, length-to_others}
+use Rattle.rounds.specs.Loops.{lent-part}
+use Rattle.area.specs.Positions.{position-most, x-in}
+use Rattle.haand_hash.specs.Window.{part_of}
+use Rattle.haand_hash.proofs.gather.Given as goal
+
+abbrev pub invariant-loop-p : goal.invariant-loop-p
+invariant-loop-p l = (l.p ≤ l.m) × Written (λ p'. to_others l.f.n l.f.i (λ k. bytes_of (part_of l.keys l.recs ((l.t + p') * record_len l.f.n) k))) l.p
+    (l.p * ((l.f.n - 1) * 16)) l.initial.out l.out
+
+abbrev pub decreases-loop-p : goal.decreases-loop-p
+decreases-loop-p l = l.m - l.p
