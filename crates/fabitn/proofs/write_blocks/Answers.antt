@@ -12,10 +12,10 @@ loop-j-init c = (search rules, written-zero _ _)
 
 pub loop-j-preserved : goal.loop-j-preserved
 loop-j-preserved c =
-    (
+    let j = c.loop-j.j in (
       omega arith,
-      even-put (λ c.loop-j.j. bytes_of (pair_at c.args.words.now (c.args.base + c.loop-j.j))) STRINGS 16 c.args.out.now c.requires.out_len c.loop-j.j
-          (c.loop-j.j * 16 + 16) c.loop-j.out c.store.new.out
+      even-put (λ j. bytes_of (pair_at c.args.words.now (c.args.base + j))) STRINGS 16 c.args.out.now c.requires.out_len j
+          (j * 16 + 16) c.loop-j.out c.store.new.out
           (omega arith) c.loop-j.invariant.1 (length-bytes_of _) c.store.ensures refl,
     )
 

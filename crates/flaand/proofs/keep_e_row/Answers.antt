@@ -29,6 +29,6 @@ pub returns : goal.returns
 unfolding e_told
 returns c =
     let n = length c.args.row.now in
-    c.put_es.ensures ∙ ap (λ (m : List ℕ). tab n (λ c. num (odd (get_or m (8 + c * 17) 0)))) c.letter-m.ensures
-    ∙ sym (row_other c.args.f.i n (λ k. tab n (λ c. num (e_told (letter c.args.incoming.now c.args.mail) k c))) c.args.k
+    c.put_es.ensures ∙ ap (λ (m : List ℕ). tab n (λ t'. num (odd (get_or m (8 + t' * 17) 0)))) c.letter-m.ensures
+    ∙ sym (row_other c.args.f.i n (λ k. tab n (λ t'. num (e_told (letter c.args.incoming.now c.args.mail) k t'))) c.args.k
     c.if-i-k.false)

@@ -14,7 +14,7 @@ loop-k-init c = (omega arith, c.zero-sum.ensures ∙ others-none blocks _ _)
 
 pub z_term-requires : goal.z_term-requires
 z_term-requires c =
-    ((c.requires.n_bound.0, (c.loop-k-test.true, c.requires.n_bound.1)), c.requires.n_in_bounds)
+    record { n_bound = (c.requires.n_bound.0, (c.loop-k-test.true, c.requires.n_bound.1)); n_in_bounds = c.requires.n_in_bounds; arrived = c.requires.arrived }
 
 pub loop-k-preserved : goal.loop-k-preserved
 loop-k-preserved c = (

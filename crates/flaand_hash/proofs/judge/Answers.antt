@@ -17,12 +17,12 @@ open-e-requires c =
 
 -- what was opened
 
-opened : (c : After-open-e) → Finds c.«open».result.code c.«open».result.party (opening (c.args.f) (at (c.args.f) H_COMMS c.args.work.now) (letter c.args.incoming.now c.args.mail))
-opened c = rw (← c.section-comms.ensures) c.«open».ensures
+opened : (c : After-open-e) → Finds c.open-e.result.code c.open-e.result.party (opening (c.args.f) (at (c.args.f) H_COMMS c.args.work.now) (letter c.args.incoming.now c.args.mail))
+opened c = rw (← c.section-comms.ensures) c.open-e.ensures
 
 pub returns-then-e-ne0 : goal.returns-then-e-ne0
 returns-then-e-ne0 c =
-    faults-open (c.args.f) (at (c.args.f) HS c.args.work.now) (at (c.args.f) H_COMMS c.args.work.now) (letter c.args.incoming.now c.args.mail) c.«open».result.code c.«open».result.party (opened (goal.at.returns-then-e-ne0 c).After-open-e)
+    faults-open (c.args.f) (at (c.args.f) HS c.args.work.now) (at (c.args.f) H_COMMS c.args.work.now) (letter c.args.incoming.now c.args.mail) c.open-e.result.code c.open-e.result.party (opened (goal.at.returns-then-e-ne0 c).After-open-e)
     c.if-e-ne0.true
 
 pub zero_sum-requires : goal.zero_sum-requires
@@ -39,8 +39,8 @@ zero_sum-requires c =
 summed-is : (c : After-zero_sum) → (x : ℕ) → x ≡ pick c.zero_sum.result 0 10
     → Finds x (c.args.f).i (h_faults (c.args.f) (at (c.args.f) HS c.args.work.now) (at (c.args.f) H_COMMS c.args.work.now) (letter c.args.incoming.now c.args.mail))
 summed-is c x e =
-    let opened-here : Finds c.«open».result.code c.«open».result.party (opening (c.args.f) (at (c.args.f) H_COMMS c.args.work.now) (letter c.args.incoming.now c.args.mail)) = rw (← c.section-comms.ensures) c.«open».ensures in
-    faults-sum (c.args.f) (at (c.args.f) HS c.args.work.now) (at (c.args.f) H_COMMS c.args.work.now) (letter c.args.incoming.now c.args.mail) c.«open».result.code c.«open».result.party (opened-here) x
+    let opened-here : Finds c.open-e.result.code c.open-e.result.party (opening (c.args.f) (at (c.args.f) H_COMMS c.args.work.now) (letter c.args.incoming.now c.args.mail)) = rw (← c.section-comms.ensures) c.open-e.ensures in
+    faults-sum (c.args.f) (at (c.args.f) HS c.args.work.now) (at (c.args.f) H_COMMS c.args.work.now) (letter c.args.incoming.now c.args.mail) c.open-e.result.code c.open-e.result.party (opened-here) x
     c.if-e-ne0.false
     (e ∙ ap (λ (b : Bool). pick {A = ℕ} b 0 10)
     (c.zero_sum.ensures ∙ ap (λ (x : List ℕ). summed (c.args.f) x (letter c.args.incoming.now c.args.mail)) c.section-hs.ensures))

@@ -32,7 +32,7 @@ gather-requires c =
 long : (c : After-gather) → length (c.gather.new.out ++ drop (bytes_in c.args.f.n c.args.m 16) (replicate 1024 0)) ≡ 1024
 long c =
     let room-here : (bytes_in c.args.f.n c.args.m 16) ≤ 1024 = omega (arith, c.requires.1) in
-    filled-length c.args.f c.args.m (part c) (replicate 1024 0) c.gather.new.out
+    filled-length c.args.f c.args.m (λ p k. part_of true c.args.recs.now ((c.args.t + p) * record_len c.args.f.n) k) (replicate 1024 0) c.gather.new.out
     c.gather.ensures
     (room-here)
 
@@ -51,7 +51,7 @@ add-requires c =
 whole : (c : After-add) → length (put 512 512 c.add.new.out (c.gather.new.out ++ drop (bytes_in c.args.f.n c.args.m 16) (replicate 1024 0))) ≡ 1024
 whole c =
     let long-here : length (c.gather.new.out ++ drop (bytes_in c.args.f.n c.args.m 16) (replicate 1024 0)) ≡ 1024 = let room-here : (bytes_in c.args.f.n c.args.m 16) ≤ 1024 = omega (arith, c.requires.1) in
-    filled-length c.args.f c.args.m (part c) (replicate 1024 0) c.gather.new.out
+    filled-length c.args.f c.args.m (λ p k. part_of true c.args.recs.now ((c.args.t + p) * record_len c.args.f.n) k) (replicate 1024 0) c.gather.new.out
     c.gather.ensures
     (room-here) in
     length-put 512 512 c.add.new.out (c.gather.new.out ++ drop (bytes_in c.args.f.n c.args.m 16) (replicate 1024 0))
@@ -71,9 +71,9 @@ pub returns : goal.returns
 returns c =
     let b : (p k : ℕ) → Small (part_of true c.args.recs.now ((c.args.t + p) * record_len c.args.f.n) k) = λ p k. small-part true c.args.recs.now ((c.args.t + p) * record_len c.args.f.n) k
     (λ j. (c.shared_slice_known-1.given j).fits) in
-    let e = filled c.args.f c.args.m (part c) (replicate 1024 0) c.gather.new.out c.gather.ensures (room (goal.at.returns c).Start) in record {
-      hashed = first-hashed c.args.f c.args.m (part c) (c.gather.new.out ++ drop (bytes_in c.args.f.n c.args.m 16) (replicate 1024 0)) b e c.args.delta.0 c.add.new.out _ (small (goal.at.returns c).Start) (long (goal.at.returns c).After-gather) c.requires.1
+    let e = filled c.args.f c.args.m (λ p k. part_of true c.args.recs.now ((c.args.t + p) * record_len c.args.f.n) k) (replicate 1024 0) c.gather.new.out c.gather.ensures (room (goal.at.returns c).Start) in record {
+      hashed = first-hashed c.args.f c.args.m (λ p k. part_of true c.args.recs.now ((c.args.t + p) * record_len c.args.f.n) k) (c.gather.new.out ++ drop (bytes_in c.args.f.n c.args.m 16) (replicate 1024 0)) b e c.args.delta.0 c.add.new.out _ (small (goal.at.returns c).Start) (long (goal.at.returns c).After-gather) c.requires.1
           c.add.ensures c.hash_window.ensures;
-      hashed_2 = second-hashed c.args.f c.args.m (part c) (c.gather.new.out ++ drop (bytes_in c.args.f.n c.args.m 16) (replicate 1024 0)) b e c.args.delta.0 c.add.new.out _ (small (goal.at.returns c).Start) (long (goal.at.returns c).After-gather) c.requires.1
+      hashed_2 = second-hashed c.args.f c.args.m (λ p k. part_of true c.args.recs.now ((c.args.t + p) * record_len c.args.f.n) k) (c.gather.new.out ++ drop (bytes_in c.args.f.n c.args.m 16) (replicate 1024 0)) b e c.args.delta.0 c.add.new.out _ (small (goal.at.returns c).Start) (long (goal.at.returns c).After-gather) c.requires.1
           c.add.ensures c.hash_window.ensures;
     }

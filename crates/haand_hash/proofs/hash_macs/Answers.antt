@@ -24,7 +24,7 @@ gather-requires c =
 long : (c : After-gather) → length (c.gather.new.out ++ drop (bytes_in c.args.f.n c.args.m 16) (replicate 1024 0)) ≡ 1024
 long c =
     let room-here : (bytes_in c.args.f.n c.args.m 16) ≤ 1024 = omega (arith, c.requires.1) in
-    filled-length c.args.f c.args.m (part c) (replicate 1024 0) c.gather.new.out
+    filled-length c.args.f c.args.m (λ p k. part_of false c.args.recs.now ((c.args.t + p) * record_len c.args.f.n) k) (replicate 1024 0) c.gather.new.out
     c.gather.ensures
     (room-here)
 
@@ -36,7 +36,7 @@ hash_window-requires c = record { out_len = search rules; blocks_len = long (goa
 
 pub returns : goal.returns
 returns c =
-    window-hashed c.args.f c.args.m (part c) _ (λ p k. small-part false c.args.recs.now ((c.args.t + p) * record_len c.args.f.n) k
+    window-hashed c.args.f c.args.m (λ p k. part_of false c.args.recs.now ((c.args.t + p) * record_len c.args.f.n) k) _ (λ p k. small-part false c.args.recs.now ((c.args.t + p) * record_len c.args.f.n) k
     (λ j. (c.shared_slice_known-1.given j).fits))
-    (filled c.args.f c.args.m (part c) (replicate 1024 0) c.gather.new.out c.gather.ensures (room (goal.at.returns c).Start)) _ c.requires.1
+    (filled c.args.f c.args.m (λ p k. part_of false c.args.recs.now ((c.args.t + p) * record_len c.args.f.n) k) (replicate 1024 0) c.gather.new.out c.gather.ensures (room (goal.at.returns c).Start)) _ c.requires.1
     c.hash_window.ensures

@@ -10,13 +10,13 @@ use Rattle.haand_hash.proofs.put_parts.Goals.{In-loop-q}
 
 pub loop-q-init : goal.loop-q-init
 loop-q-init c =
-    (omega arith, sent-none c.args.f.n c.args.f.i 16 (part c) c.args.out.now)
+    (omega arith, sent-none c.args.f.n c.args.f.i 16 (λ k. bytes_of (part_of c.args.keys c.args.recs.now c.args.at k)) c.args.out.now)
 
 -- ---- in a turn
 
 part_in : (c : In-loop-q) → (c.loop-q.q) * 16 + 16 ≤ length c.loop-q.out
 part_in c =
-    sent-in c.args.f.n c.args.f.i 16 (part c) 16 (c.loop-q.q) c.args.out.now c.loop-q.out refl c.requires.le_n.1.1
+    sent-in c.args.f.n c.args.f.i 16 (λ k. bytes_of (part_of c.args.keys c.args.recs.now c.args.at k)) 16 (c.loop-q.q) c.args.out.now c.loop-q.out refl c.requires.le_n.1.1
     c.loop-q.invariant.1
     c.loop-q-test.true
 
@@ -35,7 +35,7 @@ store-requires c = lent-part ((c.loop-q.q) * 16) 16 16 c.loop-q.out refl (part_i
 pub loop-q-preserved : goal.loop-q-preserved
 loop-q-preserved c = (
   omega (arith, c.loop-q-test.true),
-  sent-turn c.args.f.n c.args.f.i 16 (part c) 16 (c.loop-q.q) c.args.out.now c.loop-q.out refl c.requires.le_n.1.1
+  sent-turn c.args.f.n c.args.f.i 16 (λ k. bytes_of (part_of c.args.keys c.args.recs.now c.args.at k)) 16 (c.loop-q.q) c.args.out.now c.loop-q.out refl c.requires.le_n.1.1
       c.loop-q.invariant.1
       (λ k h. length-bytes_of (part_of c.args.keys c.args.recs.now c.args.at k)) c.other-k.result c.store.new.out c.loop-q-test.true
       c.other-k.ensures
@@ -47,4 +47,4 @@ shape_of-out c = c.loop-q.invariant.1.same
 
 pub returns : goal.returns
 returns c =
-    sent-end c.args.f.n c.args.f.i 16 (part c) 16 c.loop-q.q c.args.out.now c.loop-q.out refl c.requires.le_n.1.1 c.loop-q.invariant.1 (omega arith)
+    sent-end c.args.f.n c.args.f.i 16 (λ k. bytes_of (part_of c.args.keys c.args.recs.now c.args.at k)) 16 c.loop-q.q c.args.out.now c.loop-q.out refl c.requires.le_n.1.1 c.loop-q.invariant.1 (omega arith)

@@ -1,0 +1,6 @@
+-- `admit::alive` meets its contract.
+use Rattle.lists.specs.Kit.{ap₂, ◌&&◌, rules}
+use Rattle.admit.proofs.alive.Goals as goal
+
+pub returns : goal.returns
+returns c = ap₂ ◌&&◌ (ap₂ ◌&&◌ c.fine.ensures c.are_whole.ensures) c.is_round.ensures

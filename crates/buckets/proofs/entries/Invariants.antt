@@ -1,0 +1,13 @@
+-- The loop's invariant: the first e entries are written.
+use Rattle.lists.specs.Kit.{◌≡◌, ap, ◌∙◌, List, ◌++◌, ℕ, ◌-◌, ◌<◌, ◌≤◌, arith, drop, replicate, rules}
+use Rattle.lists.specs.Over.{tab, tab-zero, tab-turn, drop-replicate}
+use Rattle.plan.specs.Plan.{bucket_size}
+use Rattle.plan.specs.PlanLaws.{bucket-high}
+use Rattle.rounds.specs.Buckets.{entry}
+use Rattle.buckets.proofs.entries.Given as goal
+
+abbrev pub invariant-loop-e : goal.invariant-loop-e
+invariant-loop-e l = (l.e ≤ bucket_size l.f.l) × (l.ts ≡ tab l.e (entry l.f l.perm l.j) ++ drop l.e (replicate 5 0))
+
+abbrev pub decreases-loop-e : goal.decreases-loop-e
+decreases-loop-e l = bucket_size l.f.l - l.e

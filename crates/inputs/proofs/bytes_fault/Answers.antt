@@ -1,0 +1,28 @@
+use Rattle.lists.specs.Kit.{refl, ap, ◌*◌, arith, rules}
+use Rattle.share.specs.Lent.{lent_len}
+use Rattle.inputs.specs.Given.{bytes_of}
+use Rattle.inputs.proofs.bytes_fault.Goals as goal
+
+pub check_records-b-requires : goal.check_records-b-requires
+check_records-b-requires c =
+    record { n_bound = (c.requires.0.range.eight, c.requires.0.own); n_in_bounds = omega (arith, c.requires.1.bits, ap (λ k. k * lent_len c.args.f.n) c.bits_count.ensures) }
+
+pub check_records-x-requires : goal.check_records-x-requires
+check_records-x-requires c = search rules
+
+pub check_records-y-requires : goal.check_records-y-requires
+check_records-y-requires c = search rules
+
+pub returns : goal.returns
+unfolding bytes_of
+returns c = rw (
+  c.first-3.ensures,
+  c.first-2.ensures,
+  c.first.ensures,
+  c.unless-m.ensures,
+  c.masks_good.ensures,
+  c.check_records-y.ensures,
+  c.check_records-x.ensures,
+  c.check_records-b.ensures,
+  c.bits_count.ensures,
+) refl

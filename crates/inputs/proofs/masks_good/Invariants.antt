@@ -1,0 +1,15 @@
+use Rattle.lists.specs.Kit.{◌≡◌, sym, ap, ◌∙◌, ◌+◌, ◌-◌, ◌*◌, ◌≤◌, arith, length, rules}
+use mathlib.Core.Logic.{⊎_elim}
+use Rattle.lists.specs.All.{all_of, all-zero}
+use Rattle.lists.specs.Over.{in-chunks}
+use Rattle.engine.specs.Step.{frame}
+use Rattle.area.specs.Sizes.{size-masks}
+use Rattle.inputs.specs.Given.{row?, masks?}
+use Rattle.inputs.specs.OpeningLaws.{row_other, row-own}
+use Rattle.inputs.proofs.masks_good.Given as goal
+
+abbrev pub invariant-loop-k : goal.invariant-loop-k
+invariant-loop-k l = (l.k ≤ l.n) × (l.good ≡ all_of l.k (row? (frame l.n l.l l.i) l.masks))
+
+abbrev pub decreases-loop-k : goal.decreases-loop-k
+decreases-loop-k l = l.n - l.k
