@@ -2,9 +2,10 @@
 // session keeps them, and what is answered of them. Nothing here is secret; every count is taken as it comes, and no sum wraps.
 #![tactic(auto)]
 
+ghost use Rattle.batches.specs.Batches as Batches;
 ghost use Rattle.std.specs.Prelude.{◌≡◌, ◌<◌, ◌≤◌, length, eqb};
 ghost use Rattle.lists.specs.Pick.{pick};
-ghost use Rattle.batches.specs.Batches.{MOST, total, sum_of, filled, counts_fault, tally, joined, whole, told};
+ghost use Rattle.batches.specs.Batches.{total, sum_of, filled, counts_fault, tally, joined, whole, told};
 
 // Batches of a session at the most.
 pub const MOST: usize = 16;
@@ -73,7 +74,7 @@ pub fn fault(counts: &[u32]) -> u8
 
 // The counts as a session keeps them.
 pub fn kept(counts: &[u32]) -> Counts
-    requires { length counts.now ≤ MOST }
+    requires { length counts.now ≤ Batches.MOST }
     ensures { result ≡ tally counts.now }
 {
     let m = counts.len();

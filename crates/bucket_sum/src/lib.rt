@@ -3,11 +3,12 @@
 // (triples) take it. Each bit, MAC and key of x and z is written once. Bits, MACs and keys decide no branch and no index; d is a mask.
 #![tactic(auto)]
 
+ghost use Rattle.share.specs.Layout as Layout;
 ghost use Rattle.std.specs.Prelude.{◌≡◌, ◌++◌, ℕ, ◌+◌, ◌*◌, ◌<◌, ◌≤◌, length, get_or};
 ghost use Rattle.algebra.specs.Group.{bits, odd};
 ghost use Rattle.algebra.specs.Bucket.{bucketX, bucketZ};
 ghost use Rattle.block.specs.Block.{bytes_of};
-ghost use Rattle.share.specs.Layout.{ENTRY, mac_off};
+ghost use Rattle.share.specs.Layout.{mac_off};
 ghost use Rattle.share.specs.Share.{shares};
 ghost use Rattle.bucket_sum.specs.Sums.{x_among, z_among, BucketIn, Within, Summed};
 ghost use Rattle.bucket_sum.specs.Row.{put_entries, put_heads};
@@ -107,7 +108,7 @@ pub fn sum_bits(
 
 // Writes party k's entries of x and z.
 pub fn put_entries(row: &mut [u8], z: usize, k: usize, s: Sums)
-    requires { (k < 8) × (mac_off k + ENTRY ≤ z) × (z + (mac_off k + ENTRY) ≤ length row.old) }
+    requires { (k < 8) × (mac_off k + Layout.ENTRY ≤ z) × (z + (mac_off k + Layout.ENTRY) ≤ length row.old) }
     ensures { row.new ≡ put_entries z k (bytes_of s.x.mac.0 ++ bytes_of s.x.key.0)
         (bytes_of s.z.mac.0 ++ bytes_of s.z.key.0) row.old }
 {

@@ -2,13 +2,14 @@
 // read where they lie, and each bit, MAC and key is written once. Bits, MACs and keys decide no branch and no index.
 #![tactic(auto)]
 
+ghost use Rattle.share.specs.Lent as Lent;
 ghost use Rattle.std.specs.Prelude.{◌≡◌, ◌+◌, ◌*◌, ◌<◌, ◌≤◌, length, get_or, drop, leb};
 ghost use Rattle.lists.specs.All.{all_of};
 ghost use Rattle.lists.specs.Pick.{pick};
 ghost use Rattle.algebra.specs.Group.{odd};
 ghost use Rattle.algebra.specs.Bucket.{bucketX, bucketZ};
 ghost use Rattle.share.specs.Share.{shares};
-ghost use Rattle.share.specs.Lent.{LABEL, lent_len, lent_of};
+ghost use Rattle.share.specs.Lent.{lent_len, lent_of};
 ghost use Rattle.bucket_sum.specs.Sums.{BucketIn, Entries};
 ghost use Rattle.engine.specs.Step.{reply_of};
 ghost use Rattle.rounds.specs.Buckets as B;
@@ -39,7 +40,7 @@ fn put_y(out: &mut [u8], triples: &[u8], t: usize, n: usize, i: usize)
 
 // What stands for party k in party i's records of the combined x and z.
 fn party(triples: &[u8], ts: &[usize], d: &[u8], n: usize, i: usize, k: usize) -> Sums
-    requires { (BucketIn n (lent_len n) (drop LABEL triples.now) ts.now 2 d.now) × (k < n) }
+    requires { (BucketIn n (lent_len n) (drop Lent.LABEL triples.now) ts.now 2 d.now) × (k < n) }
     ensures { Entries i k (bucketX shares (x_lent n triples.now ts.now) (length d.now))
         (bucketZ shares (x_lent n triples.now ts.now) (z_lent n triples.now ts.now)
         (λ e. odd (get_or d.now e 0)) (length d.now)) result }

@@ -2,13 +2,14 @@
 // commitments, and all are summed. The definitions are those of crate rounds, specs/Flaand.antt. What is sent or received here is public.
 #![tactic(auto)]
 
+ghost use Rattle.blake3_lanes.specs.Lanes as Lanes;
 ghost use Rattle.std.specs.Prelude.{◌≡◌, ◌+◌, ◌-◌, ◌*◌, ◌%◌, ◌<◌, ◌≤◌, length};
 ghost use Rattle.lists.specs.Over.{cat};
 ghost use Rattle.lists.specs.Same.{same?};
 ghost use Rattle.algebra.specs.Group.{sel};
 ghost use Rattle.algebra.specs.Sum.{neq, others};
 ghost use Rattle.block.specs.Group.{blocks};
-ghost use Rattle.blake3_lanes.specs.Lanes.{LANES, hash_at};
+ghost use Rattle.blake3_lanes.specs.Lanes.{hash_at};
 ghost use Rattle.plan.specs.Plan.{FLAAND_HASH, InRange, leaky, msg_len};
 ghost use Rattle.engine.specs.Area.{to_others};
 ghost use Rattle.rounds.specs.Area.{HS, H_COMMS, at};
@@ -50,7 +51,7 @@ fn same(a: &[u8], b: &[u8]) -> bool
 
 // Whether the h in hs, a window of them, are those that comms commits to.
 fn window_opens(hs: &[u8], comms: &[u8], count: usize) -> bool
-    requires { (count ≤ LANES) × (length hs.now ≡ count * 16) × (length comms.now ≡ count * 32) }
+    requires { (count ≤ Lanes.LANES) × (length hs.now ≡ count * 16) × (length comms.now ≡ count * 32) }
     ensures { result ≡ same? (cat count (hash_at hs.now)) comms.now }
 {
     let mut hashes = [0u8; LANES * 32];

@@ -2,12 +2,13 @@
 // a host asks for, 0 where there is none. specs/Interface.antt has what the calls themselves leave; crate nuzsdike exports them.
 #![tactic(auto)]
 
+ghost use Rattle.interface.specs.Interface as Interface;
 ghost use Rattle.std.specs.Prelude.{◌≡◌, ◌<◌, ◌≤◌, length};
 ghost use Rattle.plan.specs.Plan.{within};
 ghost use Rattle.engine.specs.Step.{Refused, reply_of, frame};
 ghost use Rattle.engine.specs.Area.{off};
 ghost use Rattle.rounds.specs.Area.{size_of};
-ghost use Rattle.interface.specs.Interface.{COUNTS, SESSION, TOLD, session_at, head_of, numbers_of, packed_of, NO_PARTY, told_c, told_reason};
+ghost use Rattle.interface.specs.Interface.{TOLD, session_at, head_of, numbers_of, packed_of, told_c, told_reason};
 ghost use Rattle.interface.specs.Interface.{sum_c, due_of, round_after, message_len, name_byte, record_bytes, bucket_of, joint_at, pairwise_at};
 ghost use Rattle.interface.specs.Narrow.{Narrow, named};
 
@@ -38,7 +39,7 @@ fn put_numbers(out: &mut [u32], x: &[u32])
 
 // The session in its numbers.
 pub fn load(s: &[u32]) -> Session
-    requires { length s.now ≡ SESSION }
+    requires { length s.now ≡ Interface.SESSION }
     ensures { (result ≡ session_at s.now) × Narrow result }
 {
     let party = Frame {
@@ -56,7 +57,7 @@ pub fn load(s: &[u32]) -> Session
 
 // n, i, l and the round due.
 fn put_head(out: &mut [u32], party: Frame, due: usize)
-    requires out_len { (length out.old ≡ COUNTS) × (party.n < 0x1_0000_0000) × (party.i < 0x1_0000_0000) }
+    requires out_len { (length out.old ≡ Interface.COUNTS) × (party.n < 0x1_0000_0000) × (party.i < 0x1_0000_0000) }
     requires l_bound { (party.l < 0x1_0000_0000) × (due < 0x1_0000_0000) }
     ensures { out.new ≡ head_of party due }
 {
@@ -67,7 +68,7 @@ fn put_head(out: &mut [u32], party: Frame, due: usize)
 }
 
 pub fn store(out: &mut [u32], s: Session)
-    requires out_len { length out.old ≡ SESSION }
+    requires out_len { length out.old ≡ Interface.SESSION }
     requires narrow { Narrow s }
     ensures { out.new ≡ numbers_of s }
 {
@@ -107,14 +108,14 @@ pub fn told_reason(s: Session, k: usize) -> u8
 
 // Number and party in one.
 pub fn packed(code: u8, party: usize) -> u64
-    requires { party ≤ NO_PARTY }
+    requires { party ≤ Interface.NO_PARTY }
     ensures { result ≡ packed_of (Refused code party) }
 {
     code as u64 + 256 * party as u64
 }
 
 pub fn answer(v: Verdict) -> u64
-    requires { named (reply_of v) ≤ NO_PARTY }
+    requires { named (reply_of v) ≤ Interface.NO_PARTY }
     ensures { result ≡ packed_of (reply_of v) }
 {
     match v {

@@ -6,7 +6,7 @@ ghost use Rattle.std.specs.Prelude.{◌≡◌, true, ◌+◌, ◌-◌, ◌*◌, 
 ghost use Rattle.lists.specs.All.{all_of};
 ghost use Rattle.share.specs.Record.{own_zero};
 ghost use Rattle.share.specs.Lent as L;
-ghost use Rattle.share.specs.Lent.{LABEL, lent_len, record_fault, records_fault};
+ghost use Rattle.share.specs.Lent.{lent_len, record_fault, records_fault};
 ghost use Rattle.records.specs.Seen.{ored};
 
 use block::Block;
@@ -31,7 +31,7 @@ fn labelled(s: &[u8], at: usize, n: usize, i: usize) -> bool
 // Whether party i's own entry is zero: all of it is looked at.
 fn own_zero(s: &[u8], at: usize, i: usize) -> bool
     requires { (i < 8) × (at + lent_len (i + 1) ≤ length s.now) }
-    ensures { result ≡ own_zero i s.now (at + LABEL) }
+    ensures { result ≡ own_zero i s.now (at + L.LABEL) }
 {
     let entries = at + LABEL;
     let m = share::mac_at(s, entries, i);

@@ -2,14 +2,16 @@
 // From src/mpc/data_types.rs of polytune.
 #![tactic(auto)]
 
+ghost use Rattle.share.specs.Lent as Lent;
+ghost use Rattle.share.specs.Layout as Layout;
 ghost use Rattle.std.specs.Prelude.{◌≡◌, ◌++◌, ◌+◌, ◌*◌, ◌<◌, ◌≤◌, length, get_or, drop};
 ghost use Rattle.algebra.specs.Group.{XorGroup, sel, odd};
 ghost use Rattle.block.specs.Block.{block_at, bytes_of, eq_block};
 ghost use Rattle.block.specs.Group.{blocks};
-ghost use Rattle.share.specs.Layout.{ENTRY, head_of};
+ghost use Rattle.share.specs.Layout.{head_of};
 ghost use Rattle.share.specs.Record.{record_len, mac_off, key_off, bit_at, mac_at, key_at};
 ghost use Rattle.share.specs.Share.{share_at, shares, entry_bytes, record_of};
-ghost use Rattle.share.specs.Lent.{LABEL, lent_len, lent_head, lent_at};
+ghost use Rattle.share.specs.Lent.{lent_len, lent_head, lent_at};
 
 use block::Block;
 
@@ -186,7 +188,7 @@ pub fn bit_at(s: &[u8], at: usize) -> bool
 
 // Writes an entry: the MAC, then the key.
 pub fn put_entry(out: &mut [u8], x: Entry)
-    requires { length out.old ≡ ENTRY }
+    requires { length out.old ≡ Layout.ENTRY }
     ensures { out.new ≡ bytes_of x.mac.0 ++ bytes_of x.key.0 }
 {
     let mac = x.mac;
@@ -197,7 +199,7 @@ pub fn put_entry(out: &mut [u8], x: Entry)
 
 // Writes the entry of party `of` in a record of party i: zero where it is the own one.
 pub fn put_entry_of(out: &mut [u8], i: usize, of: usize, x: Entry)
-    requires { length out.old ≡ ENTRY }
+    requires { length out.old ≡ Layout.ENTRY }
     ensures { out.new ≡ entry_bytes i of x.mac.0 x.key.0 }
 {
     if i == of {
@@ -232,8 +234,8 @@ pub fn lent_len(n: usize) -> usize
 
 // Writes the head of party i's record among n parties: the bit, n, the own number, zeros.
 pub fn put_lent_head(out: &mut [u8], n: usize, i: usize, bit: bool)
-    requires { (1 + LABEL ≤ length out.old) × (n ≤ 8) × (i < n) }
-    ensures { out.new ≡ lent_head n i bit ++ drop (1 + LABEL) out.old }
+    requires { (1 + Lent.LABEL ≤ length out.old) × (n ≤ 8) × (i < n) }
+    ensures { out.new ≡ lent_head n i bit ++ drop (1 + Lent.LABEL) out.old }
 {
     block::store(&mut out[0..16], Block::zero());
     block::store(&mut out[16..LENT_HEAD], Block::zero());

@@ -3,12 +3,13 @@
 // decide no branch and no index here.
 #![tactic(auto)]
 
+ghost use Rattle.rounds.specs.Area as Area;
 ghost use Rattle.std.specs.Prelude.{◌≡◌, ◌+◌, ◌-◌, ◌*◌, ◌<◌, ◌≤◌, length};
 ghost use Rattle.lists.specs.Rows.{chunk};
 ghost use Rattle.blake3.specs.Tree as B;
 ghost use Rattle.plan.specs.Plan.{RNG_COMM, RNG_VER, PAIR_COMM, PAIR_VER, msg_len};
 ghost use Rattle.engine.specs.Area.{to_others};
-ghost use Rattle.rounds.specs.Area.{SEED, PAIRS, at};
+ghost use Rattle.rounds.specs.Area.{PAIRS, at};
 ghost use Rattle.rounds.specs.Toss as Toss;
 ghost use Rattle.area.specs.Given.{Work};
 
@@ -61,7 +62,7 @@ pub fn seed_for(pairs: &[u8], k: usize) -> &[u8]
 pub fn write_commitments(out: &mut [u8], work: &[u8], f: Frame)
     requires work { Work f work.now }
     requires out_len { length out.old ≡ (f.n - 1) * msg_len f.n f.l RNG_COMM }
-    ensures { out.new ≡ to_others f.n f.i (λ _. Toss.comm_msg (at f SEED work.now) f.i) }
+    ensures { out.new ≡ to_others f.n f.i (λ _. Toss.comm_msg (at f Area.SEED work.now) f.i) }
 {
     let n = f.n;
     let i = f.i;
@@ -74,7 +75,7 @@ pub fn write_commitments(out: &mut [u8], work: &[u8], f: Frame)
 pub fn write_seed(out: &mut [u8], work: &[u8], f: Frame)
     requires work { Work f work.now }
     requires out_len { length out.old ≡ (f.n - 1) * msg_len f.n f.l RNG_VER }
-    ensures { out.new ≡ to_others f.n f.i (λ _. Toss.ver_msg (at f SEED work.now)) }
+    ensures { out.new ≡ to_others f.n f.i (λ _. Toss.ver_msg (at f Area.SEED work.now)) }
 {
     let n = f.n;
     let seed = area::section(work, f, area::SEED);

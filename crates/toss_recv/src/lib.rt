@@ -3,10 +3,11 @@
 // index.
 #![tactic(auto)]
 
+ghost use Rattle.rounds.specs.Area as Area;
 ghost use Rattle.std.specs.Prelude.{◌≡◌, ◌+◌, ◌-◌, ◌*◌, ◌<◌, ◌≤◌, length};
 ghost use Rattle.lists.specs.Rows.{chunk};
 ghost use Rattle.block.specs.Block.{xor_inplace};
-ghost use Rattle.rounds.specs.Area.{SEED, PAIRS, JOINT, PAIRWISE, at, keep};
+ghost use Rattle.rounds.specs.Area.{PAIRS, JOINT, PAIRWISE, at, keep};
 ghost use Rattle.rounds.specs.Mail.{letter, Arrived};
 ghost use Rattle.rounds.specs.FaultLaws.{Finds, fault_at};
 ghost use Rattle.rounds.specs.Loops.{row_of};
@@ -150,7 +151,7 @@ pub fn judge(work: &[u8], s: usize, incoming: &[u8], mail: Mail, f: Frame) -> Fa
 pub fn keep_joint(work: &mut [u8], incoming: &[u8], mail: Mail, f: Frame)
     requires work { Work f work.old }
     requires arrived { Arrived f 40 incoming.now mail }
-    ensures { work.new ≡ keep f JOINT (Toss.joint_seed f (at f SEED work.old)
+    ensures { work.new ≡ keep f JOINT (Toss.joint_seed f (at f Area.SEED work.old)
         (letter incoming.now mail)) work.old }
 {
     let seed = joint_seed(area::section(work, f, area::SEED), incoming, mail, f);

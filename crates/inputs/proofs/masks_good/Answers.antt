@@ -1,5 +1,4 @@
 use Rattle.lists.specs.Kit.{◌≡◌, sym, ap, ◌∙◌, ◌+◌, ◌-◌, ◌*◌, ◌≤◌, arith, length, rules}
-use mathlib.Core.Logic.{⊎_elim}
 use Rattle.lists.specs.All.{all_of, all-zero}
 use Rattle.lists.specs.Over.{in-chunks}
 use Rattle.engine.specs.Step.{frame}
@@ -7,7 +6,7 @@ use Rattle.area.specs.Sizes.{size-masks}
 use Rattle.inputs.specs.Given.{row?, masks?}
 use Rattle.inputs.specs.OpeningLaws.{row_other, row-own}
 use Rattle.inputs.proofs.masks_good.Goals as goal
-use Rattle.inputs.proofs.masks_good.Goals.{Then-i-k}
+use Rattle.inputs.proofs.masks_good.Goals.{then-i-k, else-i-k, Then-i-k}
 
 pub loop-k-init : goal.loop-k-init
 loop-k-init c = (search rules, sym (all-zero _))
@@ -32,10 +31,10 @@ pub loop-k-preserved : goal.loop-k-preserved
 loop-k-preserved c =
     let masks = c.args.masks.now in (
       search rules,
-      ⊎_elim
-          (λ w. w.2 ∙ row_other c.args.f masks c.loop-k.k c.loop-k.good c.loop-k.invariant.1 c.leaky-count.result _ w.0.taken c.leaky-count.ensures w.1.ensures)
-          (λ w. w.1 ∙ row-own c.args.f masks c.loop-k.k c.loop-k.good c.loop-k.invariant.1 w.0.left)
-          c.if-i-k.branch,
+      elim c.if-i-k.branch [
+        then-i-k w ↦ w.good-is ∙ row_other c.args.f masks c.loop-k.k c.loop-k.good c.loop-k.invariant.1 c.leaky-count.result _ w.if-i-k.true c.leaky-count.ensures w.row_good-good.ensures
+        | else-i-k w ↦ w.good-is ∙ row-own c.args.f masks c.loop-k.k c.loop-k.good c.loop-k.invariant.1 w.if-i-k.false
+      ],
     )
 
 pub returns : goal.returns

@@ -12,7 +12,7 @@ returns c =
     let g : ℕ → List ℕ = λ t. d in
     comm-put c.args.seed.now d _ c.args.j
     (stretch-end 1 g 1 40 o _
-    (stretch-turn 1 g 0 8 40 40 o _ c.store.new.1.0
+    (stretch-turn 1 g 0 8 40 40 o _ c.store.new.out
     (stretch-count 1 g o c.put_count.new.out (omega arith) c.put_count.ensures)
     c.store.ensures (ap (λ k'. 8 + k') (length-bytes c.commitment.result.0)) (omega arith) refl)
     refl (omega arith))
