@@ -1,0 +1,15 @@
+-- The loop's invariant: the bits of the first k parties but i are added.
+use Rattle.lists.specs.Kit.{◌≡◌, ap, ◌∙◌, ◌+◌, ◌-◌, ◌*◌, ◌≤◌, arith, get_or, rules}
+use Rattle.algebra.specs.Group.{bits, sel, odd}
+use Rattle.algebra.specs.Sum.{neq, others}
+use Rattle.plan.specs.Plan.{dm_len}
+use Rattle.rounds.specs.Fashare.{STRINGS}
+use Rattle.rounds.specs.Loops.{others-none, others-turn}
+use Rattle.fashare_dibi.specs.Laws.{xor-sel, dm-in, others1-is}
+use Rattle.fashare_dibi.proofs.others_bit.Given as goal
+
+abbrev pub invariant-loop-k : goal.invariant-loop-k
+invariant-loop-k l = (l.k ≤ l.n) × (l.sum ≡ others bits l.i l.k (λ j. odd (get_or l.dms ((j * STRINGS + l.q) * dm_len l.n) 0)))
+
+abbrev pub decreases-loop-k : goal.decreases-loop-k
+decreases-loop-k l = l.n - l.k

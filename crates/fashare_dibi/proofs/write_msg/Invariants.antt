@@ -1,0 +1,21 @@
+-- The loop's invariant: the count and the first q Blocks are written.
+use Rattle.lists.specs.Kit.{◌≡◌, refl, sym, ap, ◌∙◌, List, ℕ, ◌+◌, ◌-◌, ◌*◌, ◌≤◌, arith, length, rules}
+use Rattle.algebra.specs.Group.{sel}
+use Rattle.block.specs.declared.Block.{Block}
+use Rattle.block.specs.Block.{bytes_of}
+use Rattle.block.specs.Group.{blocks}
+use Rattle.block.specs.Trip.{length-bytes_of}
+use Rattle.encode.specs.Stretch.{Stretch, stretch-count, stretch-self, even-turn, even-end}
+use Rattle.engine.specs.declared.Frame.{Frame}
+use Rattle.rounds.specs.Fashare as Fashare
+use Rattle.rounds.specs.Fashare.{STRINGS, DIBI_MSG}
+use Rattle.fashare_dibi.proofs.write_msg.Given as goal
+
+abbrev pub item : Frame → Block → List ℕ → List ℕ → ℕ → List ℕ
+item f delta recs dms q = bytes_of (blocks.op (Fashare.d0 f recs q) (sel blocks (Fashare.others1 f dms q) delta))
+
+abbrev pub invariant-loop-q : goal.invariant-loop-q
+invariant-loop-q l = (l.q ≤ STRINGS) × (length l.initial.out ≡ DIBI_MSG) × Stretch STRINGS (item l.f l.delta.0 l.recs l.dms) l.q (8 + l.q * 16) l.initial.out l.out
+
+abbrev pub decreases-loop-q : goal.decreases-loop-q
+decreases-loop-q l = STRINGS - l.q

@@ -1,0 +1,12 @@
+use Rattle.lists.specs.Kit.{◌≡◌, refl, ap, ◌∙◌, ◌++◌, ◌-◌, ◌≤◌, arith, length, get_or, take, drop, rules}
+use lib.ListN.{length-set}
+use lib.Seq.{take-length}
+use Rattle.lists.specs.Over.{copy-turn, over-full}
+use Rattle.interface.proofs.put_numbers.Given as goal
+
+-- the first j numbers are in place
+abbrev pub invariant-loop-j : goal.invariant-loop-j
+invariant-loop-j l = (l.j ≤ length l.initial.out) × (length l.out ≡ length l.initial.out) × (l.out ≡ take l.j l.x ++ drop l.j l.initial.out)
+
+abbrev pub decreases-loop-j : goal.decreases-loop-j
+decreases-loop-j l = length l.initial.out - l.j

@@ -1,0 +1,16 @@
+use Rattle.lists.specs.Kit.{◌≡◌, refl, ap, ◌∙◌, List, ℕ, ◌-◌, arith, length, rules}
+use borrow.Rule.Slice.PartMut.{put_mid}
+use Rattle.lists.specs.Over.{two-parts}
+use Rattle.lists.specs.Sect.{length-put}
+use Rattle.interface.specs.Interface.{COUNTS, head_of, numbers_of}
+use Rattle.interface.proofs.store.Goals as goal
+
+pub returns : goal.returns
+unfolding numbers_of head_of
+returns c =
+    let o = c.args.out.now in
+    let head = head_of c.args.s.party c.args.s.due in
+    let w : List ℕ = put_mid 0 COUNTS o c.put_head.new.out in
+    let long : length w ≡ 20 = length-put 0 COUNTS c.put_head.new.out o (ap length c.put_head.ensures) (omega (arith, c.requires.out_len)) ∙ c.requires.out_len in
+    ap (λ m. put_mid COUNTS m w c.put_numbers.new.out) (let e : length w - COUNTS ≡ 16 = omega (arith, long) in e)
+    ∙ two-parts COUNTS 16 head c.args.s.counts c.put_head.new.out c.put_numbers.new.out o c.requires.out_len refl c.put_head.ensures c.put_numbers.ensures

@@ -1,0 +1,18 @@
+use Rattle.lists.specs.Kit.{◌≡◌, sym, ap, ◌∙◌, List, ℕ, ◌+◌, ◌-◌, ◌*◌, ◌≤◌, arith, length, rules}
+use Rattle.lists.specs.Over.{Written, in-chunks}
+use Rattle.lists.specs.Rows.{even-zero, even-turn, even-end}
+use Rattle.share.specs.Record.{record_len}
+use Rattle.share.specs.Share.{record_of}
+use Rattle.share.specs.Lent.{lent_len, lent_at, kept_of}
+use Rattle.rounds.specs.Loops.{lent-part}
+use Rattle.opening.proofs.keep_all.Given as goal
+
+-- what is kept of record t
+abbrev pub row : List ℕ → ℕ → ℕ → ℕ → List ℕ
+row x n i t = record_of n i (lent_at x (t * lent_len n))
+
+abbrev pub invariant-loop-t : goal.invariant-loop-t
+invariant-loop-t l = (l.t ≤ l.count) × Written (row l.x l.n l.i) l.t (l.t * l.kept) l.initial.out l.out
+
+abbrev pub decreases-loop-t : goal.decreases-loop-t
+decreases-loop-t l = l.count - l.t

@@ -1,0 +1,28 @@
+-- The loop's invariant: the first k rows are kept. The own seeds, which each row is made from, are as they were.
+use Rattle.lists.specs.Kit.{◌≡◌, refl, sym, ap, ◌∙◌, List, ℕ, ◌+◌, ◌-◌, ◌*◌, ◌≤◌, arith, length, rules}
+use Rattle.lists.specs.Rows.{chunk}
+use Rattle.lists.specs.Sect.{get}
+use Rattle.fill.specs.Copied.{copied}
+use Rattle.block.specs.Block.{xor_inplace}
+use Rattle.engine.specs.declared.Frame.{Frame}
+use Rattle.rounds.specs.Area.{PAIRS, PAIRWISE, sizes, size_of, at, keep}
+use Rattle.rounds.specs.Mail.{letter}
+use Rattle.rounds.specs.Loops.{row_of, rows_of}
+use Rattle.rounds.specs.Toss.{told, pairwise_seeds}
+use Rattle.area.specs.GivenLaws.{lent_length}
+use Rattle.area.specs.Sizes.{size-pairs}
+use Rattle.area.specs.Filled.{Filled, filled_none, filled-work, filled-other, filled-end, row_in, filled_put}
+use Rattle.toss_recv.proofs.keep_pairwise.Given as goal
+
+-- the seed with party k, and its row
+abbrev pub seedOf : List ℕ → (ℕ → List ℕ) → ℕ → List ℕ
+seedOf pairs m k = xor_inplace (chunk 32 k pairs) (told (m k))
+
+abbrev pub row : Frame → List ℕ → (ℕ → List ℕ) → ℕ → List ℕ
+row f work m = row_of f.i 32 (seedOf (at f PAIRS work) m)
+
+abbrev pub invariant-loop-k : goal.invariant-loop-k
+invariant-loop-k l = (l.k ≤ l.n) × Filled l.f PAIRWISE 32 (row l.f l.initial.work (letter l.incoming l.mail)) l.k l.initial.work l.work
+
+abbrev pub decreases-loop-k : goal.decreases-loop-k
+decreases-loop-k l = l.n - l.k

@@ -1,0 +1,14 @@
+use Rattle.lists.specs.Kit.{◌≡◌, sym, ◌∙◌, ◌-◌, ◌≤◌, arith, rules}
+use Rattle.engine.specs.Step.{scan}
+use Rattle.engine.specs.StepLaws.{scan-turn}
+use Rattle.rounds.specs.Mail.{letter}
+use Rattle.rounds.specs.FaultLaws.{fault_at, clean-zero, finds-first, finds-none}
+use Rattle.rounds.specs.Toss.{opening}
+use Rattle.rounds.specs.TossLaws.{open_fault}
+use Rattle.toss_recv.proofs.open.Given as goal
+
+abbrev pub invariant-loop-k : goal.invariant-loop-k
+invariant-loop-k l = (l.k ≤ l.n) × ((scan l.k (fault_at l.f.i (open_fault l.comms (letter l.incoming l.mail)))).code ≡ 0)
+
+abbrev pub decreases-loop-k : goal.decreases-loop-k
+decreases-loop-k l = l.n - l.k
