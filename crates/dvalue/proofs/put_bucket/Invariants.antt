@@ -1,0 +1,23 @@
+use Rattle.lists.specs.Kit.{◌≡◌, ap, ap₂, subst, ◌∙◌, List, Bool, ℕ, ◌+◌, ◌-◌, ◌<◌, ◌≤◌, arith, length, rules}
+use Rattle.block.specs.declared.Block.{Block}
+use Rattle.share.specs.Layout.{record_len, record-some, record-within}
+use Rattle.share.specs.Share.{Share}
+use Rattle.encode.specs.Encode.{dvalue_item}
+use Rattle.encode.specs.Bucket.{dvalue_in, Filled, filled-start, filled-turn, filled-end}
+use Rattle.engine.specs.declared.Frame.{Frame}
+use Rattle.rounds.specs.Buckets as B
+use Rattle.buckets.specs.Entries.{first-in, later-in, later-most, y-within, d-read}
+use Rattle.dvalue.proofs.put_bucket.Given as goal
+
+-- the d values of bucket j, and their MACs for k
+abbrev pub bits : Frame → List ℕ → List ℕ → ℕ → ℕ → Bool
+bits f recs perm j e = (B.d f recs perm j e).bit
+
+abbrev pub macs : Frame → List ℕ → List ℕ → ℕ → ℕ → ℕ → Block
+macs f recs perm j k e = (B.d f recs perm j e).mac k
+
+abbrev pub invariant-loop-e : goal.invariant-loop-e
+invariant-loop-e l = (l.e ≤ l.due) × Filled l.due (bits l.f l.recs l.perm l.j) (macs l.f l.recs l.perm l.j l.k) l.e l.out
+
+abbrev pub decreases-loop-e : goal.decreases-loop-e
+decreases-loop-e l = l.due - l.e

@@ -1,0 +1,20 @@
+use Rattle.lists.specs.Kit.{◌≡◌, refl, sym, ap, ◌∙◌, List, ℕ, ◌+◌, ◌-◌, ◌*◌, ◌<◌, ◌≤◌, arith, length, rules}
+use native.Mathlib.Nat.{zero-mul}
+use borrow.Rule.Slice.PartMut.{put_mid}
+use Rattle.lists.specs.Over.{length-take-drop}
+use Rattle.encode.specs.Encode.{dvalue_item}
+use Rattle.encode.specs.Stretch.{Stretch, stretch-count, stretch-self, even-turn, even-end, in_list}
+use Rattle.engine.specs.declared.Frame.{Frame}
+use Rattle.rounds.specs.Buckets as B
+use Rattle.dvalue.specs.Dvalues.{length-item}
+use Rattle.dvalue.proofs.put_message.Given as goal
+
+-- bucket j of the message to k
+abbrev pub item : Frame → List ℕ → List ℕ → ℕ → ℕ → List ℕ
+item f recs perm k j = dvalue_item (B.later f) (λ e. (B.d f recs perm j e).bit) (λ e. (B.d f recs perm j e).mac k)
+
+abbrev pub invariant-loop-j : goal.invariant-loop-j
+invariant-loop-j l = (l.j ≤ l.f.l) × Stretch l.f.l (item l.f l.recs l.perm l.k) l.j (8 + l.j * l.size) l.initial.out l.out
+
+abbrev pub decreases-loop-j : goal.decreases-loop-j
+decreases-loop-j l = l.f.l - l.j

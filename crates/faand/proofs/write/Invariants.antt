@@ -1,0 +1,12 @@
+-- The loop's invariant: the messages to the first q parties but i are written.
+use Rattle.lists.specs.Kit.{◌≡◌, refl, sym, ap, ◌∙◌, List, ℕ, ◌+◌, ◌-◌, ◌*◌, ◌<◌, ◌≤◌, arith, length, rules}
+use Rattle.engine.specs.Area.{nth-below}
+use Rattle.rounds.specs.Loops.{lent-part, Sent, sent-none, sent-in, sent_back, sent-end}
+use Rattle.faand.specs.ItemLaws.{message, told_is}
+use Rattle.faand.proofs.write.Given as goal
+
+abbrev pub invariant-loop-q : goal.invariant-loop-q
+invariant-loop-q l = (l.q ≤ l.f.n - 1) × Sent l.f.n l.f.i l.len (message l.f l.work) l.q l.initial.out l.out
+
+abbrev pub decreases-loop-q : goal.decreases-loop-q
+decreases-loop-q l = l.f.n - 1 - l.q

@@ -1,0 +1,33 @@
+use Rattle.lists.specs.Kit.{◌≡◌, ap, ◌∙◌, ◌-◌, ◌≤◌, arith, length, rules}
+use Rattle.engine.specs.Step.{by_party}
+use Rattle.rounds.specs.Area.{KEY_SUMS, sizes, size_of, first_of}
+use Rattle.rounds.specs.Mail.{letter}
+use Rattle.rounds.specs.Fabitn as Fabitn
+use Rattle.rounds.specs.Fabitn.{STRINGS}
+use Rattle.rounds.specs.FaultLaws.{first-zero, item-first, item-next, item-none}
+use Rattle.area.specs.GivenLaws.{length_at}
+use Rattle.fabitn_recv.proofs.judge.Goals as goal
+
+pub loop-j-init : goal.loop-j-init
+loop-j-init c = (search rules, first-zero _)
+
+pub check_string-e-requires : goal.check_string-e-requires
+unfolding size_of sizes
+check_string-e-requires c =
+    record { j_bound = c.loop-j-test.true; sums_len = ap length c.section-sums.ensures ∙ length_at c.requires.work KEY_SUMS (omega arith); arrived = c.requires.arrived }
+
+pub returns-then-e-ne0 : goal.returns-then-e-ne0
+unfolding Fabitn.abits
+returns-then-e-ne0 c =
+    rw (← c.section-sums.ensures, ← c.delta-delta.ensures)
+    (item-first _ STRINGS c.loop-j.j _ _ c.loop-j-test.true c.loop-j.invariant.1 c.check_string-e.ensures c.if-e-ne0.true)
+
+pub loop-j-preserved : goal.loop-j-preserved
+loop-j-preserved c =
+    (omega arith, item-next _ c.loop-j.j _ _ c.loop-j.invariant.1 c.check_string-e.ensures c.if-e-ne0.false)
+
+pub returns : goal.returns
+unfolding Fabitn.abits
+returns c =
+    rw (← c.section-sums.ensures, ← c.delta-delta.ensures)
+    (item-none _ STRINGS c.loop-j.j 0 (omega arith) c.loop-j.invariant.1)

@@ -1,0 +1,14 @@
+-- `form::form` meets its contract: the first j parties have no fault of form.
+use Rattle.lists.specs.Kit.{◌≡◌, sym, ◌∙◌, ℕ, ◌-◌, ◌<◌, ◌≤◌, arith, rules}
+use Rattle.engine.specs.Step.{Lent, scan}
+use Rattle.engine.specs.StepLaws.{scan-turn}
+use Rattle.rounds.specs.FaultLaws.{fault_at, clean-zero, finds-first, finds-none}
+use Rattle.admit.specs.Admit.{kind_fault, posted}
+use Rattle.admit.specs.AdmitLaws.{parts-fit, form-found}
+use Rattle.form.proofs.form.Given as goal
+
+abbrev pub invariant-loop-j : goal.invariant-loop-j
+invariant-loop-j l = (l.j ≤ l.n) × ((scan l.j (fault_at l.i (kind_fault l.kind l.count (posted l.incoming l.mail l.missing)))).code ≡ 0)
+
+abbrev pub decreases-loop-j : goal.decreases-loop-j
+decreases-loop-j l = l.n - l.j
