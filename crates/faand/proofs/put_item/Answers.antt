@@ -1,4 +1,4 @@
-use Rattle.lists.specs.Kit.{◌∙◌, ℕ, ◌+◌, ◌<◌, ◌≤◌, arith, length, rules}
+use Rattle.lists.specs.Kit.{List, ◌∙◌, ℕ, ◌+◌, ◌<◌, ◌≤◌, arith, length, rules}
 use Rattle.share.specs.Layout.{record_len, record-within, record-some}
 use Rattle.faand.specs.ItemLaws.{four}
 use Rattle.faand.proofs.put_item.Goals as goal
@@ -21,11 +21,11 @@ returns c =
     (c.sum_mac-d_mac.ensures ∙ c.bucket-r.ensures.d-read.mac c.args.k c.requires.k_lt_n.0) (c.sum_mac-e_mac.ensures ∙ c.bucket-r.ensures.e-read.mac c.args.k c.requires.k_lt_n.0)
 
 -- a record that lies within has its bit there
-bit_in : {p : ℕ} (c : tie.After-bucket) → p + record_len c.args.f.n ≤ length c.args.work.now → p < length c.args.work.now
-bit_in c h = omega (arith, record-some c.args.f.n)
+bit_in : (n p : ℕ) (w : List ℕ) → p + record_len n ≤ length w → p < length w
+bit_in n p w h = omega (arith, record-some n)
 
 pub sum_bit-d-requires : goal.sum_bit-d-requires
-sum_bit-d-requires c = (bit_in c c.bucket-r.ensures.a_in, bit_in c c.bucket-r.ensures.alpha-in)
+sum_bit-d-requires c = (bit_in c.args.f.n _ _ c.bucket-r.ensures.a_in, bit_in c.args.f.n _ _ c.bucket-r.ensures.alpha-in)
 
 pub sum_bit-e-requires : goal.sum_bit-e-requires
-sum_bit-e-requires c = (bit_in c c.bucket-r.ensures.b-in, bit_in c c.bucket-r.ensures.beta-in)
+sum_bit-e-requires c = (bit_in c.args.f.n _ _ c.bucket-r.ensures.b-in, bit_in c.args.f.n _ _ c.bucket-r.ensures.beta-in)

@@ -4,7 +4,7 @@ use Rattle.rounds.specs.Loops.{lent-part}
 use Rattle.rounds.specs.Beaver as R
 use Rattle.faand.specs.ItemLaws.{told, item, length-item}
 use Rattle.faand.proofs.put_message.Goals as goal
-use Rattle.faand.proofs.put_message.Goals.{Start}
+use Rattle.faand.proofs.put_message.Goals.{In-loop-j, Start}
 
 -- item j of the message
 
@@ -19,19 +19,23 @@ loop-j-init c =
 
 -- ---- in a turn
 
-pub slice_bounds-put_item-end : goal.slice_bounds-put_item-end
-slice_bounds-put_item-end =
+-- item j ends within
+inside : (c : In-loop-j) → 8 + c.loop-j.j * 34 + 34 ≤ length c.loop-j.out
+inside c =
     omega (
       arith,
       c.loop-j.invariant.2.same,
       c.loop-j.invariant.1,
-      in_list c.loop-j.j start.args.f.l 34
+      in_list c.loop-j.j c.args.f.l 34
           c.loop-j-test.true,
     )
 
+pub slice_bounds-put_item-end : goal.slice_bounds-put_item-end
+slice_bounds-put_item-end c = inside (goal.at.slice_bounds-put_item-end c).In-loop-j
+
 pub put_item-requires : goal.put_item-requires
 put_item-requires c =
-    record { work = (c.requires.work.0, c.loop-j-test.true, c.requires.work.1); k_lt_n = (c.requires.k_lt_n.0, lent-part (8 + c.loop-j.j * 34) 34 34 c.loop-j.out refl (slice_bounds-put_item-end c)) }
+    record { work = (c.requires.work.0, c.loop-j-test.true, c.requires.work.1); k_lt_n = (c.requires.k_lt_n.0, lent-part (8 + c.loop-j.j * 34) 34 34 c.loop-j.out refl (inside (goal.at.put_item-requires c).In-loop-j)) }
 
 pub loop-j-preserved : goal.loop-j-preserved
 loop-j-preserved c = (

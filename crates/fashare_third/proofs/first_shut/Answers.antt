@@ -1,4 +1,4 @@
-use Rattle.lists.specs.Kit.{◌≡◌, refl, ap, ◌∙◌, List, ℕ, ◌+◌, ◌-◌, ◌*◌, ◌<◌, ◌≤◌, arith, length, drop, take, rules}
+use Rattle.lists.specs.Kit.{not, ◌≡◌, refl, ap, ◌∙◌, List, ℕ, ◌+◌, ◌-◌, ◌*◌, ◌<◌, ◌≤◌, arith, length, drop, take, rules}
 use Rattle.lists.specs.Pick.{pick}
 use Rattle.lists.specs.Same.{same?}
 use Rattle.block.specs.Block.{word_at}
@@ -63,13 +63,13 @@ said c =
 pub returns-then-not-is : goal.returns-then-not-is
 returns-then-not-is c =
     opened-stop c.args.comms.now c.args.m.now c.args.k c.loop-q.q (c.loop-q.at) c.loop-q.invariant.1 c.args.most c.is.result
-    c.loop-q.invariant.0 (said (goal.at.returns-then-not-is c).After-is) c.if-not-is.true
+    c.loop-q.invariant.0 (said (goal.at.returns-then-not-is c).After-is) (ap not c.if-not-is.true)
 
 pub loop-q-preserved : goal.loop-q-preserved
 loop-q-preserved c = (
   omega (arith, c.loop-q-test.true),
   opened-turn c.args.comms.now c.args.m.now c.args.k c.loop-q.q (c.loop-q.at) c.loop-q.invariant.1 c.requires.m_value (string (goal.at.loop-q-preserved c).In-loop-q) _ c.is.result
-      (ap (λ w. (c.loop-q.at) + 8 + w) c.load64.ensures) (said (goal.at.loop-q-preserved c).After-is) c.if-not-is.false,
+      (ap (λ w. (c.loop-q.at) + 8 + w) c.load64.ensures) (said (goal.at.loop-q-preserved c).After-is) (ap not c.if-not-is.false),
 )
 
 pub returns : goal.returns

@@ -1,11 +1,11 @@
 use Rattle.lists.specs.Kit.{◌-◌, ◌≤◌, arith, rules}
-use mathlib.Core.Logic.{⊎_elim}
 use Rattle.rounds.specs.Area.{SHARE_COMMS}
 use Rattle.rounds.specs.Mail.{letter}
 use Rattle.area.specs.GivenLaws.{lent_length}
 use Rattle.area.specs.Sizes.{size-share-comms}
 use Rattle.fashare_third.specs.Laws.{thirdAt, Lowest, lowest-none, lowest-new, lowest-old, lowest-found, lowest-clean}
 use Rattle.fashare_third.proofs.judge.Goals as goal
+use Rattle.fashare_third.proofs.judge.Goals.{then-q-first, else-q-first}
 
 pub loop-k-init : goal.loop-k-init
 loop-k-init c = (search rules, lowest-none _)
@@ -17,9 +17,10 @@ shut_of-q-requires c =
 pub loop-k-preserved : goal.loop-k-preserved
 loop-k-preserved c = (
   omega (arith, c.loop-k-test.true),
-  ⊎_elim (λ w. rw (w.1, w.2) (lowest-new _ c.loop-k.k c.loop-k.first c.loop-k.party c.shut_of-q.result c.loop-k.invariant.1 c.shut_of-q.ensures w.0.taken))
-      (λ w. rw (w.1, w.2) (lowest-old _ c.loop-k.k c.loop-k.first c.loop-k.party c.shut_of-q.result c.loop-k.invariant.1 c.shut_of-q.ensures w.0.left))
-      c.if-q-first.branch,
+  elim c.if-q-first.branch [
+    then-q-first w ↦ rw (w.first-is, w.party-is) (lowest-new _ c.loop-k.k c.loop-k.first c.loop-k.party c.shut_of-q.result c.loop-k.invariant.1 c.shut_of-q.ensures w.if-q-first.true)
+    | else-q-first w ↦ rw (w.first-is, w.party-is) (lowest-old _ c.loop-k.k c.loop-k.first c.loop-k.party c.shut_of-q.result c.loop-k.invariant.1 c.shut_of-q.ensures w.if-q-first.false)
+  ],
 )
 
 pub returns-then-first-lt-STRINGS : goal.returns-then-first-lt-STRINGS
