@@ -1,0 +1,14 @@
+-- The loop's invariant: the first k parties have no fault.
+use Rattle.lists.specs.Kit.{◌≡◌, sym, ◌∙◌, List, ℕ, ◌-◌, ◌≤◌, arith, rules}
+use Rattle.engine.specs.Step.{scan}
+use Rattle.engine.specs.StepLaws.{scan-turn}
+use Rattle.rounds.specs.Mail.{letter}
+use Rattle.rounds.specs.FaultLaws.{fault_at, clean-zero, finds-first, finds-none}
+use Rattle.dvalue_recv.specs.Checks.{d_fault, faults-by}
+use Rattle.dvalue_recv.proofs.first_fault.Given as goal
+
+abbrev pub invariant-loop-k : goal.invariant-loop-k
+invariant-loop-k l = (l.k ≤ l.n) × ((scan l.k (fault_at l.f.i (d_fault l.f l.delta.0 l.recs l.perm (letter l.incoming l.mail)))).code ≡ 0)
+
+abbrev pub decreases-loop-k : goal.decreases-loop-k
+decreases-loop-k l = l.n - l.k

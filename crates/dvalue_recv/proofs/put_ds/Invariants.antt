@@ -1,0 +1,21 @@
+-- The loop's invariant: the first e bits are written.
+use Rattle.lists.specs.Kit.{◌≡◌, refl, sym, ap, ◌∙◌, List, ◌++◌, ℕ, ◌+◌, ◌-◌, ◌≤◌, arith, length, drop, set, rules}
+use lib.ListN.{length-set}
+use Rattle.lists.specs.Over.{tab, tab-zero, tab-step, tab-end}
+use Rattle.algebra.specs.Group.{num}
+use Rattle.engine.specs.declared.Frame.{Frame}
+use Rattle.rounds.specs.declared.Mail.{Mail}
+use Rattle.rounds.specs.Mail.{letter}
+use Rattle.rounds.specs.Buckets.{later, d_opened}
+use Rattle.dvalue_recv.specs.Opened.{d_row}
+use Rattle.dvalue_recv.proofs.put_ds.Given as goal
+
+-- bit e
+abbrev pub bit : List ℕ → List ℕ → List ℕ → Mail → Frame → ℕ → ℕ → ℕ
+bit recs perm incoming mail f j e = num (d_opened f recs perm (letter incoming mail) j e)
+
+abbrev pub invariant-loop-e : goal.invariant-loop-e
+invariant-loop-e l = (l.e ≤ length l.initial.row) × (length l.row ≡ length l.initial.row) × (l.row ≡ tab l.e (bit l.recs l.perm l.incoming l.mail l.f l.j) ++ drop l.e l.initial.row)
+
+abbrev pub decreases-loop-e : goal.decreases-loop-e
+decreases-loop-e l = length l.initial.row - l.e

@@ -1,0 +1,19 @@
+-- The loop's invariant: the first k parties have no fault.
+use Rattle.lists.specs.Kit.{◌≡◌, sym, ap, ◌∙◌, List, ℕ, ◌-◌, ◌≤◌, arith, rules}
+use Rattle.block.specs.declared.Block.{Block}
+use Rattle.engine.specs.Step.{scan, by_party}
+use Rattle.engine.specs.StepLaws.{scan-turn}
+use Rattle.rounds.specs.Area.{BITS, PERM, TRIPLES, ALPHA, BETA, at}
+use Rattle.rounds.specs.Mail.{letter}
+use Rattle.rounds.specs.FaultLaws.{fault_at, clean-zero, finds-first, finds-none}
+use Rattle.rounds.specs.Beaver as R
+use Rattle.rounds.specs.Table as Table
+use Rattle.faand.specs.ItemLaws.{arrived}
+use Rattle.faand_recv.specs.CheckLaws.{de_fault, faults-by}
+use Rattle.faand_recv.proofs.judge.Given as goal
+
+abbrev pub invariant-loop-k : goal.invariant-loop-k
+invariant-loop-k l = (l.k ≤ l.f.n) × ((scan l.k (fault_at l.f.i (de_fault l.f l.delta.0 l.work (letter l.incoming l.mail)))).code ≡ 0)
+
+abbrev pub decreases-loop-k : goal.decreases-loop-k
+decreases-loop-k l = l.f.n - l.k

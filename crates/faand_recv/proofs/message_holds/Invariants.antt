@@ -1,0 +1,11 @@
+-- The loop's invariant: ok says whether the MACs of the first j buckets hold.
+use Rattle.lists.specs.Kit.{◌≡◌, sym, ap, ◌∙◌, Bool, ℕ, ◌-◌, ◌≤◌, arith, rules}
+use Rattle.lists.specs.All.{all_of, all-zero, all_more}
+use Rattle.faand_recv.specs.CheckLaws.{holds}
+use Rattle.faand_recv.proofs.message_holds.Given as goal
+
+abbrev pub invariant-loop-j : goal.invariant-loop-j
+invariant-loop-j l = (l.j ≤ l.f.l) × (l.ok ≡ all_of l.j (holds l.f l.delta.0 l.work l.m l.k))
+
+abbrev pub decreases-loop-j : goal.decreases-loop-j
+decreases-loop-j l = l.f.l - l.j

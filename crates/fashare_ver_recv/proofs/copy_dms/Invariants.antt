@@ -1,0 +1,20 @@
+-- The loop's invariant: the first q dms are written.
+use Rattle.lists.specs.Kit.{◌≡◌, sym, ap, ◌∙◌, List, ℕ, ◌+◌, ◌-◌, ◌*◌, ◌≤◌, arith, length, take, drop, rules}
+use Rattle.lists.specs.Over.{Written, in-chunks, length-take-drop}
+use Rattle.lists.specs.Rows.{length-row, even-zero, even-turn, even-end}
+use Rattle.plan.specs.Plan.{dm_len}
+use Rattle.rounds.specs.Fashare.{STRINGS, dm_at}
+use Rattle.rounds.specs.DmLaws.{dues_in}
+use Rattle.fashare_comm.specs.Laws.{dm-most, place-most, row-most}
+use Rattle.fashare_ver_recv.specs.Laws.{dues-copy}
+use Rattle.fashare_ver_recv.proofs.copy_dms.Given as goal
+
+-- dm q
+abbrev pub part : ℕ → List ℕ → ℕ → List ℕ
+part n m q = take (dm_len n) (drop (dm_at m q) m)
+
+abbrev pub invariant-loop-q : goal.invariant-loop-q
+invariant-loop-q l = (l.q ≤ STRINGS) × Written (part l.n l.m) l.q (l.q * l.len) l.initial.out l.out
+
+abbrev pub decreases-loop-q : goal.decreases-loop-q
+decreases-loop-q l = STRINGS - l.q

@@ -1,0 +1,22 @@
+-- The loop's invariant: the rows of the first k parties are kept.
+use Rattle.lists.specs.Kit.{◌≡◌, refl, sym, ap, ◌∙◌, List, ℕ, ◌+◌, ◌-◌, ◌*◌, ◌≤◌, arith, length, take, drop, rules}
+use Rattle.plan.specs.Plan.{dm_len}
+use Rattle.engine.specs.declared.Frame.{Frame}
+use Rattle.rounds.specs.Area.{DMS, sizes, size_of, keep}
+use Rattle.rounds.specs.Mail.{letter}
+use Rattle.rounds.specs.Loops.{row_of, rows_of}
+use Rattle.rounds.specs.Fashare as Fashare
+use Rattle.rounds.specs.Fashare.{STRINGS, dms_of}
+use Rattle.area.specs.Filled.{Filled, filled_none, filled_put, filled-end, row_in, row-lent}
+use Rattle.fashare_comm.specs.Laws.{dm-most}
+use Rattle.fashare_ver_recv.proofs.keep.Given as goal
+
+-- the bytes of a row
+abbrev pub rowLen : Frame → ℕ
+rowLen f = STRINGS * dm_len f.n
+
+abbrev pub invariant-loop-k : goal.invariant-loop-k
+invariant-loop-k l = (l.k ≤ l.n) × Filled l.f DMS (rowLen l.f) (row_of l.f.i (rowLen l.f) (λ k'. dms_of l.f.n (letter l.incoming l.mail k'))) l.k l.initial.work l.work
+
+abbrev pub decreases-loop-k : goal.decreases-loop-k
+decreases-loop-k l = l.n - l.k

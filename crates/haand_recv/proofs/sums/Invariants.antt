@@ -1,0 +1,14 @@
+-- The loop's invariant: both sums have the first k parties.
+use Rattle.lists.specs.Kit.{◌≡◌, ap, ◌∙◌, ◌-◌, ◌≤◌, arith, rules}
+use Rattle.algebra.specs.Group.{bits, xor-addb}
+use Rattle.algebra.specs.Sum.{others}
+use Rattle.block.specs.Group.{blocks}
+use Rattle.rounds.specs.Loops.{others-none, others-turn}
+use Rattle.haand_hash.specs.Window.{g_at, h_at}
+use Rattle.haand_recv.proofs.sums.Given as goal
+
+abbrev pub invariant-loop-k : goal.invariant-loop-k
+invariant-loop-k l = (l.k ≤ l.n) × (l.g ≡ others blocks l.f.i l.k (g_at l.f.i l.hashes)) × (l.h ≡ others bits l.f.i l.k (h_at l.f.i l.hashes))
+
+abbrev pub decreases-loop-k : goal.decreases-loop-k
+decreases-loop-k l = l.n - l.k

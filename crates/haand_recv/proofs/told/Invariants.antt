@@ -1,0 +1,19 @@
+-- The loop's invariant: v has the first k parties.
+use Rattle.lists.specs.Kit.{◌≡◌, ap, ap₂, ◌∙◌, Bool, ◌&&◌, ℕ, ◌-◌, ◌≤◌, arith, rules}
+use Rattle.algebra.specs.Group.{bits, addb, sel, xor-addb}
+use Rattle.algebra.specs.Sum.{others}
+use Rattle.share.specs.Layout.{record-some}
+use Rattle.share.specs.Record.{bit_at}
+use Rattle.share.specs.Share.{share_at}
+use Rattle.rounds.specs.Mail.{letter}
+use Rattle.rounds.specs.Loops.{others-none, others-turn}
+use Rattle.rounds.specs.Haand as R
+use Rattle.area.specs.Positions.{x-in, y-in}
+use Rattle.haand_recv.specs.Received as Got
+use Rattle.haand_recv.proofs.told.Given as goal
+
+abbrev pub invariant-loop-k : goal.invariant-loop-k
+invariant-loop-k l = (l.k ≤ l.n) × (l.v ≡ others bits l.f.i l.k (Got.told_by l.f l.masks l.recs (letter l.incoming l.mail) l.t))
+
+abbrev pub decreases-loop-k : goal.decreases-loop-k
+decreases-loop-k l = l.n - l.k

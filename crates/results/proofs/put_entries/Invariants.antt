@@ -1,0 +1,18 @@
+use Rattle.lists.specs.Kit.{◌≡◌, refl, ap₂, ◌∙◌, List, [], Bool, ℕ, ◌+◌, ◌-◌, ◌<◌, ◌≤◌, arith, length, rules}
+use Rattle.share.specs.Layout.{ENTRY, entry-within, record-within}
+use Rattle.share.specs.Share.{Share, share_at, entry_bytes, entry_of}
+use Rattle.share.specs.ShareLaws.{length-entry_of}
+use Rattle.share.specs.Entered.{Entered, entered-none, entered-turn, entered-head}
+use Rattle.rounds.specs.Beaver as R
+use Rattle.faand.specs.declared.Records.{Records}
+use Rattle.results.proofs.put_entries.Given as goal
+
+-- the share that is written
+abbrev pub X : List ℕ → Records → Bool → Bool → Share
+X w r d e = R.finish (share_at w r.c) (share_at w r.beta) (share_at w r.a) d e
+
+abbrev pub invariant-loop-k : goal.invariant-loop-k
+invariant-loop-k l = (l.k ≤ l.n) × Entered (entry_of l.i (X l.work l.r l.d l.e)) l.n l.k l.initial.out l.out
+
+abbrev pub decreases-loop-k : goal.decreases-loop-k
+decreases-loop-k l = l.n - l.k
