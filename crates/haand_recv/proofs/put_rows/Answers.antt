@@ -30,8 +30,8 @@ row_in c = omega (arith, c.loop-p-test.true, c.loop-p.invariant.1.same, c.requir
 
 asked : (c : In-loop-p) → Asked c.args.f (c.args.t + (c.loop-p.p)) c.args.recs.now
 asked c =
-    let (c.loop-p.p) = c.requires.positions.0 in
-    record { ranges = (c.loop-p.p).ranges; records = (c.loop-p.p).records; below = omega (arith, c.loop-p-test.true, (c.loop-p.p).below) }
+    let own = c.requires.positions.0 in
+    record { ranges = own.ranges; records = own.records; below = omega (arith, c.loop-p-test.true, own.below) }
 
 -- the hashes of the position
 lent : (c : In-loop-p) → take ((c.loop-p.p) * ((c.args.f.n - 1) * 32) + ((c.args.f.n - 1) * 32) - (c.loop-p.p) * ((c.args.f.n - 1) * 32)) (drop ((c.loop-p.p) * ((c.args.f.n - 1) * 32)) c.args.hashes.now)
