@@ -25,7 +25,7 @@ judge-requires-in-6 c =
 pub judge-requires-in-10 : goal.judge-requires-in-10
 unfolding kind_of count_due
 judge-requires-in-10 c =
-    record { work = c.requires.work; arrived = received-at c.args.k 10 c.in-10.is c.requires.received }
+    record { work = c.requires.work; received = received-at c.args.k 10 c.in-10.is c.requires.received }
 
 pub judge-requires-in-12 : goal.judge-requires-in-12
 unfolding kind_of count_due
@@ -40,12 +40,12 @@ judge-requires-in-19 c =
 pub judge-requires-in-21 : goal.judge-requires-in-21
 unfolding kind_of count_due
 judge-requires-in-21 c =
-    record { work = c.requires.work; arrived = received-at c.args.k 21 c.in-21.is c.requires.received }
+    record { work = c.requires.work; received = received-at c.args.k 21 c.in-21.is c.requires.received }
 
 pub judge-requires-in-22 : goal.judge-requires-in-22
 unfolding kind_of count_due
 judge-requires-in-22 c =
-    record { work = c.requires.work; arrived = received-at c.args.k 22 c.in-22.is c.requires.received }
+    record { work = c.requires.work; received = received-at c.args.k 22 c.in-22.is c.requires.received }
 
 pub returns-in-3 : goal.returns-in-3
 unfolding judge

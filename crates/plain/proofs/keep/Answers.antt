@@ -39,7 +39,7 @@ unfolding kind_of count_due judge
 keep-requires-in-10 c =
     record {
       work = c.requires.work;
-      arrived = ver-checked c.args.f _ _ _ (received-at c.args.k 10 c.in-10.is c.requires.received)
+      checked = ver-checked c.args.f _ _ _ (received-at c.args.k 10 c.in-10.is c.requires.received)
           (clean_at c.args.f c.args.work.now (letter c.args.incoming.now c.args.mail) c.args.k 10 c.in-10.is c.requires.mail_value);
     }
 
@@ -61,7 +61,7 @@ keep-requires-in-17 c =
 pub keep-requires-in-21 : goal.keep-requires-in-21
 unfolding kind_of count_due
 keep-requires-in-21 c =
-    record { work = c.requires.work; arrived = received-at c.args.k 21 c.in-21.is c.requires.received }
+    record { work = c.requires.work; received = received-at c.args.k 21 c.in-21.is c.requires.received }
 
 pub returns-in-1 : goal.returns-in-1
 unfolding kept
