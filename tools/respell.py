@@ -15,7 +15,10 @@ import os
 import re
 
 WORD = r"[^\s(){}.;,@\"«»:]+"
-DECL = re.compile(r"^((?:(?:pattern|unfoldable|abbrev|axiom|pub|record|data)\s+)*)(" + WORD + r")((?: \{[^{}\n]*\}| \([^()\n]*\))*) :(?: |$)", re.M)
+MARKS = r"((?:(?:pattern|unfoldable|abbrev|axiom|pub|record|data) +)*)"
+DECL = re.compile(r"^" + MARKS + "(" + WORD + r")((?: \{[^{}\n]*\}| \([^()\n]*\))*) :(?: |$)", re.M)
+# In a section or behind `where`.
+INNER = re.compile(r"^ +" + MARKS + "(" + WORD + r")((?: \{[^{}\n]*\}| \([^()\n]*\))*) :(?: |$)", re.M)
 FIELD = re.compile(r"^  (?:pub )(" + WORD + r") : ", re.M)
 TOKEN = re.compile(r"\"(?:[^\"\\]|\\.)*\"|[^\s(){}.;,@\"«»\[\]]+")
 # Lemmas that would fall together with a definition that their file speaks of.
@@ -45,7 +48,8 @@ def read(path):
 def snake(name):
     # The kit's getD is get_or now.
     name = "-".join("get_or" if part == "getD" else part for part in name.split("-"))
-    return re.sub(r"(?<=[a-z0-9])[A-Z]", lambda m: "_" + m[0].lower(), name)
+    name = re.sub(r"([A-Z])(?=[A-Z][a-z])", r"\1_", name)
+    return re.sub(r"(?<=[a-z0-9])_?[A-Z](?:(?=_)|(?![A-Z]))|(?<=_)[A-Z](?=[a-z])", lambda m: "_" * (not m[0].startswith("_") and name[m.start() - 1] != "_") + m[0].lower(), name)
 
 
 def table():
@@ -56,6 +60,9 @@ def table():
         t = read(p)
         for m in DECL.finditer(t):
             declared[m[2]].add(p)
+        for m in INNER.finditer(t):
+            if re.search("[a-z0-9][A-Z]", m[2]) and not m[2][0].isupper():
+                declared[m[2]].add(p)
         fields |= {m[1] for m in FIELD.finditer(t) if re.search("[a-z0-9][A-Z]", m[1])}
     turn = {}
     for n in declared:

@@ -1,2 +1,1 @@
 pub mod Admit
-pub mod AdmitLaws

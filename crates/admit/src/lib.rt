@@ -6,7 +6,7 @@
 ghost use Rattle.std.specs.Prelude.{◌≡◌, true, ◌&&◌, [], ℕ, ◌<◌, ◌≤◌, length, eqb};
 ghost use Rattle.plan.specs.Plan.{InRange};
 ghost use Rattle.engine.specs.Step.{frame, parts_in, reason_of};
-ghost use Rattle.engine.specs.Plain.{protocolOf, lent_of};
+ghost use Rattle.engine.specs.Plain.{protocol_of, lent_of};
 ghost use Rattle.rounds.specs.Fabitn.{r_fits};
 ghost use Rattle.rounds.specs.Table as T;
 ghost use Rattle.rounds.specs.Table.{table};
@@ -25,7 +25,7 @@ fn fine(n: usize, i: usize, l: usize) -> bool
 
 // The session is neither done nor ended, and opening can have made it.
 pub fn alive(s: Session) -> bool
-    ensures { result ≡ (protocolOf table).alive s }
+    ensures { result ≡ (protocol_of table).alive s }
 {
     let party = s.party;
     let counts = s.counts;
@@ -136,7 +136,7 @@ pub fn reason(
     work: &[u8],
     out: &[u8],
 ) -> u8
-    ensures { result ≡ reason_of (protocolOf table) s k
+    ensures { result ≡ reason_of (protocol_of table) s k
         (given incoming.now starts.now lens.now missing.now r.now out.now)
         work.now }
 {

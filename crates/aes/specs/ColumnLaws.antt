@@ -11,7 +11,7 @@ use Rattle.block.specs.declared.Block.{Block}
 use Rattle.block.specs.Block.{le8, bytes_of}
 use Rattle.fips197.specs.Field.{product}
 use Rattle.fips197.specs.Sbox.{SBox}
-use Rattle.fips197.specs.SboxLaws.{sbox-byte}
+use Rattle.fips197.proofs.SboxLaws.{sbox-byte}
 use Rattle.fips197.specs.Cipher.{at, state, sub_bytes, shift_rows, matrix, mix_columns, add_round_key, rounds}
 use Rattle.aes_tables.specs.Word.{column4, bytes4}
 use Rattle.aes_tables.specs.Tables.{tables}

@@ -17,7 +17,7 @@ use Rattle.algebra.specs.Group.{odd}
 use Rattle.algebra.specs.Sum.{sum}
 use Rattle.fips197.specs.Field.{product, times, mod_m}
 use Rattle.fips197.specs.Sbox.{SBox}
-use Rattle.fips197.specs.SboxLaws.{sbox-byte}
+use Rattle.fips197.proofs.SboxLaws.{sbox-byte}
 use Rattle.fips197.specs.Key.{word_byte, power, rcon, sub_rot, temp, next, words, key_expansion}
 use Rattle.aes_tables.specs.Word.{bytes4}
 use Rattle.aes_tables.specs.WordLaws.{length-bytes4, bytes4-tab, xor4, bytes4-xor, bytes4-column4, bytes4-byte}
@@ -88,11 +88,11 @@ module _ (w : List ℕ) (i : ℕ) (h : 4 ≤ i) (l : i < 44) where
       (λ r hr. ap SBox (own j ((r + 1) % 4) hj (omega arith)))
 
   -- byte r of temp, where b says whether i is a multiple of 4
-  abbrev tempBy : Bool → ℕ → ℕ
-  tempBy b r = pick b (bit_xor (sub_rot (words_bytes i w) (i - 1) r) (rcon (i / 4) r)) (word_byte (words_bytes i w) (i - 1) r)
+  abbrev temp_by : Bool → ℕ → ℕ
+  temp_by b r = pick b (bit_xor (sub_rot (words_bytes i w) (i - 1) r) (rcon (i / 4) r)) (word_byte (words_bytes i w) (i - 1) r)
 
   temp-bytes : (b : Bool) → eqb (i % 4) 0 ≡ b
-      → bytes4 (pick b (bit_xor (sub_rot_of (get_or w (i - 1) 0)) (power (i / 4 - 1))) (get_or w (i - 1) 0)) ≡ tab 4 (tempBy b)
+      → bytes4 (pick b (bit_xor (sub_rot_of (get_or w (i - 1) 0)) (power (i / 4 - 1))) (get_or w (i - 1) 0)) ≡ tab 4 (temp_by b)
   unfolding xor4 rcon tab
   temp-bytes true e =
       bytes4-xor (sub_rot_of (get_or w (i - 1) 0)) (power (i / 4 - 1))

@@ -7,7 +7,7 @@ use Rattle.lists.specs.Over.{get_or-tab}
 use Rattle.fips197.specs.Field.{product}
 use Rattle.fips197.specs.Sbox.{SBox}
 use Rattle.fips197.specs.Cipher.{matrix}
-use Rattle.fips197.specs.FieldLaws.{product-one, product-three, product-byte}
+use Rattle.fips197.proofs.FieldLaws.{product-one, product-three, product-byte}
 use Rattle.aes_tables.specs.Word.{column4}
 use Rattle.aes_tables.specs.Tables.{entry_of, tables}
 

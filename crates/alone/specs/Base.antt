@@ -13,7 +13,7 @@ use Rattle.lists.specs.All.{true-false}
 use Rattle.engine.specs.declared.Frame.{Frame}
 use Rattle.engine.specs.Step.{frame, other}
 use Rattle.engine.specs.StepLaws.{other-is, other-cases}
-use Rattle.engine.specs.Area.{putSec, length-putSec, sec-other}
+use Rattle.engine.specs.Area.{put_sec, length-put_sec, sec-other}
 use Rattle.engine.specs.Sheet.{Store, Known, put_all, filled, stays_test, fills-by}
 use Rattle.rounds.specs.Area.{ROUNDS_OWN, SECTIONS, size_of, at, keep, rows}
 use Rattle.alone.specs.Holds.{since, store_of}
@@ -69,7 +69,7 @@ module _ (n l : ℕ) (val : ℕ → ℕ → List ℕ) where
         let v = keep-none test in
         let size = size_of (frame n l i) in
         record {
-          long = length-putSec size SECTIONS w K.long s x (omega arith) long;
+          long = length-put_sec size SECTIONS w K.long s x (omega arith) long;
           has = λ r lr ready. sec-other size SECTIONS w K.long r s x (omega arith)
               (λ e. true-false (sym ready ∙ ap (λ a. leb (since a) u) e ∙ free)) long ∙ v.has r lr ready;
         }
@@ -78,7 +78,7 @@ module _ (n l : ℕ) (val : ℕ → ℕ → List ℕ) where
         → Known n l (store_of val) u i (keep (frame n l i) s x w)
     unfolding put_all keep
     keep_one s x test fit e =
-        subst (λ (y : List ℕ). Known n l (store_of val) u i (putSec (size_of (frame n l i)) s y w)) (sym e)
+        subst (λ (y : List ℕ). Known n l (store_of val) u i (put_sec (size_of (frame n l i)) s y w)) (sym e)
         (filled n l (store_of val) (omega arith) t u (s ∷ [])
         (fills-by n l (store_of val) t u (s ∷ []) (λ i s. refl) (fit, tt) test) i li w K)
 
@@ -88,6 +88,6 @@ module _ (n l : ℕ) (val : ℕ → ℕ → List ℕ) where
     keep_two s s' x x' test fit fit' e e' =
         let size = size_of (frame n l i) in
         let C : Store = store_of val in
-        subst (λ (y : List ℕ). Known n l C u i (putSec size s y (putSec size s' x' w))) (sym e)
-        (subst (λ (y : List ℕ). Known n l C u i (putSec size s (val i s) (putSec size s' y w))) (sym e')
+        subst (λ (y : List ℕ). Known n l C u i (put_sec size s y (put_sec size s' x' w))) (sym e)
+        (subst (λ (y : List ℕ). Known n l C u i (put_sec size s (val i s) (put_sec size s' y w))) (sym e')
         (filled n l C (omega arith) t u (s ∷ s' ∷ []) (fills-by n l C t u (s ∷ s' ∷ []) (λ i s. refl) (fit, (fit', tt)) test) i li w K))

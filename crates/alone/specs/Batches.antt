@@ -15,9 +15,10 @@ use Rattle.engine.specs.declared.Session.{Session}
 use Rattle.engine.specs.Step.{Accepted, Refused, Outcome, told_after}
 use Rattle.engine.specs.OneBox.{Turn}
 use Rattle.engine.specs.OneBox as OneBox
-use Rattle.engine.specs.Batched.{Equal, outcomes, AllEqual, all_same}
-use Rattle.engine.specs.Order.{roundIn}
-use Rattle.engine.specs.Plain.{protocolOf}
+use Rattle.engine.specs.Batched.{Equal, outcomes, AllEqual}
+use Rattle.engine.proofs.BatchedLaws.{all_same}
+use Rattle.engine.specs.Order.{round_in}
+use Rattle.engine.specs.Plain.{protocol_of}
 use Rattle.rounds.specs.Area.{SECTIONS}
 use Rattle.rounds.specs.Opening.{Args, party, buffers_due, masks_fault, bytes_fault, reason, section, area, spec}
 use Rattle.rounds.specs.OpeningLaws.{passed}
@@ -91,7 +92,7 @@ module _ (a : Args) (z : reason a ≡ 0) where
   -- ---- THE THEOREM: opening, and each of any list of calls after it
   pub as_one : (cs : List Turn)
       → Equal several one (spec a) (spec (single a))
-      × AllEqual several one (outcomes (protocolOf table) (opened_box a) cs) (outcomes (protocolOf table) (opened_box (single a)) cs)
+      × AllEqual several one (outcomes (protocol_of table) (opened_box a) cs) (outcomes (protocol_of table) (opened_box (single a)) cs)
   as_one cs = (opened-same, all_same table several one cs (opened_box a) (opened_box (single a)) opened-same.sessions opened-same.work)
 
   -- ---- what the calls tell: the last accepted one where each batch lies, one behind the other from 0, l records together
@@ -117,13 +118,13 @@ module _ (a : Args) (z : reason a ≡ 0) where
     refused-tells-not code who h = e.told-first ∙ rw h refl
 
 -- ---- a session that is alive is one that opening can have made, whatever a host put there
-pub opened_some : (s : Session) → length s.counts ≡ MOST → (protocolOf table).alive s ≡ true
+pub opened_some : (s : Session) → length s.counts ≡ MOST → (protocol_of table).alive s ≡ true
     → (d : List ℕ) × (counts_fault d ≡ 0) × (tally d ≡ s.counts) × (total d ≡ s.party.l)
 unfolding fine
 opened_some s h v =
     let f : Frame = s.party in
     let some : Bool = leb 2 f.n && leb f.n 8 && ltb f.i f.n in
-    let w = and_both (some && leb 1 f.l && leb f.l 300000 && whole f.l s.counts) (roundIn the_rounds (eqb f.n 2) s.due) v in
+    let w = and_both (some && leb 1 f.l && leb f.l 300000 && whole f.l s.counts) (round_in the_rounds (eqb f.n 2) s.due) v in
     let g = and_both (some && leb 1 f.l && leb f.l 300000) (whole f.l s.counts) w.0 in
     let m = and_both (some && leb 1 f.l) (leb f.l 300000) g.0 in
     opened_with f.l s.counts h (leb-true 1 f.l (and_both some (leb 1 f.l) m.0).1) (leb-true f.l 300000 m.1) g.1

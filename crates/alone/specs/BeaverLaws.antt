@@ -49,12 +49,12 @@ module _ (S : Seen) (I : Admissible S) where
   unfolding triple_rows
   c-is j lj = c_read f (F.abc S) j lj (small-abc S I j)
 
-  d-is : (j : ℕ) → j < f.l → Agree f.n f.i (B.d f triples a.alpha j) (F.beaverD S j)
-  unfolding B.d F.beaverD F.alpha
+  d-is : (j : ℕ) → j < f.l → Agree f.n f.i (B.d f triples a.alpha j) (F.beaver_d S j)
+  unfolding B.d F.beaver_d F.alpha
   d-is j lj = agree-op f.n f.i _ _ _ _ (a-is j lj) (agree_refl f.n f.i _)
 
-  e-is : (j : ℕ) → j < f.l → B.e f a.bits perm a.beta j ≡ F.beaverE S j
-  unfolding B.e F.beaverE F.beta
+  e-is : (j : ℕ) → j < f.l → B.e f a.bits perm a.beta j ≡ F.beaver_e S j
+  unfolding B.e F.beaver_e F.beta
   e-is j lj = ap (λ (s : Share). shares.op s (B.share f a.beta j)) (b-is S I j lj)
 
   pub msg-22 : (k : ℕ) → k < f.n → f.i ≢ k → B.faand_msg f a.bits perm triples a.alpha a.beta k ≡ F.sent22 S k
@@ -64,12 +64,12 @@ module _ (S : Seen) (I : Admissible S) where
       (λ q. two_bits_two_blocks ((d-is j lj).bit q) (e-is j lj q).bit ((d-is j lj).mac k lk ne q) ((e-is j lj q).mac k)))
 
   -- the opened d and e
-  d-opened : (j : ℕ) → j < f.l → B.d_opened f triples a.alpha (m 22) j ≡ F.beaverDOpened S j
-  unfolding B.d_opened F.beaverDOpened
+  d-opened : (j : ℕ) → j < f.l → B.d_opened f triples a.alpha (m 22) j ≡ F.beaver_d_opened S j
+  unfolding B.d_opened F.beaver_d_opened
   d-opened j lj = ap (λ (b : Bool). addb b (others bits f.i f.n (λ k. B.d_told (m 22) k j))) (d-is j lj).bit
 
-  e-opened : (j : ℕ) → j < f.l → B.e_opened f a.bits perm a.beta (m 22) j ≡ F.beaverEOpened S j
-  unfolding B.e_opened F.beaverEOpened
+  e-opened : (j : ℕ) → j < f.l → B.e_opened f a.bits perm a.beta (m 22) j ≡ F.beaver_e_opened S j
+  unfolding B.e_opened F.beaver_e_opened
   e-opened j lj = ap (λ (s : Share). addb s.bit (others bits f.i f.n (λ k. B.e_told (m 22) k j))) (e-is j lj)
 
   pub results-are : B.results f a.bits perm triples a.alpha a.beta (m 22) ≡ F.result S
@@ -81,5 +81,5 @@ module _ (S : Seen) (I : Admissible S) where
       let s : Share = B.a f triples j in
       let g : Triple = F.abc S j in
       ap₂ (λ (p q : Bool). lent_of f.n f.i (B.finish c b s p q)) (d-opened j lj) (e-opened j lj)
-      ∙ agree-lent f.n f.i _ _ (agree-finish f.n f.i c b s g.tz b g.tx (F.beaverDOpened S j) (F.beaverEOpened S j)
+      ∙ agree-lent f.n f.i _ _ (agree-finish f.n f.i c b s g.tz b g.tx (F.beaver_d_opened S j) (F.beaver_e_opened S j)
       (c-is j lj) (agree_refl f.n f.i b) (a-is j lj)))

@@ -33,7 +33,7 @@ use Rattle.rounds.specs.BucketLaws.{combine-y}
 use Rattle.rounds.specs.Beaver as Beaver
 use Rattle.alone.specs.Formula as F
 use Rattle.alone.specs.Formula.{Seen}
-use Rattle.alone.specs.Holds.{dRows, triple_rows}
+use Rattle.alone.specs.Holds.{d_rows, triple_rows}
 use Rattle.alone.specs.Given.{Admissible, small-x}
 use Rattle.alone.specs.Cells.{row-byte, part_in, encode-ext}
 use Rattle.alone.specs.FlaandLaws.{z-share-read, small-z}
@@ -204,19 +204,19 @@ module _ (S : Seen) (I : Admissible S) where
       encode-ext f.l _ _ (λ j lj. dvalue-ext (later f) _ _ _ _
       (λ e le. ap (λ (s : Share). s.bit) (d-is j e lj le)) (λ e le. ap (λ (s : Share). s.mac k) (d-is j e lj le)))
 
-  pub length-ds : length (dRows S) ≡ f.l * (bucket_size f.l - 1)
-  unfolding dRows later
+  pub length-ds : length (d_rows S) ≡ f.l * (bucket_size f.l - 1)
+  unfolding d_rows later
   length-ds = length-cat f.l (bucket_size f.l - 1) _ (λ j lj. length-tab (bucket_size f.l - 1) _)
 
   -- what DS holds
-  pub ds-is : ds f a.bits perm (m 21) ≡ dRows S
-  unfolding ds dRows d_opened F.d_opened
+  pub ds-is : ds f a.bits perm (m 21) ≡ d_rows S
+  unfolding ds d_rows d_opened F.d_opened
   ds-is =
       cat-ext f.l _ _ (λ j lj. tab-ext (later f) _ _ (λ e le.
       ap (λ (s : Share). num (addb s.bit (others bits f.i f.n (λ k. d_told f (m 21) k j e)))) (d-is j e lj le)))
 
-  d-read : (j e : ℕ) → j < f.l → e < later f → odd (get_or (dRows S) (j * later f + e) 0) ≡ F.d_opened S j e
-  unfolding dRows
+  d-read : (j e : ℕ) → j < f.l → e < later f → odd (get_or (d_rows S) (j * later f + e) 0) ≡ F.d_opened S j e
+  unfolding d_rows
   d-read j e lj le =
       let row : ℕ → List ℕ = λ j. tab (later f) (λ e. num (F.d_opened S j e)) in
       ap odd (row-byte (later f) f.l row (λ t lt. length-tab (later f) _) j e lj le ∙ get_or-tab (later f) e _ 0 le)
@@ -232,7 +232,7 @@ module _ (S : Seen) (I : Admissible S) where
       (F.leaky_and S (F.entry S j e))) (sym (entry-is j e lj le))
       (record { tx = agree_refl f.n f.i _; tz = z-share-read S I _ (entry-below j e lj le) })
 
-  abc-alike : (j : ℕ) → j < f.l → Alike f.n f.i (abc f δ a.bits zs es perm (dRows S) j) (F.abc S j)
+  abc-alike : (j : ℕ) → j < f.l → Alike f.n f.i (abc f δ a.bits zs es perm (d_rows S) j) (F.abc S j)
   unfolding abc F.abc later
   abc-alike j lj =
       let g : ℕ → Triple = leaky_and f δ a.bits zs es perm j in
@@ -242,7 +242,7 @@ module _ (S : Seen) (I : Admissible S) where
       (combine-alike f.n f.i g _ (F.d_opened S j) c (λ e le. alike j e lj (all_in f.l e le)))
 
   -- what TRIPLES holds
-  pub triples-are : B.triple_rows f δ a.bits zs es perm (dRows S) ≡ triple_rows S
+  pub triples-are : B.triple_rows f δ a.bits zs es perm (d_rows S) ≡ triple_rows S
   unfolding B.triple_rows triple_rows triple_row
   triples-are =
       cat-ext f.l _ _ (λ j lj.

@@ -23,7 +23,7 @@ use Rattle.engine.specs.StepLaws.{scan-none}
 use Rattle.engine.specs.Area.{mem}
 use Rattle.engine.specs.declared.Frame.{Frame}
 use Rattle.engine.specs.Step.{frame}
-use Rattle.engine.specs.Order.{echoIn, roundIn, nextIn}
+use Rattle.engine.specs.Order.{echo_in, round_in, next_in}
 use Rattle.engine.specs.Plain.{Echo, Table, number_of, steps_of}
 use Rattle.engine.specs.Honest.{EchoLaws, order_test, course_test, Lawful}
 use Rattle.rounds.specs.Area.{sizes, size_of}
@@ -108,10 +108,10 @@ lawful-by T n l I f e order course pending hashes = record {
 }
 
 course-ok : (two : Bool) → course_test table two ≡ true
-unfolding course_test steps_of roundIn number_of nextIn echoIn mem all_of
+unfolding course_test steps_of round_in number_of next_in echo_in mem all_of
 course-ok true = refl
 course-ok false = refl
 
 pub lawful : (n l : ℕ) → InRange n l → Lawful table n l
-unfolding order_test echoIn mem all_of size_of sizes
+unfolding order_test echo_in mem all_of size_of sizes
 lawful n l I = lawful-by table n l I refl refl refl course-ok (λ i. refl) (λ i. refl)

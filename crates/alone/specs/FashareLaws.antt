@@ -29,25 +29,25 @@ module _ (f : Frame) (m : ℕ → List ℕ) (formed : (k : ℕ) → k < f.n → 
   dues k lk ne = clean-dues f m 40 (omega arith) (ver-clean f comms m clean) k lk ne (formed k lk ne)
 
   -- dm q of party k
-  abbrev dmOf : ℕ → ℕ → List ℕ
-  dmOf k q = take (dm_len f.n) (drop (dm_at (m k) q) (m k))
+  abbrev dm_of : ℕ → ℕ → List ℕ
+  dm_of k q = take (dm_len f.n) (drop (dm_at (m k) q) (m k))
 
-  length-dmOf : (k q : ℕ) → k < f.n → f.i ≢ k → q < 40 → length (dmOf k q) ≡ dm_len f.n
-  length-dmOf k q lk ne lq =
+  length-dm_of : (k q : ℕ) → k < f.n → f.i ≢ k → q < 40 → length (dm_of k q) ≡ dm_len f.n
+  length-dm_of k q lk ne lq =
       let at : ℕ = 16 + q * (8 + dm_len f.n) in
       ap (λ o. length (take (dm_len f.n) (drop o (m k)))) (sym (dues-place f.n 40 (m k) (dues k lk ne) q at lq refl))
       ∙ length-get at (dm_len f.n) (m k) (dues_in f.n 40 (m k) (dues k lk ne) q at lq refl)
 
   pub length-dms : length (dm_rows f m) ≡ f.n * (40 * dm_len f.n)
   unfolding dm_rows
-  length-dms = length-cells f 40 (dm_len f.n) dmOf length-dmOf
+  length-dms = length-cells f 40 (dm_len f.n) dm_of length-dm_of
 
   pub dm-bit-read : (k q : ℕ) → k < f.n → f.i ≢ k → q < 40 → get_or (dm_rows f m) (dm_row f k q) 0 ≡ get_or (m k) (dm_at (m k) q) 0
   unfolding dm_rows dm_row
   dm-bit-read k q lk ne lq =
-      head-part (dm_len f.n) ((k * 40 + q) * dm_len f.n) _ (dmOf k q) (dm-some f.n)
-      (cell f 40 (dm_len f.n) dmOf length-dmOf k q lk ne lq)
-      ∙ sym (head-part (dm_len f.n) (dm_at (m k) q) (m k) (dmOf k q) (dm-some f.n) refl)
+      head-part (dm_len f.n) ((k * 40 + q) * dm_len f.n) _ (dm_of k q) (dm-some f.n)
+      (cell f 40 (dm_len f.n) dm_of length-dm_of k q lk ne lq)
+      ∙ sym (head-part (dm_len f.n) (dm_at (m k) q) (m k) (dm_of k q) (dm-some f.n) refl)
 
 -- d0, or d1 where a bit is 1
 zero-or-one : (f : Frame) (delta : Block) (recs : List ℕ) (q : ℕ) (b : Bool)
@@ -65,8 +65,8 @@ module _ (S : Seen) where
   pub msg-12 : ((k : ℕ) → k < f.n → f.i ≢ k → form_of Dms 40 (m 10 k) ≡ 0)
       → (comms : List ℕ) → (ver_faults f comms (m 10)).code ≡ 0
       → dibi_msg f (F.delta S) a.bits (dm_rows f (m 10)) ≡ F.sent12 S
-  unfolding dibi_msg F.sent12 F.di F.dmBit others1
+  unfolding dibi_msg F.sent12 F.di F.dm_bit others1
   msg-12 formed comms clean =
       encode-ext 40 _ _ (λ q lq. ap bytes_of (ap (λ (b : Bool). blocks.op (d0 f a.bits q) (sel blocks b (F.delta S)))
-      (others-ext bits f.i f.n _ (λ k. F.dmBit S k q) (λ k lk ne. ap odd (dm-bit-read f (m 10) formed comms clean k q lk ne lq)))
-      ∙ zero-or-one f (F.delta S) a.bits q (others bits f.i f.n (λ k. F.dmBit S k q))))
+      (others-ext bits f.i f.n _ (λ k. F.dm_bit S k q) (λ k lk ne. ap odd (dm-bit-read f (m 10) formed comms clean k q lk ne lq)))
+      ∙ zero-or-one f (F.delta S) a.bits q (others bits f.i f.n (λ k. F.dm_bit S k q))))

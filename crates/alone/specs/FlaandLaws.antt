@@ -26,7 +26,7 @@ use Rattle.rounds.specs.Flaand.{e, flaand_msg, e_told, u_told, e_rows, z_key, h,
 use Rattle.rounds.specs.Buckets.{z_share}
 use Rattle.alone.specs.Formula as F
 use Rattle.alone.specs.Formula.{Seen}
-use Rattle.alone.specs.Holds.{hRows}
+use Rattle.alone.specs.Holds.{h_rows}
 use Rattle.alone.specs.Given.{Admissible, small-delta, small_r}
 use Rattle.alone.specs.Base.{chunk-rows, length-rows}
 use Rattle.alone.specs.Cells.{row_block, encode-ext}
@@ -118,7 +118,7 @@ module _ (S : Seen) (I : Admissible S) where
 
   -- ---- rounds 17 and 19
   pub h-read : (t : ℕ) → t < leaky f.l → h f δ a.bits leakys zs (m 15) t ≡ F.h S t
-  unfolding h F.h F.hTerm F.z_share F.x F.r F.z F.phi z_key
+  unfolding h F.h F.h_term F.z_share F.x F.r F.z F.phi z_key
   h-read t lt =
       let s : Bool = (x f a.bits t).bit in
       let small-d = small-delta S I in
@@ -136,7 +136,7 @@ module _ (S : Seen) (I : Admissible S) where
       (sel blocks s (phi f δ a.bits t)) (sel blocks (F.z S t) δ)
 
   pub small-h : (t : ℕ) → Small (F.h S t)
-  unfolding F.h F.hTerm F.phi u_told
+  unfolding F.h F.h_term F.phi u_told
   small-h t =
       let sz = small-z t in
       let sd = small-delta S I in
@@ -150,23 +150,23 @@ module _ (S : Seen) (I : Admissible S) where
       small-told : (j t : ℕ) → Small (u_told (m 15) j t)
       small-told j t = small_at (m 15 j) (I.mail-bytes 15 j) _
 
-  pub length-hs : length (hRows S) ≡ leaky f.l * 16
-  unfolding hRows
+  pub length-hs : length (h_rows S) ≡ leaky f.l * 16
+  unfolding h_rows
   length-hs = length-cat (leaky f.l) 16 _ (λ t lt. length-bytes_of _)
 
   -- what HS holds
-  pub hs-read : hs f δ a.bits leakys zs (m 15) ≡ hRows S
-  unfolding hs hRows
+  pub hs-read : hs f δ a.bits leakys zs (m 15) ≡ h_rows S
+  unfolding hs h_rows
   hs-read = cat-ext (leaky f.l) _ _ (λ t lt. ap bytes_of (h-read t lt))
 
-  own-h : (t : ℕ) → t < leaky f.l → block_at (hRows S) (t * 16) ≡ F.h S t
-  unfolding hRows
+  own-h : (t : ℕ) → t < leaky f.l → block_at (h_rows S) (t * 16) ≡ F.h S t
+  unfolding h_rows
   own-h t lt = block_row (leaky f.l) (F.h S) t lt (small-h t)
 
-  pub msg-17 : comm_msg f (hRows S) ≡ F.sent17 S
+  pub msg-17 : comm_msg f (h_rows S) ≡ F.sent17 S
   unfolding comm_msg F.sent17
   msg-17 = encode-ext (leaky f.l) _ _ (λ t lt. ap (λ (b : Block). hash (bytes_of b)) (own-h t lt))
 
-  pub msg-19 : hash_msg f (hRows S) ≡ F.sent19 S
+  pub msg-19 : hash_msg f (h_rows S) ≡ F.sent19 S
   unfolding hash_msg F.sent19
   msg-19 = encode-ext (leaky f.l) _ _ (λ t lt. ap bytes_of (own-h t lt))

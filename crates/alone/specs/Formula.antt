@@ -46,8 +46,8 @@ module _ (S : Seen) where
   delta = block_at a.delta 0
 
   -- the seed of the toss with party k
-  unfoldable pub pairSeed : ℕ → List ℕ
-  pairSeed k = chunk 32 k a.pairs
+  unfoldable pub pair_seed : ℕ → List ℕ
+  pair_seed k = chunk 32 k a.pairs
 
   -- "Shares split in three runs x, y, r of l·b"
   unfoldable pub x : ℕ → Share
@@ -78,14 +78,14 @@ module _ (S : Seen) where
   joint_seed = Toss.joint_seed f a.seed (m 3)
 
   unfoldable pub sent4 : ℕ → List ℕ
-  sent4 k = Toss.comm_msg (pairSeed k) f.i
+  sent4 k = Toss.comm_msg (pair_seed k) f.i
 
   unfoldable pub sent5 : ℕ → List ℕ
-  sent5 k = Toss.ver_msg (pairSeed k)
+  sent5 k = Toss.ver_msg (pair_seed k)
 
   -- "a pairwise seed is the XOR of two": the one with party k
-  unfoldable pub pairwiseSeed : ℕ → List ℕ
-  pairwiseSeed k = xor_inplace (pairSeed k) (Toss.told (m 5 k))
+  unfoldable pub pairwise_seed : ℕ → List ℕ
+  pairwise_seed k = xor_inplace (pair_seed k) (Toss.told (m 5 k))
 
   -- ---- `fabitn`: round 6. "Send the chosen bits' XOR and, to k, the XOR of the chosen MACs for k."
   unfoldable pub sent6 : ℕ → List ℕ
@@ -99,11 +99,11 @@ module _ (S : Seen) where
   sent10 = Fashare.ver_msg f a.bits
 
   -- the bit of the dm that party k sent for string q: its first byte
-  unfoldable pub dmBit : ℕ → ℕ → Bool
-  dmBit k q = odd (get_or (m 10 k) (Fashare.dm_at (m 10 k) q) 0)
+  unfoldable pub dm_bit : ℕ → ℕ → Bool
+  dm_bit k q = odd (get_or (m 10 k) (Fashare.dm_at (m 10 k) q) 0)
 
   unfoldable pub di : ℕ → Block
-  di q = cond (others bits f.i f.n (λ k. dmBit k q)) (Fashare.d1 f delta a.bits q) (Fashare.d0 f a.bits q)
+  di q = cond (others bits f.i f.n (λ k. dm_bit k q)) (Fashare.d1 f delta a.bits q) (Fashare.d0 f a.bits q)
 
   unfoldable pub sent12 : List ℕ
   sent12 = encode 40 (λ q. bytes_of (di q))
@@ -141,15 +141,15 @@ module _ (S : Seen) where
   }
 
   -- "h sums over j: z's MAC and key, G(x key of j), G(x MAC for j), the received u where x is 1;"
-  unfoldable pub hTerm : ℕ → ℕ → Block
-  hTerm t j =
+  unfoldable pub h_term : ℕ → ℕ → Block
+  h_term t j =
       blocks.op
       (blocks.op (blocks.op (blocks.op ((z_share t).mac j) ((z_share t).key j)) (G ((x t).key j))) (G ((x t).mac j)))
       (sel blocks (x t).bit (Flaand.u_told (m 15) j t))
 
   -- "then phi where x is 1, delta where z is 1."
   unfoldable pub h : ℕ → Block
-  h t = blocks.op (blocks.op (others blocks f.i f.n (hTerm t)) (sel blocks (x t).bit (phi t))) (sel blocks (z t) delta)
+  h t = blocks.op (blocks.op (others blocks f.i f.n (h_term t)) (sel blocks (x t).bit (phi t))) (sel blocks (z t) delta)
 
   -- "Send BLAKE3 of h, then h."
   unfoldable pub sent17 : List ℕ
@@ -187,28 +187,28 @@ module _ (S : Seen) where
   abc j = combine (λ e. leaky_and (entry j e)) (d_opened j) (later f)
 
   -- ---- `beaver_aand`: round 22. "d = a + alpha, e = b + beta, opened; result c + d·beta + e·a."
-  unfoldable pub beaverD : ℕ → Share
-  beaverD j = shares.op (abc j).tx (alpha j)
+  unfoldable pub beaver_d : ℕ → Share
+  beaver_d j = shares.op (abc j).tx (alpha j)
 
-  unfoldable pub beaverE : ℕ → Share
-  beaverE j = shares.op (abc j).ty (beta j)
+  unfoldable pub beaver_e : ℕ → Share
+  beaver_e j = shares.op (abc j).ty (beta j)
 
   unfoldable pub sent22 : ℕ → List ℕ
-  sent22 k = encode f.l (λ j. two_bits_two_blocks (beaverD j).bit (beaverE j).bit ((beaverD j).mac k) ((beaverE j).mac k))
+  sent22 k = encode f.l (λ j. two_bits_two_blocks (beaver_d j).bit (beaver_e j).bit ((beaver_d j).mac k) ((beaver_e j).mac k))
 
-  unfoldable pub beaverDOpened : ℕ → Bool
-  beaverDOpened j = addb (beaverD j).bit (others bits f.i f.n (λ k. Beaver.d_told (m 22) k j))
+  unfoldable pub beaver_d_opened : ℕ → Bool
+  beaver_d_opened j = addb (beaver_d j).bit (others bits f.i f.n (λ k. Beaver.d_told (m 22) k j))
 
-  unfoldable pub beaverEOpened : ℕ → Bool
-  beaverEOpened j = addb (beaverE j).bit (others bits f.i f.n (λ k. Beaver.e_told (m 22) k j))
+  unfoldable pub beaver_e_opened : ℕ → Bool
+  beaver_e_opened j = addb (beaver_e j).bit (others bits f.i f.n (λ k. Beaver.e_told (m 22) k j))
 
   unfoldable pub result_share : ℕ → Share
-  result_share j = Beaver.finish (abc j).tz (beta j) (abc j).tx (beaverDOpened j) (beaverEOpened j)
+  result_share j = Beaver.finish (abc j).tz (beta j) (abc j).tx (beaver_d_opened j) (beaver_e_opened j)
 
   -- ---- echoes, of what was received for round k: "`hash_vec` .. of every other list received, sent to all but its sender." "The message
   -- is a list of n options, absent for the box itself and for the receiver."
-  unfoldable pub echoOf : ℕ → ℕ → List ℕ
-  echoOf k r = encode f.n (λ j. pick (neq f.i j && neq r j) (some_item (hash_vec k (m k j))) none_item)
+  unfoldable pub echo_of : ℕ → ℕ → List ℕ
+  echo_of k r = encode f.n (λ j. pick (neq f.i j && neq r j) (some_item (hash_vec k (m k j))) none_item)
 
   -- ---- in all
   -- the message of round k, which is no echo, to party j

@@ -44,12 +44,12 @@ module _ (S : Seen) where
   f = party S.inputs
 
   -- own h, one after another
-  unfoldable pub hRows : List ℕ
-  hRows = cat (leaky f.l) (λ t. bytes_of (F.h S t))
+  unfoldable pub h_rows : List ℕ
+  h_rows = cat (leaky f.l) (λ t. bytes_of (F.h S t))
 
   -- the opened d of each bucket
-  unfoldable pub dRows : List ℕ
-  dRows = cat f.l (λ j. tab (Buckets.later f) (λ e. num (F.d_opened S j e)))
+  unfoldable pub d_rows : List ℕ
+  d_rows = cat f.l (λ j. tab (Buckets.later f) (λ e. num (F.d_opened S j e)))
 
   -- a and c of each bucket
   unfoldable pub triple_rows : List ℕ
@@ -61,13 +61,13 @@ module _ (S : Seen) where
       pick (eqb s DELTA) a.delta (pick (eqb s SEED) a.seed (pick (eqb s PAIRS) a.pairs (pick (eqb s MASKS) a.masks
       (pick (eqb s BITS) a.bits (pick (eqb s ALPHA) a.alpha (pick (eqb s BETA) a.beta
       (pick (eqb s COMMS) (Toss.told_rows f (m 1)) (pick (eqb s JOINT) (F.joint_seed S)
-      (pick (eqb s PAIR_COMMS) (Toss.told_rows f (m 4)) (pick (eqb s PAIRWISE) (rows f 32 (F.pairwiseSeed S))
+      (pick (eqb s PAIR_COMMS) (Toss.told_rows f (m 4)) (pick (eqb s PAIRWISE) (rows f 32 (F.pairwise_seed S))
       (pick (eqb s KEY_SUMS) (Fabitn.key_sums f strings a.bits)
       (pick (eqb s SHARE_COMMS) (Fashare.comm_rows f (m 8)) (pick (eqb s DMS) (Fashare.dm_rows f (m 10))
       (pick (eqb s LEAKY) (Haand.leaky_rows f (F.delta S) a.bits)
       (pick (eqb s ZS) (Haand.z_rows f a.masks a.bits (m 14))
-      (pick (eqb s ES) (Flaand.e_rows f (m 15)) (pick (eqb s HS) hRows (pick (eqb s H_COMMS) (Flaand.comm_rows f (m 17))
-      (pick (eqb s PERM) (Buckets.perm_bytes f (F.joint_seed S)) (pick (eqb s DS) dRows (pick (eqb s TRIPLES) triple_rows
+      (pick (eqb s ES) (Flaand.e_rows f (m 15)) (pick (eqb s HS) h_rows (pick (eqb s H_COMMS) (Flaand.comm_rows f (m 17))
+      (pick (eqb s PERM) (Buckets.perm_bytes f (F.joint_seed S)) (pick (eqb s DS) d_rows (pick (eqb s TRIPLES) triple_rows
       (replicate (size_of f s) 0))))))))))))))))))))))
 
   -- all of it

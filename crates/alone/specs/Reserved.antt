@@ -14,10 +14,10 @@ use Rattle.engine.specs.declared.Frame.{Frame}
 use Rattle.engine.specs.declared.Session.{Session}
 use Rattle.engine.specs.Step.{Lent, Fault, none?, Reply, Accepted, Refused, Outcome, other, mask, gone, part, or_else, scan, by_party, form_fault, fault_of, accepted}
 use Rattle.engine.specs.Step.{lengths_due, reason_of, round_spec}
-use Rattle.engine.specs.StepLaws.{round-cases, round-faults, due_of_lem}
-use Rattle.engine.specs.Plain.{waiting, prior, isEcho, next_of, toEcho, formAt, pending, hashes, echoCheck, checkOf, ruleOf, protocolOf, lent_of}
+use Rattle.engine.proofs.RoundLaws.{round-cases, round-faults, due_of_lem}
+use Rattle.engine.specs.Plain.{waiting, prior, is_echo, next_of, to_echo, form_at, pending, hashes, echo_check, check_of, rule_of, protocol_of, lent_of}
 use Rattle.engine.specs.Area.{mem, sec}
-use Rattle.engine.specs.Order.{roundIn}
+use Rattle.engine.specs.Order.{round_in}
 use Rattle.plan.specs.Plan.{FABITN, the_rounds}
 use Rattle.rounds.specs.Area.{ROUNDS_OWN, size_of}
 use Rattle.rounds.specs.Echo.{entry_fault, echo_fault, echo}
@@ -33,11 +33,11 @@ none_is false false true lent e = omega arith
 none_is false false false true e = omega arith
 none_is false false false false e = omega arith
 
-pub never-18 : (s : Session) (k : ℕ) (q : Lent) (w : List ℕ) → reason_of (protocolOf table) s k q w ≢ 18
+pub never-18 : (s : Session) (k : ℕ) (q : Lent) (w : List ℕ) → reason_of (protocol_of table) s k q w ≢ 18
 unfolding reason_of lent_of lent
 never-18 s k q w =
-    none_is (not ((protocolOf table).alive s)) (not (eqb k s.due))
-    (not (lengths_due ((protocolOf table).work_len s.party) (((protocolOf table).rule k).out_len s.party) s.party q w))
+    none_is (not ((protocol_of table).alive s)) (not (eqb k s.due))
+    (not (lengths_due ((protocol_of table).work_len s.party) (((protocol_of table).rule k).out_len s.party) s.party q w))
     (pick (eqb (next_of table (eqb s.party.n 2) k) FABITN) (r_fits s.party.l (length q.loan.r)) (eqb (length q.loan.r) 0))
 
 -- ---- received faults
@@ -79,10 +79,10 @@ free-form K c m = go (read_of K m)
     go (Value v used) =
         free-pick (eqb used (length m)) _ 21 (free-pick (counts_due K c v) 0 6 zero-free (λ e. omega arith)) (λ e. omega arith)
 
-free-formed : (f : Frame) (k : ℕ) (q : Lent) (j : ℕ) → Free (form_fault (ruleOf table k) f q j)
-unfolding form_fault formAt echo
+free-formed : (f : Frame) (k : ℕ) (q : Lent) (j : ℕ) → Free (form_fault (rule_of table k) f q j)
+unfolding form_fault form_at echo
 free-formed f k q j =
-    free-pick (gone q j) 14 _ (λ e. omega arith) (free-pick (isEcho table k) _ _ (free-form _ _ (part q j)) (free-form _ _ (part q j)))
+    free-pick (gone q j) 14 _ (λ e. omega arith) (free-pick (is_echo table k) _ _ (free-form _ _ (part q j)) (free-form _ _ (part q j)))
 
 -- an echo's: 3, 7
 free-entry : (rows m : List ℕ) (k : ℕ) → Free (entry_fault rows m k)
@@ -133,30 +133,30 @@ free-pending : (f : Frame) (k : ℕ) (w : List ℕ) → Free (pending table k f 
 unfolding pending
 free-pending f k w = free-waiting (prior k) f.n (sec (size_of f) ROUNDS_OWN w)
 
-free-check : (f : Frame) → f.i < f.n → (k : ℕ) (w : List ℕ) (m : ℕ → List ℕ) → Free (checkOf table k f w m).code
-unfolding checkOf echoCheck echo
+free-check : (f : Frame) → f.i < f.n → (k : ℕ) (w : List ℕ) (m : ℕ → List ℕ) → Free (check_of table k f w m).code
+unfolding check_of echo_check echo
 free-check f h k w m =
     let told : Fault = by_party f (λ j. echo_fault f.n f.i j (hashes table f w) (m j)) in
-    either (isEcho table k) (or_else told (pending table k f w)) (pick (toEcho table (eqb f.n 2) k) none? (judge k f w m))
+    either (is_echo table k) (or_else told (pending table k f w)) (pick (to_echo table (eqb f.n 2) k) none? (judge k f w m))
     (free_or told (pending table k f w) (free-by f _ (λ j. free-echo f.n f.i j (hashes table f w) (m j))) (free-pending f k w))
-    (either (toEcho table (eqb f.n 2) k) none? (judge k f w m) zero-free (free-judged f h k w m))
+    (either (to_echo table (eqb f.n 2) k) none? (judge k f w m) zero-free (free-judged f h k w m))
 
-free-fault : (f : Frame) → f.i < f.n → (k : ℕ) (q : Lent) (w : List ℕ) → Free (fault_of (ruleOf table k) f q w).code
+free-fault : (f : Frame) → f.i < f.n → (k : ℕ) (q : Lent) (w : List ℕ) → Free (fault_of (rule_of table k) f q w).code
 unfolding fault_of
 free-fault f h k q w =
-    free_or (by_party f (form_fault (ruleOf table k) f q)) (checkOf table k f w (mask f (part q))) (free-by f _ (free-formed f k q))
+    free_or (by_party f (form_fault (rule_of table k) f q)) (check_of table k f w (mask f (part q))) (free-by f _ (free-formed f k q))
     (free-check f h k w (mask f (part q)))
 
 -- ---- the call
 -- a session that is alive has an own number below n
-own_below : (s : Session) → (protocolOf table).alive s ≡ true → s.party.i < s.party.n
+own_below : (s : Session) → (protocol_of table).alive s ≡ true → s.party.i < s.party.n
 unfolding fine
 own_below s h =
     let f : Frame = s.party in
     let some : Bool = leb 2 f.n && leb f.n 8 in
     let own : Bool = ltb f.i f.n in
     let one : Bool = leb 1 f.l in
-    let a = and_both (some && own && one && leb f.l 300000 && whole f.l s.counts) (roundIn the_rounds (eqb f.n 2) s.due) h in
+    let a = and_both (some && own && one && leb f.l 300000 && whole f.l s.counts) (round_in the_rounds (eqb f.n 2) s.due) h in
     let d = and_both (some && own && one && leb f.l 300000) (whole f.l s.counts) a.0 in
     let b = and_both (some && own && one) (leb f.l 300000) d.0 in
     let c = and_both (some && own) one b.0 in
@@ -173,12 +173,12 @@ numbers e = ap number_of e
 accepted-not : {p : ℕ} → Accepted ≡ Refused 18 p → ⊥
 accepted-not e = let z : ◌≡◌ {A = ℕ} 0 18 = ap number_of e in omega arith
 
-pub no-18 : (s : Session) (k : ℕ) (q : Lent) (w : List ℕ) (p : ℕ) → (round_spec (protocolOf table) s k q w).reply ≢ Refused 18 p
+pub no-18 : (s : Session) (k : ℕ) (q : Lent) (w : List ℕ) (p : ℕ) → (round_spec (protocol_of table) s k q w).reply ≢ Refused 18 p
 unfolding accepted
 no-18 s k q w p =
-    round-cases (protocolOf table) s k q w (λ (o : Outcome). o.reply ≢ Refused 18 p)
+    round-cases (protocol_of table) s k q w (λ (o : Outcome). o.reply ≢ Refused 18 p)
     (λ ne e. never-18 s k q w (numbers e))
     (λ z ne e.
-    free-fault s.party (own_below s (due_of_lem (protocolOf table) s k q w z).alive) k q w
-    (numbers (sym (ap (λ (o : Outcome). o.reply) (round-faults (protocolOf table) s k q w z ne)) ∙ e)))
+    free-fault s.party (own_below s (due_of_lem (protocol_of table) s k q w z).alive) k q w
+    (numbers (sym (ap (λ (o : Outcome). o.reply) (round-faults (protocol_of table) s k q w z ne)) ∙ e)))
     (λ z f e. accepted-not e)

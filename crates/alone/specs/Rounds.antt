@@ -14,13 +14,13 @@ use Rattle.block.specs.Block.{block_at, xor_inplace}
 use Rattle.block.specs.Trip.{length-bytes_of}
 use Rattle.message.specs.declared.Kind.TheVariants.{Items, Dms}
 use Rattle.message.specs.Format.{form_of}
-use Rattle.message.specs.FormatLaws.{fixed}
+use Rattle.message.proofs.FormLaws.{fixed}
 use Rattle.plan.specs.Plan.{kind_of, count_due, leaky}
 use Rattle.engine.specs.declared.Frame.{Frame}
 use Rattle.engine.specs.Step.{Loan}
 use Rattle.engine.specs.Area.{mem, length-sec}
 use Rattle.engine.specs.Sheet.{stays_test}
-use Rattle.engine.specs.Order.{echoIn}
+use Rattle.engine.specs.Order.{echo_in}
 use Rattle.engine.specs.Honest.{before, due, plain_after}
 use Rattle.engine.specs.Alone.{Tale}
 use Rattle.engine.specs.Alone as Alone
@@ -33,12 +33,12 @@ use Rattle.rounds.specs.Fabitn as Fabitn
 use Rattle.rounds.specs.Fashare as Fashare
 use Rattle.rounds.specs.Haand as Haand
 use Rattle.rounds.specs.Flaand as Flaand
-use Rattle.rounds.specs.FlaandLaws.{length-ownComms}
+use Rattle.rounds.specs.FlaandLaws.{length-own_comms}
 use Rattle.rounds.specs.Buckets as Buckets
 use Rattle.rounds.specs.Beaver as Beaver
 use Rattle.alone.specs.Formula as F
 use Rattle.alone.specs.Formula.{Seen}
-use Rattle.alone.specs.Holds.{since, store_of, hRows, dRows, triple_rows, holds, tale}
+use Rattle.alone.specs.Holds.{since, store_of, h_rows, d_rows, triple_rows, holds, tale}
 use Rattle.alone.specs.Given.{Admissible}
 use Rattle.alone.specs.Base.{length-rows, has-at, Fit, keep-none, keep-free, keep_one, keep_two}
 use Rattle.alone.specs.Cells.{length-cells}
@@ -152,7 +152,7 @@ module _ (a : Args) (q : ℕ → Loan) (m : ℕ → ℕ → List ℕ) (I : Admis
     unfolding holds since
     es-at r = has ES K refl r
 
-    hs-at : leb (before 17) t ≡ true → at f HS w ≡ hRows S
+    hs-at : leb (before 17) t ≡ true → at f HS w ≡ h_rows S
     unfolding holds since
     hs-at r = has HS K refl r
 
@@ -160,7 +160,7 @@ module _ (a : Args) (q : ℕ → Loan) (m : ℕ → ℕ → List ℕ) (I : Admis
     unfolding holds since
     perm_at r = has PERM K refl r
 
-    ds-at : leb (before 22) t ≡ true → at f DS w ≡ dRows S
+    ds-at : leb (before 22) t ≡ true → at f DS w ≡ d_rows S
     unfolding holds since
     ds-at r = has DS K refl r
 
@@ -193,7 +193,7 @@ module _ (a : Args) (q : ℕ → Loan) (m : ℕ → ℕ → List ℕ) (I : Admis
   fit-pair-comms formed = (omega arith, λ i li. toss-rows 4 formed)
 
   fit-pairwise : fits PAIRWISE
-  unfolding holds size_of sizes F.pairwiseSeed F.pairSeed xor_inplace
+  unfolding holds size_of sizes F.pairwise_seed F.pair_seed xor_inplace
   fit-pairwise = (
     omega arith,
     λ i li. length-rows f 32 _ (λ k lk ne.
@@ -201,7 +201,7 @@ module _ (a : Args) (q : ℕ → Loan) (m : ℕ → ℕ → List ℕ) (I : Admis
   )
 
   pub recv-1 : RecvAt 1
-  unfolding plain_after echoIn stays_test all_of mem since holds kept
+  unfolding plain_after echo_in stays_test all_of mem since holds kept
   recv-1 past p = fill (due 1) (before 3) COMMS p.known refl (fit-comms p.formed) refl
 
   pub send-3 : SendAt 3
@@ -212,30 +212,30 @@ module _ (a : Args) (q : ℕ → Loan) (m : ℕ → ℕ → List ℕ) (I : Admis
   }
 
   pub recv-3 : RecvAt 3
-  unfolding plain_after echoIn stays_test all_of mem since holds kept F.joint_seed
+  unfolding plain_after echo_in stays_test all_of mem since holds kept F.joint_seed
   recv-3 past p =
       fill (due 3) (before 4) JOINT p.known refl fit-joint (ap (λ (s : List ℕ). Toss.joint_seed f s (m 3)) (seed-at p.known))
 
   pub send-4 : SendAt 4
-  unfolding stays_test all_of mem since held written F.sent F.sent4 F.pairSeed
+  unfolding stays_test all_of mem since held written F.sent F.sent4 F.pair_seed
   send-4 = record {
     keeps = λ past z w K. stays (before 4) (due 4) K refl;
     writes = λ past z w K j lj ne. ap (λ (s : List ℕ). Toss.comm_msg (chunk 32 j s) f.i) (pairs-at K);
   }
 
   pub recv-4 : RecvAt 4
-  unfolding plain_after echoIn stays_test all_of mem since holds kept
+  unfolding plain_after echo_in stays_test all_of mem since holds kept
   recv-4 past p = fill (due 4) (before 5) PAIR_COMMS p.known refl (fit-pair-comms p.formed) refl
 
   pub send-5 : SendAt 5
-  unfolding stays_test all_of mem since held written F.sent F.sent5 F.pairSeed
+  unfolding stays_test all_of mem since held written F.sent F.sent5 F.pair_seed
   send-5 = record {
     keeps = λ past z w K. stays (before 5) (due 5) K refl;
     writes = λ past z w K j lj ne. ap (λ (s : List ℕ). Toss.ver_msg (chunk 32 j s)) (pairs-at K);
   }
 
   pub recv-5 : RecvAt 5
-  unfolding plain_after echoIn stays_test all_of mem since holds kept F.pairwiseSeed F.pairSeed Toss.pairwise_seeds
+  unfolding plain_after echo_in stays_test all_of mem since holds kept F.pairwise_seed F.pair_seed Toss.pairwise_seeds
   recv-5 past p =
       fill (due 5) (before 6) PAIRWISE p.known refl fit-pairwise
       (ap (λ (s : List ℕ). Toss.pairwise_seeds f s (m 5)) (pairs-at p.known))
@@ -253,7 +253,7 @@ module _ (a : Args) (q : ℕ → Loan) (m : ℕ → ℕ → List ℕ) (I : Admis
   }
 
   pub recv-6 : RecvAt 6
-  unfolding plain_after echoIn stays_test all_of mem since kept
+  unfolding plain_after echo_in stays_test all_of mem since kept
   recv-6 past p = stays (due 6) (before 8) p.known refl
 
   -- ---- `fashare`: rounds 8, 10, 12
@@ -275,7 +275,7 @@ module _ (a : Args) (q : ℕ → Loan) (m : ℕ → ℕ → List ℕ) (I : Admis
 
   -- round 10, once round 12's messages are made
   tenth : Past 12 → Passed 10
-  unfolding echoIn mem
+  unfolding echo_in mem
   tenth past = past 10 (omega arith) (omega arith) refl
 
   fit-dms : Formed 10 → (w : List ℕ) → Judged 10 w → fits DMS
@@ -290,7 +290,7 @@ module _ (a : Args) (q : ℕ → Loan) (m : ℕ → ℕ → List ℕ) (I : Admis
   }
 
   pub recv-8 : RecvAt 8
-  unfolding plain_after echoIn stays_test all_of mem since holds kept
+  unfolding plain_after echo_in stays_test all_of mem since holds kept
   recv-8 past p = fill (due 8) (before 10) SHARE_COMMS p.known refl (fit-share-comms p.formed) refl
 
   pub send-10 : SendAt 10
@@ -301,7 +301,7 @@ module _ (a : Args) (q : ℕ → Loan) (m : ℕ → ℕ → List ℕ) (I : Admis
   }
 
   pub recv-10 : RecvAt 10
-  unfolding plain_after echoIn stays_test all_of mem since holds kept
+  unfolding plain_after echo_in stays_test all_of mem since holds kept
   recv-10 past p = fill (due 10) (before 12) DMS p.known refl (fit-dms p.formed p.work p.judged) refl
 
   pub send-12 : SendAt 12
@@ -315,7 +315,7 @@ module _ (a : Args) (q : ℕ → Loan) (m : ℕ → ℕ → List ℕ) (I : Admis
   }
 
   pub recv-12 : RecvAt 12
-  unfolding plain_after echoIn stays_test all_of mem since kept
+  unfolding plain_after echo_in stays_test all_of mem since kept
   recv-12 past p = stays (due 12) (before 14) p.known refl
 
   -- ---- `fhaand`: round 14
@@ -335,7 +335,7 @@ module _ (a : Args) (q : ℕ → Loan) (m : ℕ → ℕ → List ℕ) (I : Admis
   }
 
   pub recv-14 : RecvAt 14
-  unfolding plain_after echoIn stays_test all_of mem since holds kept
+  unfolding plain_after echo_in stays_test all_of mem since holds kept
   recv-14 past p =
       fill (due 14) (before 15) ZS p.known refl fit-zs
       (ap₂ (λ (s t : List ℕ). Haand.z_rows f s t (m 14)) (masks-at p.known) (bits_at p.known))
@@ -366,7 +366,7 @@ module _ (a : Args) (q : ℕ → Loan) (m : ℕ → ℕ → List ℕ) (I : Admis
   }
 
   pub recv-15 : RecvAt 15
-  unfolding plain_after echoIn stays_test all_of mem since holds kept
+  unfolding plain_after echo_in stays_test all_of mem since holds kept
   recv-15 past p =
       let K = p.known in
       keep_two f.n f.l vals (due 15) (before 17) f.i I.own K HS ES _ _ refl fit-hs fit-es
@@ -375,7 +375,7 @@ module _ (a : Args) (q : ℕ → Loan) (m : ℕ → ℕ → List ℕ) (I : Admis
   -- the own commitments wait in the own row
   own-long : (w : List ℕ) → At (before 17) w → length (Flaand.own_comms f (at f HS w) (at f H_COMMS w)) ≡ size_of f H_COMMS
   unfolding at size_of sizes
-  own-long w K = length-ownComms f (at f HS w) (at f H_COMMS w) I.own (length-sec (size_of f) SECTIONS w K.long H_COMMS (omega arith))
+  own-long w K = length-own_comms f (at f HS w) (at f H_COMMS w) I.own (length-sec (size_of f) SECTIONS w K.long H_COMMS (omega arith))
 
   pub send-17 : SendAt 17
   unfolding stays_test all_of mem since held written F.sent
@@ -386,7 +386,7 @@ module _ (a : Args) (q : ℕ → Loan) (m : ℕ → ℕ → List ℕ) (I : Admis
   }
 
   pub recv-17 : RecvAt 17
-  unfolding plain_after echoIn stays_test all_of mem since holds kept
+  unfolding plain_after echo_in stays_test all_of mem since holds kept
   recv-17 past p = fill (due 17) (before 19) H_COMMS p.known refl (fit-h-comms p.formed) refl
 
   pub send-19 : SendAt 19
@@ -397,7 +397,7 @@ module _ (a : Args) (q : ℕ → Loan) (m : ℕ → ℕ → List ℕ) (I : Admis
   }
 
   pub recv-19 : RecvAt 19
-  unfolding plain_after echoIn stays_test all_of mem since kept
+  unfolding plain_after echo_in stays_test all_of mem since kept
   recv-19 past p = stays (due 19) (before 21) p.known refl
 
   -- ---- buckets: round 21
@@ -422,7 +422,7 @@ module _ (a : Args) (q : ℕ → Loan) (m : ℕ → ℕ → List ℕ) (I : Admis
   }
 
   pub recv-21 : RecvAt 21
-  unfolding plain_after echoIn stays_test all_of mem since holds kept
+  unfolding plain_after echo_in stays_test all_of mem since holds kept
   recv-21 past p =
       let K = p.known in
       fill (due 21) (before 22) DS K refl fit-ds

@@ -19,12 +19,13 @@ use Rattle.engine.specs.declared.Frame.{Frame}
 use Rattle.engine.specs.Step.{frame, Loan, Outcome, other, mask, part}
 use Rattle.engine.specs.World.{Box, session_of}
 use Rattle.engine.specs.Area.{to_others, to_others-ext, mem, also}
-use Rattle.engine.specs.Order.{echoIn}
-use Rattle.engine.specs.Plain.{rows_of, prior, isEcho, number_of, digests, protocolOf}
-use Rattle.engine.specs.PlainLaws.{chunk-rows}
+use Rattle.engine.specs.Order.{echo_in}
+use Rattle.engine.specs.Plain.{rows_of, prior, is_echo, number_of, digests, protocol_of}
+use Rattle.engine.proofs.PlainLaws.{chunk-rows}
 use Rattle.engine.specs.Honest.{due, plain_after}
-use Rattle.engine.specs.Alone.{Tale, wroteFor, sureAt, Lives, State, lives, over, Told, Duties, AsTold, first, all_told}
-use Rattle.engine.specs.OneBox.{Turn, turn_box, turns, AllRead, taken, answer, received, lentWith, all-received}
+use Rattle.engine.specs.Alone.{Tale}
+use Rattle.engine.proofs.AloneLaws.{wrote_for, sure_at, Lives, State, lives, over, Told, Duties, AsTold, first, all_told}
+use Rattle.engine.specs.OneBox.{Turn, turn_box, turns, AllRead, taken, answer, received, lent_with, all-received}
 use Rattle.rounds.specs.Area.{ROUNDS_OWN, at}
 use Rattle.rounds.specs.Echo.{hash_vec, echo_msg, echo}
 use Rattle.rounds.specs.Opening.{Args, party, reason, kept, spec}
@@ -61,7 +62,7 @@ module _ (a : Args) (q : ℕ → Loan) (m : ℕ → ℕ → List ℕ) where
 
   module _ (I : Admissible S) where
     duties : Duties table f.n f.l f.i U m q
-    unfolding echoIn mem all_of plain_after Found
+    unfolding echo_in mem all_of plain_after Found
     duties = record {
       lawful = lawful f.n f.l I.range;
       own = I.own;
@@ -113,7 +114,7 @@ module _ (a : Args) (q : ℕ → Loan) (m : ℕ → ℕ → List ℕ) where
 
     -- for every list of calls of which the accepted ones read m and are lent q
     pub told-alone : (cs : List Turn) → AllRead table f.n f.l f.i m q (opened_box a) cs
-        → Told table f.n f.l f.i U m q (tally a.counts) (turns (protocolOf table) (opened_box a) cs)
+        → Told table f.n f.l f.i U m q (tally a.counts) (turns (protocol_of table) (opened_box a) cs)
     told-alone cs r = all_told table f.n f.l f.i U m q (duties I) (tally a.counts) cs (opened_box a) start r
 
 -- ---- an echo without the rows of hashes
@@ -123,8 +124,8 @@ module _ (S : Seen) (k r : ℕ) where
   abbrev g : Frame
   g = party S.inputs
 
-  echo-read : echo_msg g.n g.i (digests table k g (m k)) r ≡ F.echoOf S k r
-  unfolding echo_msg digests F.echoOf some_item none_item
+  echo-read : echo_msg g.n g.i (digests table k g (m k)) r ≡ F.echo_of S k r
+  unfolding echo_msg digests F.echo_of some_item none_item
   echo-read = encode-ext g.n _ _ (λ j lj. go j lj (neq g.i j) (apart? g.i j))
     where
       h : ℕ → List ℕ
@@ -148,14 +149,14 @@ received-bytes : (n l i : ℕ) (x : Box) (cs : List Turn) → ByteCalls cs → (
 unfolding mask part
 received-bytes n l i x [] h k j = bytes-nil
 received-bytes n l i x (c ∷ cs) h k j =
-    go (taken (answer table n l i x c) && eqb k c.number) (received-bytes n l i (turn_box (protocolOf table) x c) cs h.1 k j)
+    go (taken (answer table n l i x c) && eqb k c.number) (received-bytes n l i (turn_box (protocol_of table) x c) cs h.1 k j)
   where
     masked : (b : Bool) → Bytes (pick b (part c.lent j) [])
     masked true = bytes_take (get_or c.lent.lens j 0) _ (bytes_drop (get_or c.lent.starts j 0) c.lent.incoming h.0)
     masked false = bytes-nil
 
-    go : (b : Bool) → Bytes (received table n l i (turn_box (protocolOf table) x c) cs k j)
-        → Bytes (pick b (mask (frame n l i) (part c.lent) j) (received table n l i (turn_box (protocolOf table) x c) cs k j))
+    go : (b : Bool) → Bytes (received table n l i (turn_box (protocol_of table) x c) cs k j)
+        → Bytes (pick b (mask (frame n l i) (part c.lent) j) (received table n l i (turn_box (protocol_of table) x c) cs k j))
     go true r = masked (other (frame n l i) j)
     go false r = r
 
@@ -171,7 +172,7 @@ module _ (a : Args) (cs : List Turn) where
 
   -- the box after the calls, and the round that is due then, 0 after the last
   abbrev pub box : Box
-  box = turns (protocolOf table) (opened_box a) cs
+  box = turns (protocol_of table) (opened_box a) cs
 
   abbrev pub number : ℕ
   number = number_of table (eqb n 2) box.rounds
@@ -181,7 +182,7 @@ module _ (a : Args) (cs : List Turn) where
   mail = received table n l i (opened_box a) cs
 
   abbrev pub loans : ℕ → Loan
-  loans = lentWith table n l i (opened_box a) cs
+  loans = lent_with table n l i (opened_box a) cs
 
   -- the box goes by its inputs as it keeps them
   abbrev pub seen : Seen
@@ -190,26 +191,26 @@ module _ (a : Args) (cs : List Turn) where
   -- The moment up to which the sections are filled for sure: while an echo is due, a fault in the messages that it is about may still drop
   -- what was kept of them
   abbrev pub sure : ℕ
-  sure = pick (isEcho table number) (due (prior number)) (due number)
+  sure = pick (is_echo table number) (due (prior number)) (due number)
 
   -- What the last accepted call wrote: the messages of the round that is due, if it is no echo; the echo of what was read for the round
   -- before; the results. A session that lives has that round due, and what each section that was filled by then holds is the formula's; one
   -- that is over has a work area of zeros.
   pub record Claim : Type 0 where
-    pub messages : number ≢ 0 → isEcho table number ≡ false → box.wrote ≡ to_others n i (F.sent seen number)
-    pub echoes : isEcho table number ≡ true → box.wrote ≡ to_others n i (F.echoOf seen (prior number))
+    pub messages : number ≢ 0 → is_echo table number ≡ false → box.wrote ≡ to_others n i (F.sent seen number)
+    pub echoes : is_echo table number ≡ true → box.wrote ≡ to_others n i (F.echo_of seen (prior number))
     pub results : number ≡ 0 → box.wrote ≡ F.result seen
     pub session-is : box.session.due ≢ 0 → box.session ≡ session_of n l (tally a.counts) i number
     pub sections : box.session.due ≢ 0 → (s : ℕ) → s < ROUNDS_OWN → since s ≤ sure
         → at (party a) s box.work ≡ holds seen s
     pub zeros : box.session.due ≡ 0 → box.work ≡ replicate (length box.work) 0
 
-  never-echo-zero : isEcho table 0 ≡ false
-  unfolding echoIn mem
+  never-echo-zero : is_echo table 0 ≡ false
+  unfolding echo_in mem
   never-echo-zero = refl
 
   claim : Told table n l i (tale seen) mail loans (tally a.counts) box → Claim
-  unfolding wroteFor sureAt at echo
+  unfolding wrote_for sure_at at echo
   claim t = record {
     messages = λ h e. t.wrote-is ∙ rw (ne_eqb number 0 h, e) refl;
     echoes = λ e. t.wrote-is ∙ rw (ne_eqb number 0 (some e), e)
@@ -220,8 +221,8 @@ module _ (a : Args) (cs : List Turn) where
     zeros = λ z. dead z t.state;
   }
     where
-      some : isEcho table number ≡ true → number ≢ 0
-      some e z = true-false (sym e ∙ ap (isEcho table) z ∙ never-echo-zero)
+      some : is_echo table number ≡ true → number ≢ 0
+      some e z = true-false (sym e ∙ ap (is_echo table) z ∙ never-echo-zero)
 
       live : box.session.due ≢ 0 → State table n l i (tale seen) mail loans (tally a.counts) box
           → Lives table n l i (tale seen) mail loans (tally a.counts) box

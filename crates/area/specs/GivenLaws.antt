@@ -5,7 +5,7 @@ use Rattle.std.proofs.Common.{ap, ◌∙◌, add-mul, mul-le-mul_right, arith}
 use Rattle.lists.specs.Sect.{get, put, length-get}
 use Rattle.lists.specs.Over.{in-chunks}
 use Rattle.engine.specs.declared.Frame.{Frame}
-use Rattle.engine.specs.Area.{off, section-before, sec, putSec, length-sec, sec-same, sec-other}
+use Rattle.engine.specs.Area.{off, section-before, sec, put_sec, length-sec, sec-same, sec-other}
 use Rattle.rounds.specs.Area.{SECTIONS, size_of, work_len, at, keep}
 use Rattle.area.specs.Given.{Work, Place}
 
@@ -20,7 +20,7 @@ module _ (f : Frame) (s a e : ℕ) (p : Place f s a e) where
 
   -- what is written there is the section from now on
   pub place-keeps : (x w : List ℕ) → put a (e - a) x w ≡ keep f s x w
-  unfolding keep putSec
+  unfolding keep put_sec
   place-keeps x w = rw (place-size, p.starts) refl
 
 module _ {f : Frame} {w : List ℕ} (h : Work f w) where

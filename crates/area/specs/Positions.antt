@@ -32,9 +32,9 @@ module _ (f : Frame) (recs : List ℕ) (whole : length recs ≡ bits_count f.l *
       let e = in-record j (bits_count f.l) (record_len f.n) 0 (record_len f.n) (length recs) h (omega arith) (omega (arith, whole)) in
       omega (arith, e)
 
-  pub x-in : t * record_len f.n + record_len f.n ≤ length recs
+  pub x_in_lem : t * record_len f.n + record_len f.n ≤ length recs
   unfolding bits_count
-  x-in = record-in t (omega (arith, b))
+  x_in_lem = record-in t (omega (arith, b))
 
   pub y-in : (leaky f.l + t) * record_len f.n + record_len f.n ≤ length recs
   unfolding bits_count

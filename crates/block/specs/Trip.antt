@@ -167,12 +167,12 @@ module _ (b0 b1 b2 b3 b4 b5 b6 b7 : ℕ) (h0 : b0 < 256) (h1 : b1 < 256) (h2 : b
   abbrev w : ℕ
   w = le_of b0 b1 b2 b3 b4 b5 b6 b7
 
-  small-leOf : w < 2 ^ 64
-  small-leOf = omega arith
+  small-le_of : w < 2 ^ 64
+  small-le_of = omega arith
 
-  le8-leOf : le8 w ≡ b0 ∷ b1 ∷ b2 ∷ b3 ∷ b4 ∷ b5 ∷ b6 ∷ b7 ∷ []
+  le8-le_of : le8 w ≡ b0 ∷ b1 ∷ b2 ∷ b3 ∷ b4 ∷ b5 ∷ b6 ∷ b7 ∷ []
   unfolding le8
-  le8-leOf =
+  le8-le_of =
       let e0 : w % 256 ≡ b0 = digit ((((((b7 * 256 + b6) * 256 + b5) * 256 + b4) * 256 + b3) * 256 + b2) * 256 + b1) b0 h0 in
       let e1 : w / 0x100 % 256 ≡ b1 =
       ap (λ x. x % 256)
@@ -199,12 +199,12 @@ module _ (s : List ℕ) (h : Bytes s) where
   pub small_word : (at : ℕ) → word_at s at < 2 ^ 64
   unfolding word_at
   small_word at =
-      small-leOf _ _ _ _ _ _ _ _ (h at) (h (at + 1)) (h (at + 2)) (h (at + 3)) (h (at + 4)) (h (at + 5)) (h (at + 6)) (h (at + 7))
+      small-le_of _ _ _ _ _ _ _ _ (h at) (h (at + 1)) (h (at + 2)) (h (at + 3)) (h (at + 4)) (h (at + 5)) (h (at + 6)) (h (at + 7))
 
   pub le8-word : (at : ℕ) → at + 8 ≤ length s → le8 (word_at s at) ≡ take 8 (drop at s)
   unfolding word_at tab
   le8-word at k =
-      le8-leOf _ _ _ _ _ _ _ _ (h at) (h (at + 1)) (h (at + 2)) (h (at + 3)) (h (at + 4)) (h (at + 5)) (h (at + 6)) (h (at + 7))
+      le8-le_of _ _ _ _ _ _ _ _ (h at) (h (at + 1)) (h (at + 2)) (h (at + 3)) (h (at + 4)) (h (at + 5)) (h (at + 6)) (h (at + 7))
       ∙ ap (λ n. get_or s n 0 ∷ get_or s (at + 1) 0 ∷ get_or s (at + 2) 0 ∷ get_or s (at + 3) 0 ∷ get_or s (at + 4) 0 ∷ get_or s (at + 5) 0 ∷ get_or s (at + 6) 0 ∷ get_or s (at + 7) 0 ∷ []) (sym (add-zero at))
       ∙ sym (take-tab 8 at s 0 k)
 

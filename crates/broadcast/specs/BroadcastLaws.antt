@@ -12,7 +12,7 @@ use Rattle.plan.specs.Plan.{RNG_VER, PAIR_VER, FABITN, FASHARE_VER, FASHARE_DIBI
 use Rattle.engine.specs.declared.Frame.{Frame}
 use Rattle.engine.specs.Step.{Fault, none?, other, mask, or_else, by_party}
 use Rattle.engine.specs.StepLaws.{other-cases, scan-ext}
-use Rattle.engine.specs.Plain.{rows_of, waits, waiting, prior, digests, hashes, pending, echoCheck}
+use Rattle.engine.specs.Plain.{rows_of, waits, waiting, prior, digests, hashes, pending, echo_check}
 use Rattle.engine.specs.Area.{mem}
 use Rattle.rounds.specs.Area.{PENDING, HASHES, at}
 use Rattle.rounds.specs.Echo.{hash_vec, echo, echo_fault}
@@ -40,8 +40,8 @@ module _ (f : Frame) (m : ℕ → List ℕ) where
   digests-are k = rows-masked (hash_vec k)
 
   pub echo-checks : (k : ℕ) (w : List ℕ)
-      → echoCheck table k f w (mask f m) ≡ or_else (by_party f (echo_faults f.n f.i (at f HASHES w) m)) (pending table k f w)
-  unfolding echoCheck hashes at echo
+      → echo_check table k f w (mask f m) ≡ or_else (by_party f (echo_faults f.n f.i (at f HASHES w) m)) (pending table k f w)
+  unfolding echo_check hashes at echo
   echo-checks k w = ap (λ (e : Fault). or_else e (pending table k f w)) (party-masked (λ j. echo_fault f.n f.i j (at f HASHES w)))
 
 pub hashes_at_lem : (f : Frame) (w : List ℕ) → hashes table f w ≡ at f HASHES w

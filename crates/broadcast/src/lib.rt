@@ -8,7 +8,7 @@ ghost use Rattle.std.specs.Prelude.{◌≡◌, ◌≢◌, ◌-◌, ◌*◌, ◌<
 ghost use Rattle.lists.specs.Pick.{pick};
 ghost use Rattle.plan.specs.Plan.{kind_of, count_due, msg_len};
 ghost use Rattle.engine.specs.Step.{mask};
-ghost use Rattle.engine.specs.Plain.{waits, digests, echoCheck, hashes, pending};
+ghost use Rattle.engine.specs.Plain.{waits, digests, echo_check, hashes, pending};
 ghost use Rattle.engine.specs.Area.{to_others, mem};
 ghost use Rattle.rounds.specs.Area.{PENDING, HASHES, keep};
 ghost use Rattle.rounds.specs.Mail.{letter};
@@ -131,7 +131,7 @@ pub fn check(work: &[u8], incoming: &[u8], mail: Mail, f: Frame, k: usize) -> Fa
     requires work { Work f work.now }
     requires le_k { 1 ≤ k }
     requires received { Received Kind.Options f.n f incoming.now mail }
-    ensures { Finds result.code result.party (echoCheck table k f work.now
+    ensures { Finds result.code result.party (echo_check table k f work.now
         (mask f (letter incoming.now mail))) }
 {
     let e = echo::check_echoes(area::section(work, f, area::HASHES), incoming, mail, f);

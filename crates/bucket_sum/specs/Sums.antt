@@ -4,7 +4,7 @@ use Rattle.std.proofs.Math.Path.{sym, ap, ap₂}
 use Rattle.std.proofs.Common.{◌∙◌, add-zero, mul-le-mul, mul-le-mul_right, arith}
 use Rattle.std.specs.Bool.{beq}
 use Rattle.algebra.specs.Group.{XorGroup, bits, addb, sel, xor-addb, xor-and}
-use Rattle.algebra.specs.Bucket.{bucketX, bucketZ, first-x, first-z, next-x, next-z}
+use Rattle.algebra.specs.Bucket.{bucket_x, bucket_z, first-x, first-z, next-x, next-z}
 use Rattle.block.specs.declared.Block.{Block}
 use Rattle.block.specs.Block.{bytes_of}
 use Rattle.block.specs.Group.{blocks}
@@ -85,7 +85,7 @@ module _ (i k : ℕ) (x z : Share) (r : Sums) where
 
 -- ---- the first record of a bucket, and one more, its e-th: x + later, and z + next + d·later
 pub summed-first : (k : ℕ) (xs zs : ℕ → Share) (d : ℕ → Bool) (r : Sums) → Summed k (xs 0) (zs 0) r
-    → Summed k (bucketX shares xs 0) (bucketZ shares xs zs d 0) r
+    → Summed k (bucket_x shares xs 0) (bucket_z shares xs zs d 0) r
 summed-first k xs zs d r s = record {
   x-mac = s.x-mac ∙ ap (λ (t : Share). t.mac k) (sym (first-x shares xs));
   x-key = s.x-key ∙ ap (λ (t : Share). t.key k) (sym (first-x shares xs));
@@ -94,12 +94,12 @@ summed-first k xs zs d r s = record {
 }
 
 module _ (k : ℕ) (xs zs : ℕ → Share) (d : ℕ → Bool) (c e : ℕ) (he : suc c ≡ e) where
-  pub summed_turn : (r n : Sums) (b : Bool) (lm lk nm nk : Block) → Summed k (bucketX shares xs c) (bucketZ shares xs zs d c) r
+  pub summed_turn : (r n : Sums) (b : Bool) (lm lk nm nk : Block) → Summed k (bucket_x shares xs c) (bucket_z shares xs zs d c) r
       → lm ≡ (xs e).mac k → lk ≡ (xs e).key k → nm ≡ (zs e).mac k → nk ≡ (zs e).key k → b ≡ d c
       → n.x.mac.0 ≡ blocks.op r.x.mac.0 lm → n.x.key.0 ≡ blocks.op r.x.key.0 lk
       → n.z.mac.0 ≡ blocks.op (blocks.op r.z.mac.0 nm) (sel blocks b lm)
       → n.z.key.0 ≡ blocks.op (blocks.op r.z.key.0 nk) (sel blocks b lk)
-      → Summed k (bucketX shares xs (suc c)) (bucketZ shares xs zs d (suc c)) n
+      → Summed k (bucket_x shares xs (suc c)) (bucket_z shares xs zs d (suc c)) n
   unfolding shares
   summed_turn r n b lm lk nm nk s hlm hlk hnm hnk hb xm xk zm zk = record {
     x-mac =
@@ -120,11 +120,11 @@ module _ (k : ℕ) (xs zs : ℕ → Share) (d : ℕ → Bool) (c e : ℕ) (he : 
 
 -- the same of bits, as the code has them
 module _ (xs zs : ℕ → Bool) (d : ℕ → Bool) (c e : ℕ) (he : suc c ≡ e) where
-  pub bit-turn-x : (a later : Bool) → a ≡ bucketX bits xs c → later ≡ xs e → not (beq a later) ≡ bucketX bits xs (suc c)
+  pub bit-turn-x : (a later : Bool) → a ≡ bucket_x bits xs c → later ≡ xs e → not (beq a later) ≡ bucket_x bits xs (suc c)
   bit-turn-x a later ha hl = xor-addb a later ∙ ap₂ addb ha (hl ∙ ap xs (sym he)) ∙ sym (next-x bits xs c)
 
-  pub bit-turn-z : (a later next b : Bool) → a ≡ bucketZ bits xs zs d c → later ≡ xs e → next ≡ zs e → b ≡ d c
-      → not (beq (not (beq a next)) (later && b)) ≡ bucketZ bits xs zs d (suc c)
+  pub bit-turn-z : (a later next b : Bool) → a ≡ bucket_z bits xs zs d c → later ≡ xs e → next ≡ zs e → b ≡ d c
+      → not (beq (not (beq a next)) (later && b)) ≡ bucket_z bits xs zs d (suc c)
   bit-turn-z a later next b ha hl hn hb =
       xor-and (not (beq a next)) later b
       ∙ ap₂ addb (xor-addb a next ∙ ap₂ addb ha (hn ∙ ap zs (sym he))) (ap₂ (sel bits) hb (hl ∙ ap xs (sym he)))

@@ -6,7 +6,7 @@
 ghost use Rattle.share.specs.Layout as Layout;
 ghost use Rattle.std.specs.Prelude.{◌≡◌, ◌++◌, ℕ, ◌+◌, ◌*◌, ◌<◌, ◌≤◌, length, get_or};
 ghost use Rattle.algebra.specs.Group.{bits, odd};
-ghost use Rattle.algebra.specs.Bucket.{bucketX, bucketZ};
+ghost use Rattle.algebra.specs.Bucket.{bucket_x, bucket_z};
 ghost use Rattle.block.specs.Block.{bytes_of};
 ghost use Rattle.share.specs.Layout.{mac_off};
 ghost use Rattle.share.specs.Share.{shares};
@@ -53,8 +53,8 @@ pub fn sum_entries(
     k: usize,
 ) -> Sums
     requires { (BucketIn n len s.now ts.now behind d.now) × (k < n) }
-    ensures { Summed k (bucketX shares (x_among len s.now ts.now) (length d.now))
-        (bucketZ shares (x_among len s.now ts.now) (z_among len s.now ts.now behind)
+    ensures { Summed k (bucket_x shares (x_among len s.now ts.now) (length d.now))
+        (bucket_z shares (x_among len s.now ts.now) (z_among len s.now ts.now behind)
         (λ e. odd (get_or d.now e 0)) (length d.now)) result }
 {
     let first = ts[0];
@@ -84,8 +84,8 @@ pub fn sum_bits(
 ) -> Bits
     requires ts_len { length ts.now ≡ length d.now + 1 }
     requires within { (Within s.now ts.now 0 len 1) × (Within zs.now ts.now behind step 1) × (1 ≤ len) × (1 ≤ step) }
-    ensures { (result.x ≡ bucketX bits (λ e. (x_among len s.now ts.now e).bit) (length d.now))
-        × (result.z ≡ bucketZ bits (λ e. (x_among len s.now ts.now e).bit)
+    ensures { (result.x ≡ bucket_x bits (λ e. (x_among len s.now ts.now e).bit) (length d.now))
+        × (result.z ≡ bucket_z bits (λ e. (x_among len s.now ts.now e).bit)
         (λ e. odd (get_or zs.now ((get_or ts.now e 0 + behind) * step) 0))
         (λ e. odd (get_or d.now e 0)) (length d.now)) }
 {

@@ -45,17 +45,17 @@ module _ (f : Frame) where
   entry_lt perm j e h = mod-lt (word_at ((j * bucket_size f.l + e) * 4) perm) (leaky-some f.l h)
 
   -- where its record y starts
-  abbrev pub yAt : List ℕ → ℕ → ℕ → ℕ
-  yAt perm j e = (leaky f.l + entry f perm j e) * record_len f.n
+  abbrev pub y_at : List ℕ → ℕ → ℕ → ℕ
+  y_at perm j e = (leaky f.l + entry f perm j e) * record_len f.n
 
 -- it lies within the records
-pub y-within : {f : Frame} {recs perm : List ℕ} → Ranged f → Permuted f recs perm → (j e at : ℕ) → at ≡ yAt f perm j e
+pub y-within : {f : Frame} {recs perm : List ℕ} → Ranged f → Permuted f recs perm → (j e at : ℕ) → at ≡ y_at f perm j e
     → at + record_len f.n ≤ length recs
 y-within {f} {recs} {perm} r q j e at h =
     omega (arith, h, y-in f recs q.records (entry f perm j e) (entry_lt f perm j e r.range.one))
 
 -- d where it is read
-pub d-read : (f : Frame) (recs perm : List ℕ) (j e y0 y1 : ℕ) → y0 ≡ yAt f perm j 0 → y1 ≡ yAt f perm j (e + 1)
+pub d-read : (f : Frame) (recs perm : List ℕ) (j e y0 y1 : ℕ) → y0 ≡ y_at f perm j 0 → y1 ≡ y_at f perm j (e + 1)
     → shares.op (share_at recs y0) (share_at recs y1) ≡ d f recs perm j e
 unfolding d y
 d-read f recs perm j e y0 y1 p q = rw (p, q, add-one e)

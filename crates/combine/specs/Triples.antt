@@ -4,7 +4,7 @@ use Rattle.std.proofs.Math.Path.{sym, ap, ap₂}
 use Rattle.std.proofs.Common.{◌∙◌, arith, length-drop, get_or-take, length-take-le}
 use Prim.Native.Nat.{ℕ, zero, suc, ◌+◌, ◌*◌, ◌<◌, ◌≤◌}
 use Rattle.lists.specs.Over.{in-chunks}
-use Rattle.algebra.specs.Bucket.{bucketX, bucketZ, x-ext, z-ext}
+use Rattle.algebra.specs.Bucket.{bucket_x, bucket_z, x-ext, z-ext}
 use Rattle.block.specs.Block.{block_at}
 use Rattle.block.specs.Group.{blocks}
 use Rattle.block.specs.Trip.{block-drop}
@@ -64,10 +64,10 @@ module _ (n : ℕ) (s ts : List ℕ) (d : ℕ → Bool) (c k : ℕ) where
   z-key e = key-behind s ((get_or ts e 0 + 2) * lent_len n) k
 
   pub summed-lent : (r : Sums)
-      → Summed k (bucketX shares (x_among (lent_len n) (drop LABEL s) ts) c)
-      (bucketZ shares (x_among (lent_len n) (drop LABEL s) ts) (z_among (lent_len n) (drop LABEL s) ts 2) d c) r
-      → Summed k (bucketX shares (x_lent n s ts) c) (bucketZ shares (x_lent n s ts) (z_lent n s ts) d c) r
-  unfolding bucketX
+      → Summed k (bucket_x shares (x_among (lent_len n) (drop LABEL s) ts) c)
+      (bucket_z shares (x_among (lent_len n) (drop LABEL s) ts) (z_among (lent_len n) (drop LABEL s) ts 2) d c) r
+      → Summed k (bucket_x shares (x_lent n s ts) c) (bucket_z shares (x_lent n s ts) (z_lent n s ts) d c) r
+  unfolding bucket_x
   summed-lent r h =
       let X : ℕ → Share = x_lent n s ts in
       let Z : ℕ → Share = z_lent n s ts in
@@ -145,18 +145,18 @@ module _ (n c : ℕ) (few : c ≤ 4) (s : List ℕ) where
     unfolding z_lent triple
     same-z e l = ap (λ k. lent_at s ((k + 2) * lent_len n)) (at e l)
 
-    sum-x : bucketX shares (x_lent n s ts) c ≡ (combine g d c).tx
+    sum-x : bucket_x shares (x_lent n s ts) c ≡ (combine g d c).tx
     sum-x = x-ext shares (x_lent n s ts) (λ e. (g e).tx) c same-x ∙ sym (combine-x g d c)
 
-    sum-z : bucketZ shares (x_lent n s ts) (z_lent n s ts) d c ≡ (combine g d c).tz
+    sum-z : bucket_z shares (x_lent n s ts) (z_lent n s ts) d c ≡ (combine g d c).tz
     sum-z =
         z-ext shares (x_lent n s ts) (λ e. (g e).tx) c same-x (z_lent n s ts) (λ e. (g e).tz) d d same-z (λ e l. refl)
         ∙ sym (combine-z g d c)
 
     pub sum-records : (i : ℕ)
-        → lent_of n i (bucketX shares (x_lent n s (take (c + 1) x_places)) c)
+        → lent_of n i (bucket_x shares (x_lent n s (take (c + 1) x_places)) c)
         ++ (lent_of n i (triple n s 0).ty
-        ++ lent_of n i (bucketZ shares (x_lent n s (take (c + 1) x_places)) (z_lent n s (take (c + 1) x_places)) d c))
+        ++ lent_of n i (bucket_z shares (x_lent n s (take (c + 1) x_places)) (z_lent n s (take (c + 1) x_places)) d c))
         ≡ records n i (combine (triple n s) d c)
     unfolding records
     sum-records i =

@@ -7,7 +7,7 @@ ghost use Rattle.std.specs.Prelude.{◌≡◌, ◌+◌, ◌*◌, ◌<◌, ◌≤
 ghost use Rattle.lists.specs.All.{all_of};
 ghost use Rattle.lists.specs.Pick.{pick};
 ghost use Rattle.algebra.specs.Group.{odd};
-ghost use Rattle.algebra.specs.Bucket.{bucketX, bucketZ};
+ghost use Rattle.algebra.specs.Bucket.{bucket_x, bucket_z};
 ghost use Rattle.share.specs.Share.{shares};
 ghost use Rattle.share.specs.Lent.{lent_len, lent_of};
 ghost use Rattle.bucket_sum.specs.Sums.{BucketIn, Entries};
@@ -41,8 +41,8 @@ fn put_y(out: &mut [u8], triples: &[u8], t: usize, n: usize, i: usize)
 // What stands for party k in party i's records of the combined x and z.
 fn party(triples: &[u8], ts: &[usize], d: &[u8], n: usize, i: usize, k: usize) -> Sums
     requires { (BucketIn n (lent_len n) (drop Lent.LABEL triples.now) ts.now 2 d.now) × (k < n) }
-    ensures { Entries i k (bucketX shares (x_lent n triples.now ts.now) (length d.now))
-        (bucketZ shares (x_lent n triples.now ts.now) (z_lent n triples.now ts.now)
+    ensures { Entries i k (bucket_x shares (x_lent n triples.now ts.now) (length d.now))
+        (bucket_z shares (x_lent n triples.now ts.now) (z_lent n triples.now ts.now)
         (λ e. odd (get_or d.now e 0)) (length d.now)) result }
 {
     if k == i {

@@ -11,7 +11,7 @@ use Rattle.block.specs.Block.{block_at, le8, bytes_of}
 use Rattle.block.specs.Trip.{block-chunk}
 use Rattle.fips197.specs.Key.{key_expansion}
 use Rattle.fips197.specs.Cipher.{aes128}
-use Rattle.fips197.specs.CipherLaws.{length-cipher, bytes-cipher, bytes-key_expansion}
+use Rattle.fips197.proofs.CipherLaws.{length-cipher, bytes-cipher, bytes-key_expansion}
 use Rattle.draw.specs.Strings.{seed?, counter, drawn, strings}
 use Rattle.draw.specs.Given.{Whole}
 

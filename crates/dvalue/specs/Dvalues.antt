@@ -7,7 +7,7 @@ use Rattle.block.specs.declared.Block.{Block}
 use Rattle.block.specs.Block.{bytes_of}
 use Rattle.block.specs.Trip.{length-bytes_of}
 use Rattle.message.specs.declared.Kind.TheVariants.{Dvalues}
-use Rattle.message.specs.FormatLaws.{buckets}
+use Rattle.message.proofs.FormLaws.{buckets}
 use Rattle.encode.specs.Encode.{encode, dvalue_item}
 use Rattle.encode.specs.Coded.{length-encode}
 use Rattle.plan.specs.Plan.{bucket_size, msg_len, list_len, count_due, kind_of}

@@ -11,7 +11,7 @@ use Rattle.share.specs.Share.{Share, share_at, shares}
 use Rattle.engine.specs.declared.Frame.{Frame}
 use Rattle.engine.specs.Step.{by_party}
 use Rattle.rounds.specs.Buckets.{later, d, bucket_at, d_told, d_mac_told, d_faults}
-use Rattle.buckets.specs.Entries.{yAt, d-read}
+use Rattle.buckets.specs.Entries.{y_at, d-read}
 
 -- ---- the checks of k's message s: of a later entry, of a bucket, of all
 unfoldable pub d_holds : Frame → Block → List ℕ → List ℕ → List ℕ → ℕ → ℕ → ℕ → Bool
@@ -34,8 +34,8 @@ unfolding d_faults d_fault message_holds bucket_holds d_holds d_told d_mac_told
 faults-by f delta recs perm m = refl
 
 -- the check of a later entry, where its records, its bit and its MAC lie
-pub d_holds_lem : (f : Frame) (delta : Block) (recs perm s : List ℕ) (k j e y0 y1 bit mac : ℕ) (b : Bool) → y0 ≡ yAt f perm j 0
-    → y1 ≡ yAt f perm j (e + 1)
+pub d_holds_lem : (f : Frame) (delta : Block) (recs perm s : List ℕ) (k j e y0 y1 bit mac : ℕ) (b : Bool) → y0 ≡ y_at f perm j 0
+    → y1 ≡ y_at f perm j (e + 1)
     → bit ≡ bucket_at f j + 8 + e → mac ≡ bucket_at f j + 8 + later f + 8 + e * 16
     → b ≡ eq_block (block_at s mac) (blocks.op ((shares.op (share_at recs y0) (share_at recs y1)).key k)
     (sel blocks (odd (get_or s bit 0)) delta))

@@ -7,14 +7,14 @@ use Rattle.algebra.specs.Sum.{others}
 use Rattle.share.specs.Share.{Share, share_at, shares}
 use Rattle.engine.specs.declared.Frame.{Frame}
 use Rattle.rounds.specs.Buckets.{later, d_told, d_opened, ds}
-use Rattle.buckets.specs.Entries.{yAt, d-read}
+use Rattle.buckets.specs.Entries.{y_at, d-read}
 
 -- the sum of the bits that the others told
 unfoldable pub told_sum : Frame → (ℕ → List ℕ) → ℕ → ℕ → Bool
 told_sum f m j e = others bits f.i f.n (λ k. d_told f m k j e)
 
-pub opened : (f : Frame) (recs perm : List ℕ) (m : ℕ → List ℕ) (j e y0 y1 : ℕ) (own b : Bool) → y0 ≡ yAt f perm j 0
-    → y1 ≡ yAt f perm j (e + 1)
+pub opened : (f : Frame) (recs perm : List ℕ) (m : ℕ → List ℕ) (j e y0 y1 : ℕ) (own b : Bool) → y0 ≡ y_at f perm j 0
+    → y1 ≡ y_at f perm j (e + 1)
     → own ≡ (shares.op (share_at recs y0) (share_at recs y1)).bit → b ≡ told_sum f m j e → addb own b ≡ d_opened f recs perm m j e
 unfolding d_opened told_sum
 opened f recs perm m j e y0 y1 own b h0 h1 ho hb =

@@ -155,18 +155,18 @@ module _ (c : ℕ) (h0 h1 h2 : ℕ → List ℕ) (long : (t : ℕ) → t < c →
 
 -- ---- a dm: its length and its bytes
 module _ (c : ℕ) (x : ℕ → List ℕ) (m : List ℕ) (w : Trip Dms c (λ t. dm_item (x t)) m) (t : ℕ) (l : t < c) where
-  itemDm : take (8 + length (x t)) (drop (item_at Dms m t) m) ≡ dm_item (x t)
-  itemDm = ap (λ n. take n (drop (item_at Dms m t) m)) (sym (length-dm (x t))) ∙ w.item t l
+  item_dm : take (8 + length (x t)) (drop (item_at Dms m t) m) ≡ dm_item (x t)
+  item_dm = ap (λ n. take n (drop (item_at Dms m t) m)) (sym (length-dm (x t))) ∙ w.item t l
 
   pub dm-length : length (x t) < 2 ^ 64 → word_at m (item_at Dms m t) ≡ length (x t)
   dm-length h =
-      word_in m _ (8 + length (x t)) (item_at Dms m t) itemDm 0 (item_at Dms m t) (omega arith) (omega arith)
+      word_in m _ (8 + length (x t)) (item_at Dms m t) item_dm 0 (item_at Dms m t) (omega arith) (omega arith)
       ∙ ap (λ (s : List ℕ). word_at s 0) (sym (append-nil (dm_item (x t)))) ∙ count-dm (x t) [] h
 
   pub dm-bytes : (p : ℕ) → p ≡ item_at Dms m t + 8 → take (length (x t)) (drop p m) ≡ x t
   unfolding dm_item
   dm-bytes p q =
-      part_in m _ (8 + length (x t)) (item_at Dms m t) itemDm 8 (length (x t)) p q (omega arith)
+      part_in m _ (8 + length (x t)) (item_at Dms m t) item_dm 8 (length (x t)) p q (omega arith)
       ∙ ap (take (length (x t))) (drop_at (le8 (length (x t))) (x t) 8 (length-le8 (length (x t)))) ∙ take-length (x t)
 
 -- ---- a bucket: d value k and its MAC
@@ -193,18 +193,18 @@ module _ (c due : ℕ) (d : ℕ → ℕ → Bool) (x : ℕ → ℕ → Block) (m
   abbrev start : ℕ
   start = 8 + t * (16 + due * 17)
 
-  itemDvalue : take (16 + due * 17) (drop start m) ≡ dvalue_item due (d t) (x t)
-  itemDvalue =
+  item_dvalue : take (16 + due * 17) (drop start m) ≡ dvalue_item due (d t) (x t)
+  item_dvalue =
       even-item (Dvalues due) (16 + due * 17) c (λ t. dvalue_item due (d t) (x t)) (λ j i. length-dvalue due (d j) (x j)) m w t l
 
   pub dvalue-d : (p : ℕ) → p ≡ 8 + t * (16 + due * 17) + 8 + k → odd (get_or m p 0) ≡ d t k
   dvalue-d p q =
-      ap odd (byte-in m _ (16 + due * 17) start itemDvalue (8 + k) p (omega arith) (omega arith) ∙ dvalue-bit due (d t) (x t) k j)
+      ap odd (byte-in m _ (16 + due * 17) start item_dvalue (8 + k) p (omega arith) (omega arith) ∙ dvalue-bit due (d t) (x t) k j)
       ∙ odd-num (d t k)
 
   pub dvalue-mac : Small (x t k) → (p : ℕ) → p ≡ 8 + t * (16 + due * 17) + 16 + due + k * 16 → block_at m p ≡ x t k
   dvalue-mac h p q =
-      block_in m _ (16 + due * 17) start itemDvalue (16 + due + k * 16) p (omega arith) (omega arith) ∙ dvalue-block due (d t) (x t) k j h
+      block_in m _ (16 + due * 17) start item_dvalue (16 + due + k * 16) p (omega arith) (omega arith) ∙ dvalue-block due (d t) (x t) k j h
 
 -- ---- an option
 module _ (c : ℕ) (g : ℕ → List ℕ) (m : List ℕ) (w : Trip Options c g m) (t : ℕ) (l : t < c) where
@@ -215,14 +215,14 @@ module _ (c : ℕ) (g : ℕ → List ℕ) (m : List ℕ) (w : Trip Options c g m
       ∙ ap (λ (s : List ℕ). get_or s 0 0) e
 
   module _ (h : List ℕ) (n : length h ≡ 16) (e : g t ≡ some_item h) where
-    itemSome : take 17 (drop (item_at Options m t) m) ≡ some_item h
-    itemSome = ap (λ k. take k (drop (item_at Options m t) m)) (sym (ap length e ∙ length_some h n)) ∙ w.item t l ∙ e
+    item_some : take 17 (drop (item_at Options m t) m) ≡ some_item h
+    item_some = ap (λ k. take k (drop (item_at Options m t) m)) (sym (ap length e ∙ length_some h n)) ∙ w.item t l ∙ e
 
     pub option-present : get_or m (item_at Options m t) 0 ≡ 1
     unfolding some_item
-    option-present = byte-in m (some_item h) 17 (item_at Options m t) itemSome 0 (item_at Options m t) (omega arith) (omega arith)
+    option-present = byte-in m (some_item h) 17 (item_at Options m t) item_some 0 (item_at Options m t) (omega arith) (omega arith)
 
     pub option-hash : (p : ℕ) → p ≡ item_at Options m t + 1 → take 16 (drop p m) ≡ h
     unfolding some_item
     option-hash p q =
-        part_in m (some_item h) 17 (item_at Options m t) itemSome 1 16 p q (omega arith) ∙ take_all 16 h (omega arith)
+        part_in m (some_item h) 17 (item_at Options m t) item_some 1 16 p q (omega arith) ∙ take_all 16 h (omega arith)

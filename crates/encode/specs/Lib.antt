@@ -5,4 +5,3 @@ pub mod Fields
 pub mod Kinds
 pub mod Stretch
 pub mod Bucket
-pub mod OneToOne

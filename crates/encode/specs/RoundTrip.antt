@@ -14,7 +14,8 @@ use Rattle.block.specs.Block.{le8}
 use Rattle.block.specs.Trip.{length-le8}
 use Rattle.message.specs.declared.Kind.{Kind}
 use Rattle.message.specs.Format.{item_len, item_at, count_of, decodes, item_of, item_due, form_of}
-use Rattle.message.specs.FormatLaws.{decodes-of, inners_due, form-of}
+use Rattle.message.specs.FormatLaws.{decodes-of, inners_due}
+use Rattle.message.proofs.FormLaws.{form-of}
 use Rattle.encode.specs.Encode.{encode}
 use Rattle.encode.specs.Coded.{Coded, count-encode}
 

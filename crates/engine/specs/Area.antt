@@ -59,8 +59,8 @@ module _ (size : ℕ → ℕ) where
   unfoldable pub sec : ℕ → List ℕ → List ℕ
   sec s w = get (off s) (size s) w
 
-  unfoldable pub putSec : ℕ → List ℕ → List ℕ → List ℕ
-  putSec s xs w = put (off s) (size s) xs w
+  unfoldable pub put_sec : ℕ → List ℕ → List ℕ → List ℕ
+  put_sec s xs w = put (off s) (size s) xs w
 
   off-le : (s t : ℕ) → s ≤ t → off s ≤ off t
   unfolding off
@@ -82,16 +82,16 @@ module _ (size : ℕ → ℕ) where
     length-sec s l =
         length-take (size s) (drop (off s) w) ∙ ap (min (size s)) (length-drop (off s) w) ∙ (let e = section-before s S l in omega (arith, e))
 
-    pub length-putSec : (s : ℕ) (xs : List ℕ) → s < S → length xs ≡ size s → length (putSec s xs w) ≡ off S
-    unfolding putSec
-    length-putSec s xs l hx = length-put (off s) (size s) xs w hx (omega (arith, section-before s S l)) ∙ h
+    pub length-put_sec : (s : ℕ) (xs : List ℕ) → s < S → length xs ≡ size s → length (put_sec s xs w) ≡ off S
+    unfolding put_sec
+    length-put_sec s xs l hx = length-put (off s) (size s) xs w hx (omega (arith, section-before s S l)) ∙ h
 
-    pub sec-same : (s : ℕ) (xs : List ℕ) → s < S → length xs ≡ size s → sec s (putSec s xs w) ≡ xs
-    unfolding sec putSec
+    pub sec-same : (s : ℕ) (xs : List ℕ) → s < S → length xs ≡ size s → sec s (put_sec s xs w) ≡ xs
+    unfolding sec put_sec
     sec-same s xs l hx = get-put-same (off s) (size s) xs w hx (omega (arith, section-before s S l))
 
-    pub sec-other : (s t : ℕ) (xs : List ℕ) → t < S → s ≢ t → length xs ≡ size t → sec s (putSec t xs w) ≡ sec s w
-    unfolding sec putSec
+    pub sec-other : (s t : ℕ) (xs : List ℕ) → t < S → s ≢ t → length xs ≡ size t → sec s (put_sec t xs w) ≡ sec s w
+    unfolding sec put_sec
     sec-other s t xs l ne hx = go (ltb s t) refl
       where
         go : (b : Bool) → ltb s t ≡ b → get (off s) (size s) (put (off t) (size t) xs w) ≡ get (off s) (size s) w
@@ -101,13 +101,13 @@ module _ (size : ℕ → ℕ) where
             get-put-after (off s) (size s) (off t) (size t) xs w hx q (omega (arith, section-before t S l))
 
     -- putting a section twice, and two sections in either order
-    pub putSec-twice : (s : ℕ) (xs ys : List ℕ) → s < S → length ys ≡ size s → putSec s xs (putSec s ys w) ≡ putSec s xs w
-    unfolding putSec
-    putSec-twice s xs ys l hy = put-twice (off s) (size s) xs ys w hy (omega (arith, section-before s S l))
+    pub put_sec-twice : (s : ℕ) (xs ys : List ℕ) → s < S → length ys ≡ size s → put_sec s xs (put_sec s ys w) ≡ put_sec s xs w
+    unfolding put_sec
+    put_sec-twice s xs ys l hy = put-twice (off s) (size s) xs ys w hy (omega (arith, section-before s S l))
 
     -- writing a part of a section, and one element of it
-    pub put-sec : (s a k : ℕ) (xs : List ℕ) → s < S → a + k ≤ size s → put (off s + a) k xs w ≡ putSec s (put a k xs (sec s w)) w
-    unfolding sec putSec
+    pub put-sec : (s a k : ℕ) (xs : List ℕ) → s < S → a + k ≤ size s → put (off s + a) k xs w ≡ put_sec s (put a k xs (sec s w)) w
+    unfolding sec put_sec
     put-sec s a k xs l h' = put-put-in (off s) (size s) a k xs w h' (omega (arith, section-before s S l))
 
   -- a buffer laid out section by section

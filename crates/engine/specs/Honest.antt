@@ -6,8 +6,8 @@ use Rattle.lists.specs.All.{all_of}
 use Rattle.engine.specs.Step.{Frame, frame, Loan}
 use Rattle.engine.specs.Area.{mem, Every}
 use Rattle.engine.specs.Sheet.{Store, Known, Sheet, Mail}
-use Rattle.engine.specs.Order.{roundIn}
-use Rattle.engine.specs.Plain.{Recv, Send, Echo, Table, rows_of, prior, isEcho, next_of, number_of, steps_of}
+use Rattle.engine.specs.Order.{round_in}
+use Rattle.engine.specs.Plain.{Recv, Send, Echo, Table, rows_of, prior, is_echo, next_of, number_of, steps_of}
 
 -- ---- what the echo's messages owe
 -- an honest echo is as long as it should be, is formed, and has no fault
@@ -62,17 +62,17 @@ due k = suc (k + k)
 
 -- the plain round that comes after round k
 unfoldable pub plain_after : Table → ℕ → ℕ
-plain_after T k = suc (pick (isEcho T (suc k)) (suc k) k)
+plain_after T k = suc (pick (is_echo T (suc k)) (suc k) k)
 
 -- ---- what the table owes
 -- no echo follows another, and neither the first round nor the last is one: one computed test
 unfoldable pub order_test : Table → Bool
 order_test T =
-    not (isEcho T 1) && not (isEcho T T.order.last) && all_of (suc T.order.last) (λ k. not (isEcho T k && isEcho T (suc k)))
+    not (is_echo T 1) && not (is_echo T T.order.last) && all_of (suc T.order.last) (λ k. not (is_echo T k && is_echo T (suc k)))
 
 -- every number of the order is a round's, and after the last comes 0
 unfoldable pub course_test : Table → Bool → Bool
-course_test T two = all_of (steps_of T two) (λ d. roundIn T.order two (number_of T two d)) && eqb (number_of T two (steps_of T two)) 0
+course_test T two = all_of (steps_of T two) (λ d. round_in T.order two (number_of T two d)) && eqb (number_of T two (steps_of T two)) 0
 
 -- for n boxes with l: opening takes them, the order is one, and the two sections of the echoes have their sizes
 pub record Lawful (T : Table) (n l : ℕ) : Type 0 where
@@ -115,7 +115,7 @@ module _ (T : Table) (U : Script) (n l : ℕ) where
   -- all rounds. plain: those that are no echoes, but for the last
   pub record Honest : Type 0 where
     pub plain : List ℕ
-    pub whole : all_of T.order.last (λ k. pick (eqb k 0) true (pick (isEcho T k) true (mem k plain))) ≡ true
+    pub whole : all_of T.order.last (λ k. pick (eqb k 0) true (pick (is_echo T k) true (mem k plain))) ≡ true
     pub recv : Every RecvAt plain
     pub send : Every (λ k. SendAt (plain_after T k)) plain
     pub lists : Every (λ k. ListAt (prior k)) T.order.echoes
@@ -123,30 +123,30 @@ module _ (T : Table) (U : Script) (n l : ℕ) where
 
   -- ---- the sheet of the session
   -- an echo k comes before the messages of round k + 1 are made
-  unfoldable pub momentOf : ℕ → ℕ
-  momentOf k = pick (isEcho T k) (before (suc k)) (due k)
+  unfoldable pub moment_of : ℕ → ℕ
+  moment_of k = pick (is_echo T k) (before (suc k)) (due k)
 
   -- the two sections of the echoes hold something when an echo is due
-  unfoldable pub readyOf : ℕ → ℕ → Bool
-  readyOf k s = pick (ltb s T.count) (U.ready (momentOf k) s) (isEcho T k)
+  unfoldable pub ready_of : ℕ → ℕ → Bool
+  ready_of k s = pick (ltb s T.count) (U.ready (moment_of k) s) (is_echo T k)
 
   -- nothing waits for the echo, and the hashes are those of the round before it
   unfoldable pub val_of : ℕ → ℕ → ℕ → List ℕ
   val_of k i s =
-      pick (ltb s T.count) (U.val (momentOf k) i s) (pick (eqb s T.count) (0 ∷ 0 ∷ []) (rows_of (frame n l i) (U.hashed (prior k))))
+      pick (ltb s T.count) (U.val (moment_of k) i s) (pick (eqb s T.count) (0 ∷ 0 ∷ []) (rows_of (frame n l i) (U.hashed (prior k))))
 
   -- an echo of the hashes, or the round's own message
-  unfoldable pub sentOf : ℕ → ℕ → ℕ → List ℕ
-  sentOf k j r = pick (isEcho T k) (T.echo.write n j (rows_of (frame n l j) (U.hashed (prior k))) r) (U.sent k j r)
+  unfoldable pub sent_of : ℕ → ℕ → ℕ → List ℕ
+  sent_of k j r = pick (is_echo T k) (T.echo.write n j (rows_of (frame n l j) (U.hashed (prior k))) r) (U.sent k j r)
 
   -- what holds when each round is due, echoes among them
-  abbrev pub sheetOf : Sheet
-  sheetOf = record {
-    store = record { total = suc (suc T.count); count = suc (suc T.count); size = T.size; ready = readyOf; val = val_of };
-    sent = sentOf;
+  abbrev pub sheet_of : Sheet
+  sheet_of = record {
+    store = record { total = suc (suc T.count); count = suc (suc T.count); size = T.size; ready = ready_of; val = val_of };
+    sent = sent_of;
     result = U.result;
   }
 
   -- what the call for round k is lent
-  unfoldable pub loansOf : ℕ → Loan
-  loansOf k = U.loan (next_of T (eqb n 2) k)
+  unfoldable pub loans_of : ℕ → Loan
+  loans_of k = U.loan (next_of T (eqb n 2) k)

@@ -9,13 +9,13 @@ pub record Order : Type 0 where
 
 module _ (O : Order) where
   -- round k is an echo
-  unfoldable pub echoIn : ℕ → Bool
-  echoIn k = mem k O.echoes
+  unfoldable pub echo_in : ℕ → Bool
+  echo_in k = mem k O.echoes
 
   -- k is the number of a round: "For n = 2 the echoes are skipped."
-  unfoldable pub roundIn : Bool → ℕ → Bool
-  roundIn two k = leb 1 k && leb k O.last && not (two && echoIn k)
+  unfoldable pub round_in : Bool → ℕ → Bool
+  round_in two k = leb 1 k && leb k O.last && not (two && echo_in k)
 
   -- "each accepted call makes the next in order due, echoes passed over for n = 2": the round after k; the first after 0, 0 after the last
-  unfoldable pub nextIn : Bool → ℕ → ℕ
-  nextIn two k = pick (leb O.last k) 0 (pick (two && echoIn (suc k)) (suc (suc k)) (suc k))
+  unfoldable pub next_in : Bool → ℕ → ℕ
+  next_in two k = pick (leb O.last k) 0 (pick (two && echo_in (suc k)) (suc (suc k)) (suc k))

@@ -7,8 +7,8 @@ use Rattle.lists.specs.Pick.{pick}
 use Rattle.lists.specs.Over.{cat}
 use Rattle.batches.specs.Batches.{whole}
 use Rattle.engine.specs.Step.{Frame, Loan, Fault, none?, Rule, Protocol, other, or_else, by_party}
-use Rattle.engine.specs.Area.{off, sec, putSec, to_others, mem}
-use Rattle.engine.specs.Order.{Order, echoIn, roundIn, nextIn}
+use Rattle.engine.specs.Area.{off, sec, put_sec, to_others, mem}
+use Rattle.engine.specs.Order.{Order, echo_in, round_in, next_in}
 
 -- ---- what a round gives
 -- What is done with its messages. form: 13, 21 or 6 of one message, or 0; judge: the content; faults: the numbers that the content check can
@@ -76,11 +76,11 @@ if_clean e w w' = pick (eqb e.code 0) w' w
 
 module _ (T : Table) where
   -- ---- the order of the rounds; two: n = 2
-  abbrev pub isEcho : ℕ → Bool
-  isEcho k = echoIn T.order k
+  abbrev pub is_echo : ℕ → Bool
+  is_echo k = echo_in T.order k
 
   abbrev pub next_of : Bool → ℕ → ℕ
-  next_of two k = nextIn T.order two k
+  next_of two k = next_in T.order two k
 
   -- "Round 1 is due after opening": the round due after d accepted calls
   unfoldable pub number_of : Bool → ℕ → ℕ
@@ -92,25 +92,25 @@ module _ (T : Table) where
   steps_of two = pick two (T.order.last - length T.order.echoes) T.order.last
 
   -- the call for round k writes an echo
-  unfoldable pub toEcho : Bool → ℕ → Bool
-  toEcho two k = not two && isEcho (suc k)
+  unfoldable pub to_echo : Bool → ℕ → Bool
+  to_echo two k = not two && is_echo (suc k)
 
   -- ---- lengths, and what is lent
   -- a message of round k
   unfoldable pub len_of : ℕ → ℕ → ℕ → ℕ
-  len_of n l k = pick (isEcho k) (T.echo.len n) ((T.send k).len n l)
+  len_of n l k = pick (is_echo k) (T.echo.len n) ((T.send k).len n l)
 
   -- "The outgoing buffer holds just the messages that call writes .. or the results"
-  unfoldable pub outLenOf : ℕ → Frame → ℕ
-  outLenOf k f = pick (eqb k T.order.last) (T.result_len f) ((f.n - 1) * len_of f.n f.l (next_of (eqb f.n 2) k))
+  unfoldable pub out_len_of : ℕ → Frame → ℕ
+  out_len_of k f = pick (eqb k T.order.last) (T.result_len f) ((f.n - 1) * len_of f.n f.l (next_of (eqb f.n 2) k))
 
   -- what the call for round k is lent, as the messages that it makes ask for
   unfoldable pub lent_of : ℕ → ℕ → ℕ → Loan → ℕ
   lent_of k n l q = (T.send (next_of (eqb n 2) k)).lent n l q
 
   -- 13, 21 or 6 of a message of round k
-  unfoldable pub formAt : ℕ → Frame → List ℕ → ℕ
-  formAt k f m = pick (isEcho k) (T.echo.form f.n m) ((T.recv k).form f m)
+  unfoldable pub form_at : ℕ → Frame → List ℕ → ℕ
+  form_at k f m = pick (is_echo k) (T.echo.form f.n m) ((T.recv k).form f m)
 
   -- ---- the sections of the echoes
   -- the fault of the round before that waits for echo k
@@ -127,56 +127,56 @@ module _ (T : Table) where
 
   -- ---- the content
   -- "From each sender the entries .. are checked", then what waited for the echo
-  unfoldable pub echoCheck : ℕ → Frame → List ℕ → (ℕ → List ℕ) → Fault
-  echoCheck k f w m = or_else (by_party f (λ j. T.echo.fault f.n f.i j (hashes f w) (m j))) (pending k f w)
+  unfoldable pub echo_check : ℕ → Frame → List ℕ → (ℕ → List ℕ) → Fault
+  echo_check k f w m = or_else (by_party f (λ j. T.echo.fault f.n f.i j (hashes f w) (m j))) (pending k f w)
 
   -- a call that writes an echo has no fault by content: its echo's call reports it
-  unfoldable pub checkOf : ℕ → Frame → List ℕ → (ℕ → List ℕ) → Fault
-  checkOf k f w m = pick (isEcho k) (echoCheck k f w m) (pick (toEcho (eqb f.n 2) k) none? ((T.recv k).judge f w m))
+  unfoldable pub check_of : ℕ → Frame → List ℕ → (ℕ → List ℕ) → Fault
+  check_of k f w m = pick (is_echo k) (echo_check k f w m) (pick (to_echo (eqb f.n 2) k) none? ((T.recv k).judge f w m))
 
   -- ---- the work area
   -- after a call that writes an echo
-  unfoldable pub forEcho : ℕ → Frame → List ℕ → (ℕ → List ℕ) → List ℕ
-  forEcho k f w m =
+  unfoldable pub for_echo : ℕ → Frame → List ℕ → (ℕ → List ℕ) → List ℕ
+  for_echo k f w m =
       let e : Fault = (T.recv k).judge f w m in
-      putSec (T.size f) T.count (waits e)
-      (putSec (T.size f) (suc T.count) (digests k f m)
+      put_sec (T.size f) T.count (waits e)
+      (put_sec (T.size f) (suc T.count) (digests k f m)
       (if_clean e w ((T.recv k).keep f w m)))
 
   -- after a call that makes the messages of the next plain round
   unfoldable pub made : ℕ → Frame → Loan → List ℕ → (ℕ → List ℕ) → List ℕ
-  made k f q w m = (T.send (next_of (eqb f.n 2) k)).keep f q (pick (isEcho k) w ((T.recv k).keep f w m))
+  made k f q w m = (T.send (next_of (eqb f.n 2) k)).keep f q (pick (is_echo k) w ((T.recv k).keep f w m))
 
   -- "The last call writes the l result records to the outgoing buffer and zeroes the work area"
-  unfoldable pub keepOf : ℕ → Frame → Loan → List ℕ → (ℕ → List ℕ) → List ℕ
-  keepOf k f q w m = pick (eqb k T.order.last) (replicate (length w) 0) (pick (toEcho (eqb f.n 2) k) (forEcho k f w m) (made k f q w m))
+  unfoldable pub keep_of : ℕ → Frame → Loan → List ℕ → (ℕ → List ℕ) → List ℕ
+  keep_of k f q w m = pick (eqb k T.order.last) (replicate (length w) 0) (pick (to_echo (eqb f.n 2) k) (for_echo k f w m) (made k f q w m))
 
   -- the results, an echo, or the messages of the next plain round
-  unfoldable pub writeOf : ℕ → Frame → Loan → List ℕ → (ℕ → List ℕ) → List ℕ
-  writeOf k f q w m =
+  unfoldable pub write_of : ℕ → Frame → Loan → List ℕ → (ℕ → List ℕ) → List ℕ
+  write_of k f q w m =
       pick (eqb k T.order.last) (T.result f w m)
       (to_others f.n f.i
-      (pick (toEcho (eqb f.n 2) k) (T.echo.write f.n f.i (digests k f m))
+      (pick (to_echo (eqb f.n 2) k) (T.echo.write f.n f.i (digests k f m))
       ((T.send (next_of (eqb f.n 2) k)).write f q (made k f q w m))))
 
   -- ---- the protocol
   -- the call for round k
-  abbrev pub ruleOf : ℕ → Rule
-  ruleOf k = record {
-    out_len = outLenOf k;
+  abbrev pub rule_of : ℕ → Rule
+  rule_of k = record {
+    out_len = out_len_of k;
     lent = lent_of k;
-    form = formAt k;
-    check = λ f q w m. checkOf k f w m;
-    keep = keepOf k;
-    write = writeOf k;
+    form = form_at k;
+    check = λ f q w m. check_of k f w m;
+    keep = keep_of k;
+    write = write_of k;
   }
 
   -- "19 a call for another round than the one due. 20 the session is done or ended"; a session that opening can't have made counts as ended
-  abbrev pub protocolOf : Protocol
-  protocolOf = record {
-    alive = λ s. T.fine s.party && whole s.party.l s.counts && roundIn T.order (eqb s.party.n 2) s.due;
+  abbrev pub protocol_of : Protocol
+  protocol_of = record {
+    alive = λ s. T.fine s.party && whole s.party.l s.counts && round_in T.order (eqb s.party.n 2) s.due;
     work_len = λ f. off (T.size f) (suc (suc T.count));
-    rule = ruleOf;
+    rule = rule_of;
     next = λ n k. next_of (eqb n 2) k;
     msg_len = len_of;
   }

@@ -13,14 +13,14 @@ use Rattle.lists.specs.All.{all_of, of-all}
 use Rattle.engine.specs.Step.{Frame, frame, Loan, Protocol, stretch}
 use Rattle.engine.specs.StepLaws.{mask_at}
 use Rattle.engine.specs.Engine.{Joint, mail_of, together, HonestRound}
-use Rattle.engine.specs.Area.{off, sec, putSec, length-putSec, sec-same, sec-other, length-lay, sec-lay, to_others, stretch-to_others}
+use Rattle.engine.specs.Area.{off, sec, put_sec, length-put_sec, sec-same, sec-other, length-lay, sec-lay, to_others, stretch-to_others}
 use Rattle.engine.specs.Area.{mem, Every, every-mem}
 
 -- ---- sections written one after another
 -- the sections of a list filled, each with v of it; the first of the list last
 unfoldable pub put_all : (ℕ → ℕ) → List ℕ → (ℕ → List ℕ) → List ℕ → List ℕ
 put_all size [] v w = w
-put_all size (s ∷ ss) v w = putSec size s (v s) (put_all size ss v w)
+put_all size (s ∷ ss) v w = put_sec size s (v s) (put_all size ss v w)
 
 mem-more : (s t : ℕ) (ts : List ℕ) → mem s ts ≡ true → mem s (t ∷ ts) ≡ true
 unfolding mem
@@ -43,7 +43,7 @@ module _ (size : ℕ → ℕ) (total : ℕ) (v : ℕ → List ℕ) (w : List ℕ
   length-put_all [] f = h
   length-put_all (t ∷ ts) f =
       let e = f t (mem-head t ts) in
-      length-putSec size total (put_all size ts v w) (length-put_all ts (λ s m. f s (mem-more s t ts m))) t (v t) e.0 e.1
+      length-put_sec size total (put_all size ts v w) (length-put_all ts (λ s m. f s (mem-more s t ts m))) t (v t) e.0 e.1
 
   pub sec-put_all : (ss : List ℕ) → Fits ss → (s : ℕ) → s < total → sec size s (put_all size ss v w) ≡ pick (mem s ss) (v s) (sec size s w)
   unfolding put_all mem
@@ -60,10 +60,10 @@ module _ (size : ℕ → ℕ) (total : ℕ) (v : ℕ → List ℕ) (w : List ℕ
       fit = (l, (f t (mem-head t ts)).1)
 
       go : (b : Bool) → eqb s t ≡ b → sec size s u ≡ pick (mem s ts) (v s) (sec size s w)
-          → sec size s (putSec size t (v t) u) ≡ pick (pick b true (mem s ts)) (v s) (sec size s w)
+          → sec size s (put_sec size t (v t) u) ≡ pick (pick b true (mem s ts)) (v s) (sec size s w)
       go true e ih =
           let q : s ≡ t = eqb-true s t e in
-          subst (λ i. sec size s (putSec size i (v i) u) ≡ v s) q
+          subst (λ i. sec size s (put_sec size i (v i) u) ≡ v s) q
           (sec-same size total u lu s (v s) l (subst (λ i. length (v i) ≡ size i) (sym q) fit.1))
       go false e ih = sec-other size total u lu s t (v t) (f t (mem-head t ts)).0 (eqb-false s t e) fit.1 ∙ ih
 

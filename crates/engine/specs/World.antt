@@ -132,8 +132,8 @@ module _ {Args : Type 0} (S : Scene Args) where
 
   -- "refused with 20 once round 22 was accepted, else with 19 if its round isn't due, else with 17 or 18 where it has that reason": by the
   -- count of accepted calls
-  abbrev pub reasonAfter : ℕ → Box → ℕ → Lent → ℕ
-  reasonAfter b x k q = reason_of S.protocol (session_at b x.rounds) k q x.work
+  abbrev pub reason_after : ℕ → Box → ℕ → Lent → ℕ
+  reason_after b x k q = reason_of S.protocol (session_at b x.rounds) k q x.work
 
   -- "from each other box, a copy in full length of the bytes that an earlier call of the list wrote to it for that round", the one due
   -- after d accepted calls
@@ -144,7 +144,7 @@ module _ {Args : Type 0} (S : Scene Args) where
   -- "after it round calls"; one without a reason reads what was written for it
   abbrev pub FairTurn : List Note → ℕ → ℕ → Lent → Option Box → Type 0
   FairTurn log b k q none = ⊥
-  FairTurn log b k q (some x) = reasonAfter b x k q ≡ 0 → Reads log b x.rounds k q × S.Agrees k q.loan
+  FairTurn log b k q (some x) = reason_after b x k q ≡ 0 → Reads log b x.rounds k q × S.Agrees k q.loan
 
   -- "one opening with the inputs of demand 3, before it any openings that have a reason to be refused"
   pub data FairOpening (b : ℕ) (a : Args) : Type 0 where
@@ -174,7 +174,7 @@ module _ {Args : Type 0} (S : Scene Args) where
   abbrev pub RightTurn : ℕ → ℕ → Lent → Option Box → Type 0
   RightTurn b k q none = ⊥
   RightTurn b k q (some x) =
-      Answered (reasonAfter S b x k q) b x.session x.work q.out (round_spec S.protocol x.session k q x.work)
+      Answered (reason_after S b x k q) b x.session x.work q.out (round_spec S.protocol x.session k q x.work)
 
   abbrev pub Right : World → Call Args → Type 0
   Right w (opening b a) =

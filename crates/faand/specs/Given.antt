@@ -16,7 +16,7 @@ use Rattle.area.specs.Given.{Work, Place}
 use Rattle.area.specs.GivenLaws.{length_at, section-inside}
 use Rattle.area.specs.Sizes.{size-alpha, size-beta, size-triples}
 use Rattle.buckets.specs.Given.{lent_is}
-use Rattle.buckets.specs.Entries.{yAt, y-within}
+use Rattle.buckets.specs.Entries.{y_at, y-within}
 use Rattle.faand.specs.declared.Places.{Places}
 use Rattle.faand.specs.declared.Records.{Records}
 
@@ -38,7 +38,7 @@ pub record Placed (f : Frame) (p : Places) : Type 0 where
 pub record Lies (f : Frame) (w : List ℕ) (j : ℕ) (r : Records) : Type 0 where
   pub a : r.a ≡ off (size_of f) TRIPLES + j * (2 * record_len f.n)
   pub c : r.c ≡ off (size_of f) TRIPLES + (j * (2 * record_len f.n) + record_len f.n)
-  pub b : r.b ≡ off (size_of f) BITS + yAt f (at f PERM w) j 0
+  pub b : r.b ≡ off (size_of f) BITS + y_at f (at f PERM w) j 0
   pub alpha : r.alpha ≡ off (size_of f) ALPHA + j * record_len f.n
   pub beta : r.beta ≡ off (size_of f) BETA + j * record_len f.n
 
@@ -92,10 +92,10 @@ module _ {f : Frame} {w : List ℕ} (h : Work f w) where
           read TRIPLES (j * (2 * record_len f.n) + record_len f.n) r.c (omega arith) p.c
           (omega (arith, size-triples f, in-chunks j f.l (2 * record_len f.n) l))
 
-      b : Read f w BITS (yAt f (at f PERM w) j 0) r.b
+      b : Read f w BITS (y_at f (at f PERM w) j 0) r.b
       b =
-          read BITS (yAt f (at f PERM w) j 0) r.b (omega arith) p.b
-          (omega (arith, y-within h.ranges (lent_is h refl refl) j 0 (yAt f (at f PERM w) j 0) refl, length_at h BITS (omega arith)))
+          read BITS (y_at f (at f PERM w) j 0) r.b (omega arith) p.b
+          (omega (arith, y-within h.ranges (lent_is h refl refl) j 0 (y_at f (at f PERM w) j 0) refl, length_at h BITS (omega arith)))
 
       alpha : Read f w ALPHA (j * record_len f.n) r.alpha
       alpha =

@@ -6,7 +6,7 @@ use Rattle.block.specs.declared.Block.{Block}
 use Rattle.block.specs.Block.{bytes_of}
 use Rattle.block.specs.Trip.{length-bytes_of}
 use Rattle.message.specs.declared.Kind.TheVariants.{Items}
-use Rattle.message.specs.FormatLaws.{fixed}
+use Rattle.message.proofs.FormLaws.{fixed}
 use Rattle.encode.specs.Encode.{two_bits_two_blocks}
 use Rattle.plan.specs.Plan.{msg_len, list_len, count_due, kind_of}
 use Rattle.engine.specs.declared.Frame.{Frame}

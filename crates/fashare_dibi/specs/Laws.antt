@@ -69,23 +69,23 @@ xor-sel true true true = refl
 
 module _ (f : Frame) (recs dms : List ℕ) (q : ℕ) where
   -- bit q of party k
-  abbrev pub bitIn : ℕ → Bool
-  bitIn k = odd (get_or dms ((k * STRINGS + q) * dm_len f.n) 0)
+  abbrev pub bit_in : ℕ → Bool
+  bit_in k = odd (get_or dms ((k * STRINGS + q) * dm_len f.n) 0)
 
   -- those of the first k parties, of which there are n
-  pub others1-is : (k : ℕ) (s : Bool) → k ≡ f.n → s ≡ others bits f.i k bitIn → s ≡ Fashare.others1 f dms q
+  pub others1-is : (k : ℕ) (s : Bool) → k ≡ f.n → s ≡ others bits f.i k bit_in → s ≡ Fashare.others1 f dms q
   unfolding Fashare.others1 Fashare.dm_row
-  others1-is k s e h = h ∙ ap (λ n. others bits f.i n bitIn) e
+  others1-is k s e h = h ∙ ap (λ n. others bits f.i n bit_in) e
 
   -- party j's MAC for k, but for k's own
-  abbrev pub macIn : ℕ → ℕ → Block
-  macIn k j = sel blocks (neq k j) (block_at dms (Fashare.dm_row f j q + Fashare.dm_mac j k))
+  abbrev pub mac_in : ℕ → ℕ → Block
+  mac_in k j = sel blocks (neq k j) (block_at dms (Fashare.dm_row f j q + Fashare.dm_mac j k))
 
   -- the own one and those of the first j parties, of which there are n
-  pub macs-is : (k j : ℕ) (own sum : Block) → own ≡ mac_at recs (record_at f q) k → sum ≡ others blocks f.i j (macIn k) → j ≡ f.n
+  pub macs-is : (k j : ℕ) (own sum : Block) → own ≡ mac_at recs (record_at f q) k → sum ≡ others blocks f.i j (mac_in k) → j ≡ f.n
       → blocks.op own sum ≡ Fashare.macs_for f recs dms q k
   unfolding Fashare.macs_for Fashare.own share_at
-  macs-is k j own sum eo es e = ap₂ blocks.op eo (es ∙ ap (λ n. others blocks f.i n (macIn k)) e)
+  macs-is k j own sum eo es e = ap₂ blocks.op eo (es ∙ ap (λ n. others blocks f.i n (mac_in k)) e)
 
 -- ---- the message
 pub length-dibi : (f : Frame) (delta : Block) (recs dms : List ℕ) → length (Fashare.dibi_msg f delta recs dms) ≡ DIBI_MSG

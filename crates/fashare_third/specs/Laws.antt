@@ -131,11 +131,11 @@ module _ (c : ℕ → ℕ → ℕ) where
 -- ---- the definition
 module _ (f : Frame) (comms : List ℕ) (m : ℕ → List ℕ) where
   -- the fault of party k at string q
-  abbrev pub thirdAt : ℕ → ℕ → ℕ
-  thirdAt q k = fault_at f.i (third_fault comms m q) k
+  abbrev pub third_at : ℕ → ℕ → ℕ
+  third_at q k = fault_at f.i (third_fault comms m q) k
 
   -- the own number has none
-  pub first-own : (k most : ℕ) → k ≡ f.i → First (λ q. thirdAt q k) most most
+  pub first-own : (k most : ℕ) → k ≡ f.i → First (λ q. third_at q k) most most
   first-own k most e = record {
     below = omega arith;
     clean = λ q l. sym (fault-own f.i k (third_fault comms m q) e);
@@ -144,15 +144,15 @@ module _ (f : Frame) (comms : List ℕ) (m : ℕ → List ℕ) where
 
   -- another one has those of its message x
   pub first-other : (k most r : ℕ) (x : List ℕ) → k ≢ f.i → x ≡ m k → First (λ q. third_fault comms (λ _. x) q k) most r
-      → First (λ q. thirdAt q k) most r
+      → First (λ q. third_at q k) most r
   unfolding third_fault
   first-other k most r x ne e h =
-      let is : (q : ℕ) → third_fault comms (λ _. x) q k ≡ thirdAt q k =
+      let is : (q : ℕ) → third_fault comms (λ _. x) q k ≡ third_at q k =
       λ q. fault-other f.i k _ (third_fault comms m q) ne (ap (λ (y : List ℕ). third_fault comms (λ _. y) q k) e) in
       record { below = h.below; clean = λ q l. sym (is q) ∙ h.clean q l; shut = λ l z. h.shut l (is r ∙ z) }
 
   -- it is 2 where there is one
-  two : (q k : ℕ) → thirdAt q k ≢ 0 → 2 ≡ thirdAt q k
+  two : (q k : ℕ) → third_at q k ≢ 0 → 2 ≡ third_at q k
   unfolding third_fault
   two q k = go (neq f.i k) (same? (hash (whole_dm (m k) q)) (take 32 (drop 64 (comms_to comms k q))))
     where
@@ -161,7 +161,7 @@ module _ (f : Frame) (comms : List ℕ) (m : ℕ → List ℕ) where
       go true false ne = refl
       go false t ne = absurd (ne refl)
 
-  module _ (k first party : ℕ) (e : k ≡ f.n) (h : Lowest thirdAt k first party) where
+  module _ (k first party : ℕ) (e : k ≡ f.n) (h : Lowest third_at k first party) where
     clean-string : (q : ℕ) → q < first → (by_party f (third_fault comms m q)).code ≡ 0
     clean-string q l =
         sym (finds-none f.n f.i (third_fault comms m q) f.l f.n 0 (scan-none f.n _ (λ j lj. h.clean j (omega arith) q l)) refl).code_is

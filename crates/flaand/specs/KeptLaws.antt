@@ -13,12 +13,12 @@ use Rattle.rounds.specs.Flaand.{e}
 use Rattle.area.specs.Given.{Work}
 use Rattle.area.specs.GivenLaws.{lent_length}
 use Rattle.area.specs.Sizes.{size-bits, size-leaky, size-zs}
-use Rattle.area.specs.Positions.{x-in, r-in, entry_in}
+use Rattle.area.specs.Positions.{x_in_lem, r-in, entry_in}
 use Rattle.flaand.specs.Given.{HalfAnds}
 
 module _ {f : Frame} {recs rows zs : List ℕ} (q : HalfAnds f recs rows zs) (t : ℕ) (h : t < leaky f.l) where
   pub x-at-in : t * record_len f.n + record_len f.n ≤ length recs
-  x-at-in = x-in f recs q.records t h
+  x-at-in = x_in_lem f recs q.records t h
 
   pub r-at-in : (2 * leaky f.l + t) * record_len f.n + record_len f.n ≤ length recs
   r-at-in = r-in f recs q.records t h
@@ -30,8 +30,8 @@ module _ {f : Frame} {recs rows zs : List ℕ} (q : HalfAnds f recs rows zs) (t 
   pub u-in : (k : ℕ) → k < f.n → t * leaky_len f.n + (32 + k * 18) + 16 ≤ length rows
   u-in k w = omega (arith, entry_in f rows q.leakies t k h w)
 
-  pub z-in : t * 17 + 17 ≤ length zs
-  z-in = omega (arith, in-chunks t (leaky f.l) 17 h, q.bits)
+  pub z_in_lem : t * 17 + 17 ≤ length zs
+  z_in_lem = omega (arith, in-chunks t (leaky f.l) 17 h, q.bits)
 
 -- the sections of a work area
 pub kept-secs : {f : Frame} {w : List ℕ} → Work f w → (x y z : List ℕ) → x ≡ at f BITS w → y ≡ at f LEAKY w → z ≡ at f ZS w → HalfAnds f x y z

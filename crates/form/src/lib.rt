@@ -5,7 +5,7 @@
 
 ghost use Rattle.std.specs.Prelude.{◌≡◌, true, ◌<◌, ◌≤◌, length};
 ghost use Rattle.engine.specs.Step.{parts_in, by_party, form_fault};
-ghost use Rattle.engine.specs.Plain.{ruleOf};
+ghost use Rattle.engine.specs.Plain.{rule_of};
 ghost use Rattle.rounds.specs.FaultLaws.{Finds, fault_at};
 ghost use Rattle.rounds.specs.Table.{table};
 ghost use Rattle.area.specs.Given.{Ranged};
@@ -63,7 +63,7 @@ pub fn form(incoming: &[u8], mail: Mail, missing: &[u8], f: Frame, k: usize) -> 
     requires ranged { Ranged f }
     requires missing_len { length missing.now ≡ f.n }
     requires missing_value { parts_in f (posted incoming.now mail missing.now) ≡ true }
-    ensures { Finds result.code result.party (by_party f (form_fault (ruleOf table k) f (posted incoming.now mail missing.now))) }
+    ensures { Finds result.code result.party (by_party f (form_fault (rule_of table k) f (posted incoming.now mail missing.now))) }
 {
     let n = f.n;
     let i = f.i;

@@ -103,7 +103,7 @@ module _ (R : Run) where
     unfolding S.holds S.since
     joint-at r = has JOINT refl r
 
-    pub pair-comms-at : leb (before 5) t ≡ true → at (box R i) PAIR_COMMS w ≡ S.pairComms R i
+    pub pair-comms-at : leb (before 5) t ≡ true → at (box R i) PAIR_COMMS w ≡ S.pair_comms R i
     unfolding S.holds S.since
     pair-comms-at r = has PAIR_COMMS refl r
 
@@ -111,7 +111,7 @@ module _ (R : Run) where
     unfolding S.holds S.since
     key-sums-at r = has KEY_SUMS refl r
 
-    pub share-comms-at : leb (before 10) t ≡ true → at (box R i) SHARE_COMMS w ≡ S.shareComms R i
+    pub share-comms-at : leb (before 10) t ≡ true → at (box R i) SHARE_COMMS w ≡ S.share_comms R i
     unfolding S.holds S.since
     share-comms-at r = has SHARE_COMMS refl r
 
@@ -135,7 +135,7 @@ module _ (R : Run) where
     unfolding S.holds S.since
     hs-at r = has HS refl r
 
-    pub h-comms-at : leb (before 19) t ≡ true → at (box R i) H_COMMS w ≡ S.hComms R i
+    pub h-comms-at : leb (before 19) t ≡ true → at (box R i) H_COMMS w ≡ S.h_comms R i
     unfolding S.holds S.since
     h-comms-at r = has H_COMMS refl r
 

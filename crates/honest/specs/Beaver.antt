@@ -11,7 +11,7 @@ use Rattle.lists.specs.All.{all_of, all_of_lem}
 use Rattle.lists.specs.Over.{cat}
 use Rattle.lists.specs.Rows.{cat-ext}
 use Rattle.algebra.specs.Group.{sel, odd, num, odd-num}
-use Rattle.algebra.specs.Share.{Shared, shared, total, Good, good-op, beaverOut}
+use Rattle.algebra.specs.Share.{Shared, shared, total, Good, good-op, beaver_out}
 use Rattle.block.specs.declared.Block.{Block}
 use Rattle.block.specs.Block.{block_at, bytes_of, Small}
 use Rattle.block.specs.Group.{blocks, eq_block_lem}
@@ -40,11 +40,11 @@ use Rattle.rounds.specs.Beaver as B
 use Rattle.alone.specs.BucketsLaws.{first-in}
 use Rattle.alone.specs.BeaverLaws.{agree-finish}
 use Rattle.honest.specs.Script as S
-use Rattle.honest.specs.Inputs.{Run, box, Boxes, deltas, alphasOf, betasOf, small-bits, small-alpha, small-beta}
+use Rattle.honest.specs.Inputs.{Run, box, Boxes, deltas, alphas_of, betas_of, small-bits, small-alpha, small-beta}
 use Rattle.honest.specs.Base.{Sends, Ends, list-form, list_len_lem, Fit, delta-is, bits_at, alpha-at, beta-at, zs-at, es-at, perm_at}
 use Rattle.honest.specs.Base.{ds-at, triples-at, keep_one}
 use Rattle.honest.specs.Values.{share-y, LeakyTriples}
-use Rattle.honest.specs.Buckets.{item-byte, item-block, open-all, passes, aOf, bOf, cOf, place, entry-is, good-y, l-small}
+use Rattle.honest.specs.Buckets.{item-byte, item-block, open_all_lem, passes, a_of, b_of, c_of, place, entry-is, good-y, l-small}
 use Rattle.honest.specs.Buckets.{length-triples, bytes-triples, a_read, c_read, small-a, small-c, abc-triple}
 
 -- ---- a message of two bits and two Blocks each
@@ -106,16 +106,16 @@ module _ (R : Run) where
   open R use {n}
 
   -- "d = a + alpha, e = b + beta"
-  abbrev pub dOf : ℕ → Shared Block
-  dOf j = (shared blocks).op (aOf R j) (alphasOf R j)
+  abbrev pub d_of : ℕ → Shared Block
+  d_of j = (shared blocks).op (a_of R j) (alphas_of R j)
 
-  abbrev pub eOf : ℕ → Shared Block
-  eOf j = (shared blocks).op (bOf R j) (betasOf R j)
+  abbrev pub e_of : ℕ → Shared Block
+  e_of j = (shared blocks).op (b_of R j) (betas_of R j)
 
   -- "result c + d·beta + e·a"
   abbrev pub out_of : ℕ → Shared Block
-  out_of j = beaverOut blocks n (deltas R) (aOf R j) (bOf R j) (cOf R j)
-      (alphasOf R j) (betasOf R j)
+  out_of j = beaver_out blocks n (deltas R) (a_of R j) (b_of R j) (c_of R j)
+      (alphas_of R j) (betas_of R j)
 
 module _ (R : Run) (X : Boxes R) where
   open R use {n, l, inputs}
@@ -133,20 +133,20 @@ module _ (R : Run) (X : Boxes R) where
   abbrev e : ℕ → ℕ → Share
   e i j = B.e (box R i) (inputs i).bits (perm i) (inputs i).beta j
 
-  d-read : (i j : ℕ) → i < n → j < l → Agree n i (d i j) (share_of i (dOf R j))
+  d-read : (i j : ℕ) → i < n → j < l → Agree n i (d i j) (share_of i (d_of R j))
   unfolding B.d B.share
   d-read i j li lj =
-      rw (share-of-op i (aOf R j) (alphasOf R j), share-of-at (λ b. (inputs b).alpha) (j * record_len n) i)
+      rw (share-of-op i (a_of R j) (alphas_of R j), share-of-at (λ b. (inputs b).alpha) (j * record_len n) i)
       (agree-op n i _ _ _ _ (a_read R X i j li lj) (agree_refl n i _))
 
-  e-share : (i j : ℕ) → i < n → j < l → e i j ≡ share_of i (eOf R j)
+  e-share : (i j : ℕ) → i < n → j < l → e i j ≡ share_of i (e_of R j)
   unfolding B.e B.b B.share
   e-share i j li lj =
       ap₂ shares.op (ap (y (box R i) (inputs i).bits) (entry-is R X i j 0 li lj (first-in l)) ∙ sym (share-y R i (place R j 0)))
       (sym (share-of-at (λ b. (inputs b).beta) (j * record_len n) i))
-      ∙ sym (share-of-op i (bOf R j) (betasOf R j))
+      ∙ sym (share-of-op i (b_of R j) (betas_of R j))
 
-  e-read : (i j : ℕ) → i < n → j < l → Agree n i (e i j) (share_of i (eOf R j))
+  e-read : (i j : ℕ) → i < n → j < l → Agree n i (e i j) (share_of i (e_of R j))
   e-read i j li lj = subst (Agree n i (e i j)) (e-share i j li lj) (agree_refl n i (e i j))
 
   small-d : (i j : ℕ) → i < n → SmallShare n (d i j)
@@ -158,10 +158,10 @@ module _ (R : Run) (X : Boxes R) where
   small-e i j li = small-share-op n _ _ (small-bits R X i li _) (small-beta R X i li _)
 
   module _ (L : LeakyTriples R) (j : ℕ) (lj : j < l) where
-    good-d : Good blocks n (deltas R) (dOf R j)
+    good-d : Good blocks n (deltas R) (d_of R j)
     good-d = good-op blocks n (deltas R) _ _ (abc-triple R X L j lj).good-a (X.alpha-mac j lj)
 
-    good-e : Good blocks n (deltas R) (eOf R j)
+    good-e : Good blocks n (deltas R) (e_of R j)
     good-e = good-op blocks n (deltas R) _ _ (good-y R X j 0 lj (first-in l)) (X.beta-mac j lj)
 
   -- ---- the messages
@@ -174,14 +174,14 @@ module _ (R : Run) (X : Boxes R) where
   faand-form j r = list-form (Items 34 2) l _ (l-small R X) (λ t i. coded-two_bits_two_blocks _ _ _ _)
 
   module _ (i k j : ℕ) (li : i < n) (lk : k < n) (lj : j < l) (m : ℕ → List ℕ) (h : m k ≡ S.sent22 R k i) where
-    d-told : B.d_told m k j ≡ (dOf R j).bit k
+    d-told : B.d_told m k j ≡ (d_of R j).bit k
     unfolding B.d_told S.sent22 B.faand_msg share_of
     d-told =
         ap (λ (s : List ℕ). odd (get_or s (8 + j * 34) 0)) h
         ∙ first_read l (λ j. (d k j).bit) (λ j. (e k j).bit) (λ j. (d k j).mac i) (λ j. (e k j).mac i) (l-small R X) j lj
         ∙ (d-read k j lk lj).bit
 
-    e-told : B.e_told m k j ≡ (eOf R j).bit k
+    e-told : B.e_told m k j ≡ (e_of R j).bit k
     unfolding B.e_told S.sent22 B.faand_msg share_of
     e-told =
         ap (λ (s : List ℕ). odd (get_or s (8 + j * 34 + 1) 0)) h
@@ -189,7 +189,7 @@ module _ (R : Run) (X : Boxes R) where
         ∙ (e-read k j lk lj).bit
 
     module _ (ne : i ≢ k) where
-      d-mac-told : block_at (m k) (8 + j * 34 + 2) ≡ (dOf R j).mac k i
+      d-mac-told : block_at (m k) (8 + j * 34 + 2) ≡ (d_of R j).mac k i
       unfolding S.sent22 B.faand_msg share_of
       d-mac-told =
           ap (λ (s : List ℕ). block_at s (8 + j * 34 + 2)) h
@@ -197,7 +197,7 @@ module _ (R : Run) (X : Boxes R) where
           ((small-d k j lk).mac i li)
           ∙ (d-read k j lk lj).mac i li (λ z. ne (sym z))
 
-      e-mac-told : block_at (m k) (8 + j * 34 + 18) ≡ (eOf R j).mac k i
+      e-mac-told : block_at (m k) (8 + j * 34 + 18) ≡ (e_of R j).mac k i
       unfolding S.sent22 B.faand_msg share_of
       e-mac-told =
           ap (λ (s : List ℕ). block_at s (8 + j * 34 + 18)) h
@@ -227,20 +227,20 @@ module _ (R : Run) (X : Boxes R) where
 
   -- ---- the results
   module _ (i : ℕ) (li : i < n) (m : ℕ → List ℕ) (M : Mail n (S.sent22 R) i m) (j : ℕ) (lj : j < l) where
-    d-opened : B.d_opened (box R i) (triples i) (inputs i).alpha m j ≡ total n (dOf R j)
+    d-opened : B.d_opened (box R i) (triples i) (inputs i).alpha m j ≡ total n (d_of R j)
     unfolding B.d_opened share_of
     d-opened =
-        open-all i n (dOf R j).bit _ (λ k. B.d_told m k j) li (d-read i j li lj).bit (λ k lk ne. d-told i k j li lk lj m (M k lk ne))
+        open_all_lem i n (d_of R j).bit _ (λ k. B.d_told m k j) li (d-read i j li lj).bit (λ k lk ne. d-told i k j li lk lj m (M k lk ne))
 
-    e-opened : B.e_opened (box R i) (inputs i).bits (perm i) (inputs i).beta m j ≡ total n (eOf R j)
+    e-opened : B.e_opened (box R i) (inputs i).bits (perm i) (inputs i).beta m j ≡ total n (e_of R j)
     unfolding B.e_opened share_of
     e-opened =
-        open-all i n (eOf R j).bit _ (λ k. B.e_told m k j) li (e-read i j li lj).bit (λ k lk ne. e-told i k j li lk lj m (M k lk ne))
+        open_all_lem i n (e_of R j).bit _ (λ k. B.e_told m k j) li (e-read i j li lj).bit (λ k lk ne. e-told i k j li lk lj m (M k lk ne))
 
   share-out : (i j : ℕ)
       → share_of i (out_of R j)
-      ≡ B.finish (share_of i (cOf R j)) (share_of i (betasOf R j)) (share_of i (aOf R j)) (total n (dOf R j)) (total n (eOf R j))
-  share-out i j = share-finish i (cOf R j) (betasOf R j) (aOf R j) (total n (dOf R j)) (total n (eOf R j))
+      ≡ B.finish (share_of i (c_of R j)) (share_of i (betas_of R j)) (share_of i (a_of R j)) (total n (d_of R j)) (total n (e_of R j))
+  share-out i j = share-finish i (c_of R j) (betas_of R j) (a_of R j) (total n (d_of R j)) (total n (e_of R j))
 
   pub small-out : (i j : ℕ) → i < n → SmallShare n (share_of i (out_of R j))
   small-out i j li =
@@ -248,7 +248,7 @@ module _ (R : Run) (X : Boxes R) where
       (small-finish n _ _ _ _ _ (small-c R X i j li)
       (rw (share-of-at (λ b. (inputs b).beta) (j * record_len n) i) (small-beta R X i li (j * record_len n))) (small-a R X i j li))
 
-  beta-read : (i j : ℕ) → Agree n i (B.share (box R i) (inputs i).beta j) (share_of i (betasOf R j))
+  beta-read : (i j : ℕ) → Agree n i (B.share (box R i) (inputs i).beta j) (share_of i (betas_of R j))
   unfolding B.share
   beta-read i j = rw (share-of-at (λ b. (inputs b).beta) (j * record_len n) i) (agree_refl n i _)
 

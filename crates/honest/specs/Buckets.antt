@@ -15,7 +15,7 @@ use Rattle.lists.specs.Rows.{cat-ext, tab-ext}
 use Rattle.lists.specs.Bytes.{Bytes, bytes-append, bytes-cat}
 use Rattle.algebra.specs.Group.{bits, addb, addb-comm, sel, odd, num, odd-num}
 use Rattle.algebra.specs.Sum.{sum, others, others-ext, others-all}
-use Rattle.algebra.specs.Bucket.{bucketX, bucketZ}
+use Rattle.algebra.specs.Bucket.{bucket_x, bucket_z}
 use Rattle.algebra.specs.Share.{Shared, shared, total, Good, good-op, Triple, bucket}
 use Rattle.block.specs.declared.Block.{Block}
 use Rattle.block.specs.Block.{block_at, le8, bytes_of, Small}
@@ -35,7 +35,7 @@ use Rattle.plan.specs.PlanLaws.{bucket-high}
 use Rattle.engine.specs.StepLaws.{by-none}
 use Rattle.engine.specs.Area.{mem}
 use Rattle.engine.specs.Sheet.{stays_test, Mail}
-use Rattle.engine.specs.Order.{echoIn}
+use Rattle.engine.specs.Order.{echo_in}
 use Rattle.engine.specs.Honest.{before, due, plain_after}
 use Rattle.rounds.specs.Area.{PERM, DS, sizes, size_of}
 use Rattle.rounds.specs.Table.{judge, kept, held, written}
@@ -48,10 +48,10 @@ use Rattle.alone.specs.Cells.{row-byte, row_block}
 use Rattle.alone.specs.BucketsLaws.{length-perm, first-in, later-in, all_in, place-below, entry_read, combine-ext, SmallTriple}
 use Rattle.alone.specs.BucketsLaws as A
 use Rattle.honest.specs.Script as S
-use Rattle.honest.specs.Inputs.{Run, box, Boxes, jointOf, order_of, deltas, small-bits}
+use Rattle.honest.specs.Inputs.{Run, box, Boxes, joint_of, order_of, deltas, small-bits}
 use Rattle.honest.specs.Base.{Receives, Sends, list-form, Fit, delta-is, joint-at, bits_at, perm_at, keep_one}
 use Rattle.honest.specs.Toss.{one-joint}
-use Rattle.honest.specs.Values.{xOf, yOf, z_of, share-x, share-y, share-z, small-z, LeakyTriples}
+use Rattle.honest.specs.Values.{x_of, y_of, z_of, share-x, share-y, share-z, small-z, LeakyTriples}
 use Rattle.honest.specs.Combining.{triple_of, combined, small-bucket-x, small-bucket-z}
 
 -- ---- what is read of an item that stands at a place in a message
@@ -137,33 +137,33 @@ module _ (R : Run) where
   abbrev pub place : ℕ → ℕ → ℕ
   place j e = get_or (order_of R) (j * bucket_size l + e) 0
 
-  abbrev pub xIn : ℕ → ℕ → Shared Block
-  xIn j e = xOf R (place j e)
+  abbrev pub x_in : ℕ → ℕ → Shared Block
+  x_in j e = x_of R (place j e)
 
-  abbrev pub yIn : ℕ → ℕ → Shared Block
-  yIn j e = yOf R (place j e)
+  abbrev pub y_in : ℕ → ℕ → Shared Block
+  y_in j e = y_of R (place j e)
 
-  abbrev pub zIn : ℕ → ℕ → Shared Block
-  zIn j e = z_of R (place j e)
+  abbrev pub z_in : ℕ → ℕ → Shared Block
+  z_in j e = z_of R (place j e)
 
   -- "d = first y + later y"
-  abbrev pub dOf : ℕ → ℕ → Shared Block
-  dOf j e = (shared blocks).op (yIn j 0) (yIn j (suc e))
+  abbrev pub d_of : ℕ → ℕ → Shared Block
+  d_of j e = (shared blocks).op (y_in j 0) (y_in j (suc e))
 
   -- the combined x and z: a and c of bucket j; b is its first y
-  abbrev pub aOf : ℕ → Shared Block
-  aOf j = bucketX (shared blocks) (xIn j) (more l)
+  abbrev pub a_of : ℕ → Shared Block
+  a_of j = bucket_x (shared blocks) (x_in j) (more l)
 
-  abbrev pub bOf : ℕ → Shared Block
-  bOf j = yIn j 0
+  abbrev pub b_of : ℕ → Shared Block
+  b_of j = y_in j 0
 
-  abbrev pub cOf : ℕ → Shared Block
-  cOf j = bucketZ (shared blocks) (xIn j) (zIn j) (λ e. total n (dOf j e)) (more l)
+  abbrev pub c_of : ℕ → Shared Block
+  c_of j = bucket_z (shared blocks) (x_in j) (z_in j) (λ e. total n (d_of j e)) (more l)
 
 -- the own bit and those told by all others are the XOR of all
-pub open-all : (i n : ℕ) (v : ℕ → Bool) (own : Bool) (told : ℕ → Bool) → i < n → own ≡ v i → ((k : ℕ) → k < n → i ≢ k → told k ≡ v k)
+pub open_all_lem : (i n : ℕ) (v : ℕ → Bool) (own : Bool) (told : ℕ → Bool) → i < n → own ≡ v i → ((k : ℕ) → k < n → i ≢ k → told k ≡ v k)
     → addb own (others bits i n told) ≡ sum bits n v
-open-all i n v own told li e h =
+open_all_lem i n v own told li e h =
     ap₂ addb e (others-ext bits i n told v h) ∙ addb-comm (v i) (others bits i n v) ∙ others-all bits i n v li
 
 pub passes : (code : ℕ) (b : Bool) → b ≡ true → pick b 0 code ≡ 0
@@ -177,31 +177,31 @@ module _ (R : Run) (X : Boxes R) where
 
   -- ---- the entries
   place-low : (j e : ℕ) → j < l → e < bucket_size l → place R j e < leaky l
-  place-low j e lj le = place-below (box R 0) (jointOf R) X.range.most j e lj le
+  place-low j e lj le = place-below (box R 0) (joint_of R) X.range.most j e lj le
 
   -- all boxes have the same, since they hold one joint seed
   pub entry-is : (i j e : ℕ) → i < n → j < l → e < bucket_size l → entry (box R i) (perm i) j e ≡ place R j e
   unfolding S.perms order
   entry-is i j e li lj le =
       ap (λ (s : List ℕ). entry (box R i) (perm_bytes (box R i) s) j e) (one-joint R X i li)
-      ∙ entry_read (box R i) (jointOf R) X.range.most j e lj le
+      ∙ entry_read (box R i) (joint_of R) X.range.most j e lj le
 
   -- ---- d
-  d-share : (i j e : ℕ) → i < n → j < l → e < more l → d (box R i) (inputs i).bits (perm i) j e ≡ share_of i (dOf R j e)
+  d-share : (i j e : ℕ) → i < n → j < l → e < more l → d (box R i) (inputs i).bits (perm i) j e ≡ share_of i (d_of R j e)
   unfolding d
   d-share i j e li lj le =
       ap₂ (λ a b. shares.op (y (box R i) (inputs i).bits a) (y (box R i) (inputs i).bits b))
       (entry-is i j 0 li lj (first-in l)) (entry-is i j (suc e) li lj (later-in l e le))
       ∙ sym (ap₂ shares.op (share-y R i (place R j 0)) (share-y R i (place R j (suc e))))
-      ∙ sym (share-of-op i (yIn R j 0) (yIn R j (suc e)))
+      ∙ sym (share-of-op i (y_in R j 0) (y_in R j (suc e)))
 
-  pub good-y : (j e : ℕ) → j < l → e < bucket_size l → Good blocks n (deltas R) (yIn R j e)
+  pub good-y : (j e : ℕ) → j < l → e < bucket_size l → Good blocks n (deltas R) (y_in R j e)
   unfolding bits_count
   good-y j e lj le = X.bits-mac (leaky l + place R j e) (omega (arith, place-low j e lj le))
 
-  good-d : (j e : ℕ) → j < l → e < more l → Good blocks n (deltas R) (dOf R j e)
+  good-d : (j e : ℕ) → j < l → e < more l → Good blocks n (deltas R) (d_of R j e)
   good-d j e lj le =
-      good-op blocks n (deltas R) (yIn R j 0) (yIn R j (suc e)) (good-y j 0 lj (first-in l)) (good-y j (suc e) lj (later-in l e le))
+      good-op blocks n (deltas R) (y_in R j 0) (y_in R j (suc e)) (good-y j 0 lj (first-in l)) (good-y j (suc e) lj (later-in l e le))
 
   small-d : (i j e : ℕ) → i < n → SmallShare n (d (box R i) (inputs i).bits (perm i) j e)
   unfolding d y
@@ -226,7 +226,7 @@ module _ (R : Run) (X : Boxes R) where
 
   module _ (i k j e : ℕ) (li : i < n) (lk : k < n) (lj : j < l) (le : e < more l) (m : ℕ → List ℕ)
       (h : m k ≡ S.sent21 R k i) where
-    told : d_told (box R i) m k j e ≡ (dOf R j e).bit k
+    told : d_told (box R i) m k j e ≡ (d_of R j e).bit k
     unfolding d_told bucket_at later S.sent21 dvalue_msg share_of
     told =
         ap (λ (s : List ℕ). odd (get_or s (8 + j * (8 + more l + (8 + 16 * more l)) + 8 + e) 0)) h
@@ -234,7 +234,7 @@ module _ (R : Run) (X : Boxes R) where
         (λ j e. (d (box R k) (inputs k).bits (perm k) j e).mac i) l-small more-small j e lj le
         ∙ ap (λ (s : Share). s.bit) (d-share k j e lk lj le)
 
-    mac-told : d_mac_told (box R i) m k j e ≡ (dOf R j e).mac k i
+    mac-told : d_mac_told (box R i) m k j e ≡ (d_of R j e).mac k i
     unfolding d_mac_told bucket_at later S.sent21 dvalue_msg share_of
     mac-told =
         ap (λ (s : List ℕ). block_at s (8 + j * (8 + more l + (8 + 16 * more l)) + 8 + more l + 8 + e * 16)) h
@@ -260,29 +260,29 @@ module _ (R : Run) (X : Boxes R) where
 
   -- ---- what is opened: all boxes have the XOR of all bits
   opened-is : (i j e : ℕ) → i < n → j < l → e < more l → (m : ℕ → List ℕ) → Mail n (S.sent21 R) i m
-      → d_opened (box R i) (inputs i).bits (perm i) m j e ≡ total n (dOf R j e)
+      → d_opened (box R i) (inputs i).bits (perm i) m j e ≡ total n (d_of R j e)
   unfolding d_opened share_of
   opened-is i j e li lj le m M =
-      open-all i n (dOf R j e).bit _ (λ k. d_told (box R i) m k j e) li (ap (λ (s : Share). s.bit) (d-share i j e li lj le))
+      open_all_lem i n (d_of R j e).bit _ (λ k. d_told (box R i) m k j e) li (ap (λ (s : Share). s.bit) (d-share i j e li lj le))
       (λ k lk ne. told i k j e li lk lj le m (M k lk ne))
 
   ds-is : (i : ℕ) → i < n → (m : ℕ → List ℕ) → Mail n (S.sent21 R) i m
-      → B.ds (box R i) (inputs i).bits (perm i) m ≡ cat l (λ j. tab (more l) (λ e. num (total n (dOf R j e))))
+      → B.ds (box R i) (inputs i).bits (perm i) m ≡ cat l (λ j. tab (more l) (λ e. num (total n (d_of R j e))))
   unfolding B.ds later
   ds-is i li m M =
       cat-ext l _ _ (λ j lj. tab-ext (more l) _ _ (λ e le. ap num (opened-is i j e li lj le m M)))
 
   -- what DS holds
-  pub ds-value : (i : ℕ) → i < n → S.ds R i ≡ cat l (λ j. tab (more l) (λ e. num (total n (dOf R j e))))
+  pub ds-value : (i : ℕ) → i < n → S.ds R i ≡ cat l (λ j. tab (more l) (λ e. num (total n (d_of R j e))))
   unfolding S.ds
   ds-value i li = ds-is i li _ (λ k lk ne. refl)
 
-  pub ds-read : (i j e : ℕ) → i < n → j < l → e < more l → odd (get_or (S.ds R i) (j * more l + e) 0) ≡ total n (dOf R j e)
+  pub ds-read : (i j e : ℕ) → i < n → j < l → e < more l → odd (get_or (S.ds R i) (j * more l + e) 0) ≡ total n (d_of R j e)
   ds-read i j e li lj le =
-      let row : ℕ → List ℕ = λ j. tab (more l) (λ e. num (total n (dOf R j e))) in
+      let row : ℕ → List ℕ = λ j. tab (more l) (λ e. num (total n (d_of R j e))) in
       ap (λ (s : List ℕ). odd (get_or s (j * more l + e) 0)) (ds-value i li)
       ∙ ap odd (row-byte (more l) l row (λ t lt. length-tab (more l) _) j e lj le ∙ get_or-tab (more l) e _ 0 le)
-      ∙ odd-num (total n (dOf R j e))
+      ∙ odd-num (total n (d_of R j e))
 
   -- ---- the round
   fit-perm : Fit R PERM
@@ -305,7 +305,7 @@ module _ (R : Run) (X : Boxes R) where
   }
 
   pub recv-21 : Receives R 21
-  unfolding plain_after echoIn mem stays_test all_of S.since S.holds S.sent judge kept
+  unfolding plain_after echo_in mem stays_test all_of S.since S.holds S.sent judge kept
   recv-21 = record {
     heard = record {
       lens = λ j r lj lr ne. dvalue-len j r;
@@ -321,16 +321,16 @@ module _ (R : Run) (X : Boxes R) where
 
   -- ---- what TRIPLES holds
   abbrev xs : ℕ → ℕ → Shared Block
-  xs = xIn R
+  xs = x_in R
 
   abbrev ys : ℕ → ℕ → Shared Block
-  ys = yIn R
+  ys = y_in R
 
   abbrev zs : ℕ → ℕ → Shared Block
-  zs = zIn R
+  zs = z_in R
 
   abbrev opened : ℕ → ℕ → Bool
-  opened j e = total n (dOf R j e)
+  opened j e = total n (d_of R j e)
 
   abbrev own : ℕ → ℕ → B.Triple
   own i = abc (box R i) (deltas R i) (inputs i).bits (S.z_rows R i) (S.es R i) (perm i)
@@ -340,9 +340,9 @@ module _ (R : Run) (X : Boxes R) where
   abc-is : (i j : ℕ) → i < n → j < l
       → own i j
       ≡ record {
-        tx = share_of i (aOf R j);
-        ty = share_of i (bOf R j);
-        tz = share_of i (cOf R j);
+        tx = share_of i (a_of R j);
+        ty = share_of i (b_of R j);
+        tz = share_of i (c_of R j);
       }
   unfolding abc later leaky_and
   abc-is i j li lj =
@@ -381,10 +381,10 @@ module _ (R : Run) (X : Boxes R) where
   unfolding x
   small-x i j e li = rw (share-x R i (place R j e)) (small-bits R X i li _)
 
-  pub small-a : (i j : ℕ) → i < n → SmallShare n (share_of i (aOf R j))
+  pub small-a : (i j : ℕ) → i < n → SmallShare n (share_of i (a_of R j))
   small-a i j li = small-bucket-x (xs j) (ys j) (zs j) (opened j) i (more l) n (λ e le. small-x i j e li)
 
-  pub small-c : (i j : ℕ) → i < n → SmallShare n (share_of i (cOf R j))
+  pub small-c : (i j : ℕ) → i < n → SmallShare n (share_of i (c_of R j))
   small-c i j li =
       small-bucket-z (xs j) (ys j) (zs j) (opened j) i (more l) n (λ e le. small-x i j e li) (λ e le. small-z R X i li (place R j e))
 
@@ -393,20 +393,20 @@ module _ (R : Run) (X : Boxes R) where
   small-own i j li lj =
       subst (SmallTriple n) (sym (abc-is i j li lj)) (record { tx = small-a i j li; tz = small-c i j li })
 
-  pub a_read : (i j : ℕ) → i < n → j < l → Agree n i (Beaver.a (box R i) (S.triple_rows R i) j) (share_of i (aOf R j))
+  pub a_read : (i j : ℕ) → i < n → j < l → Agree n i (Beaver.a (box R i) (S.triple_rows R i) j) (share_of i (a_of R j))
   unfolding S.triple_rows triple_rows
   a_read i j li lj =
       subst (λ (g : B.Triple). Agree n i (Beaver.a (box R i) (S.triple_rows R i) j) g.tx) (abc-is i j li lj)
       (A.a_read (box R i) (own i) j lj (small-own i j li lj))
 
-  pub c_read : (i j : ℕ) → i < n → j < l → Agree n i (Beaver.c (box R i) (S.triple_rows R i) j) (share_of i (cOf R j))
+  pub c_read : (i j : ℕ) → i < n → j < l → Agree n i (Beaver.c (box R i) (S.triple_rows R i) j) (share_of i (c_of R j))
   unfolding S.triple_rows triple_rows
   c_read i j li lj =
       subst (λ (g : B.Triple). Agree n i (Beaver.c (box R i) (S.triple_rows R i) j) g.tz) (abc-is i j li lj)
       (A.c_read (box R i) (own i) j lj (small-own i j li lj))
 
   -- c is the AND of a and b
-  pub abc-triple : LeakyTriples R → (j : ℕ) → j < l → Triple blocks n (deltas R) (aOf R j) (bOf R j) (cOf R j)
+  pub abc-triple : LeakyTriples R → (j : ℕ) → j < l → Triple blocks n (deltas R) (a_of R j) (b_of R j) (c_of R j)
   abc-triple L j lj =
       bucket blocks n (deltas R) (xs j) (ys j) (zs j) (more l)
       (λ e le. L (place R j e) (place-low j e lj (all_in l e le)))

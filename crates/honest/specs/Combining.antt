@@ -6,7 +6,7 @@ use Rattle.std.proofs.Math.Path.{ap₂}
 use Prim.Native.Nat.{ℕ, suc, ◌<◌}
 use Rattle.algebra.specs.Group.{sel}
 use Rattle.algebra.specs.Sum.{sum, sum-ext}
-use Rattle.algebra.specs.Bucket.{bucketX, bucketZ}
+use Rattle.algebra.specs.Bucket.{bucket_x, bucket_z}
 use Rattle.algebra.specs.Share.{Shared, shared}
 use Rattle.block.specs.declared.Block.{Block}
 use Rattle.block.specs.Group.{blocks}
@@ -22,12 +22,12 @@ triple_of x y z i e = record { tx = share_of i (x e); ty = share_of i (y e); tz 
 
 -- c + 1 triples; d e was opened for triple e + 1
 module _ (x y z : ℕ → Shared Block) (d : ℕ → Bool) (i c : ℕ) where
-  share-x : share_of i (bucketX (shared blocks) x c) ≡ bucketX shares (λ e. share_of i (x e)) c
-  unfolding bucketX
+  share-x : share_of i (bucket_x (shared blocks) x c) ≡ bucket_x shares (λ e. share_of i (x e)) c
+  unfolding bucket_x
   share-x = share-of-sum i (suc c) x
 
-  share-z : share_of i (bucketZ (shared blocks) x z d c) ≡ bucketZ shares (λ e. share_of i (x e)) (λ e. share_of i (z e)) d c
-  unfolding bucketZ
+  share-z : share_of i (bucket_z (shared blocks) x z d c) ≡ bucket_z shares (λ e. share_of i (x e)) (λ e. share_of i (z e)) d c
+  unfolding bucket_z
   share-z =
       let v : ℕ → Shared Block = λ e. sel (shared blocks) (d e) (x (suc e)) in
       share-of-op i (sum (shared blocks) (suc c) z) (sum (shared blocks) c v)
@@ -37,9 +37,9 @@ module _ (x y z : ℕ → Shared Block) (d : ℕ → Bool) (i c : ℕ) where
 
   pub combined : combine (triple_of x y z i) d c
       ≡ record {
-        tx = share_of i (bucketX (shared blocks) x c);
+        tx = share_of i (bucket_x (shared blocks) x c);
         ty = share_of i (y 0);
-        tz = share_of i (bucketZ (shared blocks) x z d c);
+        tz = share_of i (bucket_z (shared blocks) x z d c);
       }
   combined k = record {
     tx = (combine-x (triple_of x y z i) d c ∙ sym share-x) k;
@@ -48,12 +48,12 @@ module _ (x y z : ℕ → Shared Block) (d : ℕ → Bool) (i c : ℕ) where
   }
 
   module _ (n : ℕ) (small : (e : ℕ) → e < suc c → SmallShare n (share_of i (x e))) where
-    pub small-bucket-x : SmallShare n (share_of i (bucketX (shared blocks) x c))
-    unfolding bucketX
+    pub small-bucket-x : SmallShare n (share_of i (bucket_x (shared blocks) x c))
+    unfolding bucket_x
     small-bucket-x = rw share-x (small-share-sum n (suc c) (λ e. share_of i (x e)) small)
 
-    pub small-bucket-z : ((e : ℕ) → e < suc c → SmallShare n (share_of i (z e))) → SmallShare n (share_of i (bucketZ (shared blocks) x z d c))
-    unfolding bucketZ
+    pub small-bucket-z : ((e : ℕ) → e < suc c → SmallShare n (share_of i (z e))) → SmallShare n (share_of i (bucket_z (shared blocks) x z d c))
+    unfolding bucket_z
     small-bucket-z h =
         rw share-z
         (small-share-op n _ _ (small-share-sum n (suc c) (λ e. share_of i (z e)) h)

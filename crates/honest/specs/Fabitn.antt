@@ -21,7 +21,7 @@ use Rattle.plan.specs.Plan.{kind_of, count_due, msg_len, bits_count}
 use Rattle.engine.specs.StepLaws.{by-none}
 use Rattle.engine.specs.Area.{mem}
 use Rattle.engine.specs.Sheet.{stays_test}
-use Rattle.engine.specs.Order.{echoIn}
+use Rattle.engine.specs.Order.{echo_in}
 use Rattle.engine.specs.Honest.{before, due, plain_after}
 use Rattle.rounds.specs.Area.{KEY_SUMS, sizes, size_of}
 use Rattle.rounds.specs.Table.{judge, kept, held, written}
@@ -41,13 +41,13 @@ module _ (R : Run) (X : Boxes R) where
   abbrev bit_of : ℕ → ℕ → Bool
   bit_of b j = bit_sum (box R b) strings (inputs b).bits j
 
-  abbrev macOf : ℕ → ℕ → ℕ → Block
-  macOf b k j = mac_sum (box R b) strings (inputs b).bits k j
+  abbrev mac_of : ℕ → ℕ → ℕ → Block
+  mac_of b k j = mac_sum (box R b) strings (inputs b).bits k j
 
   abbrev key_of : ℕ → ℕ → ℕ → Block
   key_of b k j = key_sum (box R b) strings (inputs b).bits k j
 
-  small-mac-sum : (b k j : ℕ) → b < n → Small (macOf b k j)
+  small-mac-sum : (b k j : ℕ) → b < n → Small (mac_of b k j)
   unfolding mac_sum
   small-mac-sum b k j lb =
       small-sum (bits_count l) _
@@ -60,18 +60,18 @@ module _ (R : Run) (X : Boxes R) where
       (λ t lt. small-sel (picks (box R b) strings j t) _ (small-key (inputs b).bits (X.own b lb).bits-bytes (t * record_len n) k))
 
   -- the MAC rule of the sums
-  sums-agree : (b k j : ℕ) → b < n → k < n → b ≢ k → macOf b k j ≡ blocks.op (key_of k b j) (sel blocks (bit_of b j) (deltas R k))
+  sums-agree : (b k j : ℕ) → b < n → k < n → b ≢ k → mac_of b k j ≡ blocks.op (key_of k b j) (sel blocks (bit_of b j) (deltas R k))
   unfolding mac_sum key_sum bit_sum picks shared_at
   sums-agree b k j lb lk ne = chosen blocks n (deltas R) (bits_count l) (picks (box R b) strings j) (bits_of R) X.bits-mac b k lb lk ne
 
   -- ---- the messages
   abit-len : (j r : ℕ) → length (abit_msg (box R j) strings (inputs j).bits r) ≡ msg_len n l 6
   unfolding abit_msg msg_len kind_of count_due
-  abit-len j r = list_len_lem n 17 1 120 _ (λ t i. length-bit_block (bit_of j t) (macOf j r t))
+  abit-len j r = list_len_lem n 17 1 120 _ (λ t i. length-bit_block (bit_of j t) (mac_of j r t))
 
   abit-form : (j r : ℕ) → form_of (kind_of l 6) (count_due n l 6) (abit_msg (box R j) strings (inputs j).bits r) ≡ 0
   unfolding abit_msg kind_of count_due
-  abit-form j r = (pairs-trip 120 (bit_of j) (macOf j r) (omega arith)).form-is
+  abit-form j r = (pairs-trip 120 (bit_of j) (mac_of j r) (omega arith)).form-is
 
   -- ---- the sums of keys
   fit-key-sums : Fit R KEY_SUMS
@@ -98,10 +98,10 @@ module _ (R : Run) (X : Boxes R) where
   unfolding abit_fault abit_msg
   abit-passes i j m li lj k lk ne e =
       passes _ _
-      (ap (λ (x : List ℕ). block_at x (8 + j * 17 + 1)) e ∙ block_read 120 (bit_of k) (macOf k i) (omega arith) j lj (small-mac-sum k i j lk)
+      (ap (λ (x : List ℕ). block_at x (8 + j * 17 + 1)) e ∙ block_read 120 (bit_of k) (mac_of k i) (omega arith) j lj (small-mac-sum k i j lk)
       ∙ sums-agree k i j lk li (λ p. ne (sym p))
       ∙ ap₂ (λ (x : Block) (b : Bool). blocks.op x (sel blocks b (deltas R i))) (sym (key-read i k j li lk ne lj))
-      (sym (ap (λ (x : List ℕ). odd (get_or x (8 + j * 17) 0)) e ∙ bit-read 120 (bit_of k) (macOf k i) (omega arith) j lj)))
+      (sym (ap (λ (x : List ℕ). odd (get_or x (8 + j * 17) 0)) e ∙ bit-read 120 (bit_of k) (mac_of k i) (omega arith) j lj)))
 
   -- ---- the round
   pub send-6 : Sends R 6
@@ -112,7 +112,7 @@ module _ (R : Run) (X : Boxes R) where
   }
 
   pub recv-6 : Receives R 6
-  unfolding plain_after echoIn mem stays_test all_of S.since S.sent S.sent6 S.key_sums judge kept abits
+  unfolding plain_after echo_in mem stays_test all_of S.since S.sent S.sent6 S.key_sums judge kept abits
   recv-6 = record {
     heard = record {
       lens = λ j r lj lr ne. abit-len j r;
@@ -130,6 +130,6 @@ module _ (R : Run) (X : Boxes R) where
   list-6 = record {
     size = λ j lj. length-hash_vec 6 _;
     hashes = λ i j li lj ne.
-        hash-bits 120 (bit_of j) (macOf j i) (omega arith) 6 refl
-        ∙ sym (hash-bits 120 (bit_of j) (macOf j (pick (eqb j 0) 1 0)) (omega arith) 6 refl);
+        hash-bits 120 (bit_of j) (mac_of j i) (omega arith) 6 refl
+        ∙ sym (hash-bits 120 (bit_of j) (mac_of j (pick (eqb j 0) 1 0)) (omega arith) 6 refl);
   }

@@ -38,7 +38,7 @@ use Rattle.engine.specs.Step.{Fault}
 use Rattle.engine.specs.StepLaws.{or-none, by-none}
 use Rattle.engine.specs.Area.{mem, get-get, nth}
 use Rattle.engine.specs.Sheet.{stays_test}
-use Rattle.engine.specs.Order.{echoIn}
+use Rattle.engine.specs.Order.{echo_in}
 use Rattle.engine.specs.Honest.{before, due, plain_after}
 use Rattle.rounds.specs.Area.{SHARE_COMMS, DMS, sizes, size_of, rows}
 use Rattle.rounds.specs.Table.{judge, kept, held, written}
@@ -219,8 +219,8 @@ module _ (R : Run) (X : Boxes R) where
       rows_ext (box R i) (40 * 96) _ _
       (λ k lk ne. ap (λ (x : List ℕ). take (40 * 96) (drop 8 x)) (M k lk ne) ∙ comm-row (box R k) (deltas R k) (inputs k).bits)
 
-  share-comms-are : (i : ℕ) → S.shareComms R i ≡ rows (box R i) (40 * 96) (λ k. cat 40 (commits k))
-  unfolding S.shareComms S.sent8
+  share-comms-are : (i : ℕ) → S.share_comms R i ≡ rows (box R i) (40 * 96) (λ k. cat 40 (commits k))
+  unfolding S.share_comms S.sent8
   share-comms-are i = comms-are i _ (λ k lk ne. refl)
 
   fit-share-comms : Fit R SHARE_COMMS
@@ -240,7 +240,7 @@ module _ (R : Run) (X : Boxes R) where
   }
 
   pub recv-8 : Receives R 8
-  unfolding plain_after echoIn mem stays_test all_of S.since S.holds S.sent S.sent8 judge kept
+  unfolding plain_after echo_in mem stays_test all_of S.since S.holds S.sent S.sent8 judge kept
   recv-8 = record {
     heard = record {
       lens = λ j r lj lr ne. comm-len (box R j) (deltas R j) (inputs j).bits n l;
@@ -259,13 +259,13 @@ module _ (R : Run) (X : Boxes R) where
   }
 
   -- ---- round 10
-  abbrev dmOf : ℕ → ℕ → List ℕ
-  dmOf b q = dm (box R b) (inputs b).bits q
+  abbrev dm_of : ℕ → ℕ → List ℕ
+  dm_of b q = dm (box R b) (inputs b).bits q
 
   -- what i keeps of k's commitments to string q
   module _ (i k q : ℕ) (lk : k < n) (ne : i ≢ k) (lq : q < 40) where
     abbrev told : List ℕ
-    told = comms_to (S.shareComms R i) k q
+    told = comms_to (S.share_comms R i) k q
 
     abbrev h0 : List ℕ
     h0 = hash (bytes_of (d0 (box R k) (inputs k).bits q))
@@ -273,35 +273,35 @@ module _ (R : Run) (X : Boxes R) where
     abbrev h1 : List ℕ
     h1 = hash (bytes_of (d1 (box R k) (deltas R k) (inputs k).bits q))
 
-    comm-cell : take 96 told ≡ h0 ++ (h1 ++ hash (dmOf k q))
+    comm-cell : take 96 told ≡ h0 ++ (h1 ++ hash (dm_of k q))
     comm-cell =
         ap (λ (x : List ℕ). take 96 (drop ((k * 40 + q) * 96) x)) (share-comms-are i)
         ∙ cell (box R i) 40 96 commits (λ k q lk ne lq. length-hashes (box R k) (deltas R k) (inputs k).bits q) k q lk ne lq
 
     first-comm : take 32 told ≡ h0
-    first-comm = sym (take-take 32 96 told (omega arith)) ∙ ap (take 32) comm-cell ∙ take_at h0 (h1 ++ hash (dmOf k q)) 32 (length-hash _)
+    first-comm = sym (take-take 32 96 told (omega arith)) ∙ ap (take 32) comm-cell ∙ take_at h0 (h1 ++ hash (dm_of k q)) 32 (length-hash _)
 
     second-comm : take 32 (drop 32 told) ≡ h1
     second-comm =
         sym (get-get 0 96 32 32 told (omega arith)) ∙ ap (λ (x : List ℕ). take 32 (drop 32 x)) comm-cell
-        ∙ ap (take 32) (drop_at h0 (h1 ++ hash (dmOf k q)) 32 (length-hash _)) ∙ take_at h1 (hash (dmOf k q)) 32 (length-hash _)
+        ∙ ap (take 32) (drop_at h0 (h1 ++ hash (dm_of k q)) 32 (length-hash _)) ∙ take_at h1 (hash (dm_of k q)) 32 (length-hash _)
 
-    third-comm : take 32 (drop 64 told) ≡ hash (dmOf k q)
+    third-comm : take 32 (drop 64 told) ≡ hash (dm_of k q)
     third-comm =
         sym (get-get 0 96 64 32 told (omega arith)) ∙ ap (λ (x : List ℕ). take 32 (drop 64 x)) comm-cell
-        ∙ ap (take 32) (sym (drop-drop 32 32 (h0 ++ (h1 ++ hash (dmOf k q)))) ∙ ap (drop 32) (drop_at h0 (h1 ++ hash (dmOf k q)) 32 (length-hash _))
-        ∙ drop_at h1 (hash (dmOf k q)) 32 (length-hash _))
-        ∙ ap (λ c. take c (hash (dmOf k q))) (sym (length-hash (dmOf k q))) ∙ take-length (hash (dmOf k q))
+        ∙ ap (take 32) (sym (drop-drop 32 32 (h0 ++ (h1 ++ hash (dm_of k q)))) ∙ ap (drop 32) (drop_at h0 (h1 ++ hash (dm_of k q)) 32 (length-hash _))
+        ∙ drop_at h1 (hash (dm_of k q)) 32 (length-hash _))
+        ∙ ap (λ c. take c (hash (dm_of k q))) (sym (length-hash (dm_of k q))) ∙ take-length (hash (dm_of k q))
 
   dms-are : (i : ℕ) (m : ℕ → List ℕ) → ((k : ℕ) → k < n → i ≢ k → m k ≡ ver_msg (box R k) (inputs k).bits)
-      → dm_rows (box R i) m ≡ rows (box R i) (40 * dm_len n) (λ k. cat 40 (dmOf k))
+      → dm_rows (box R i) m ≡ rows (box R i) (40 * dm_len n) (λ k. cat 40 (dm_of k))
   unfolding dm_rows
   dms-are i m M =
       rows_ext (box R i) (40 * dm_len n) _ _
       (λ k lk ne. cat-ext 40 _ _ (λ q lq. ap (λ (x : List ℕ). take (dm_len n) (drop (dm_at x q) x)) (M k lk ne)
       ∙ ver-bytes (box R k) (inputs k).bits X.range.eight q lq))
 
-  kept-dms : (i : ℕ) → S.dms R i ≡ rows (box R i) (40 * dm_len n) (λ k. cat 40 (dmOf k))
+  kept-dms : (i : ℕ) → S.dms R i ≡ rows (box R i) (40 * dm_len n) (λ k. cat 40 (dm_of k))
   unfolding S.dms S.sent10
   kept-dms i = dms-are i _ (λ k lk ne. refl)
 
@@ -310,7 +310,7 @@ module _ (R : Run) (X : Boxes R) where
   fit-dms = (
     omega arith,
     λ i li. ap length (kept-dms i)
-        ∙ length-cells (box R i) 40 (dm_len n) dmOf (λ k q lk ne lq. length-own-dm (box R k) (inputs k).bits q),
+        ∙ length-cells (box R i) 40 (dm_len n) dm_of (λ k q lk ne lq. length-own-dm (box R k) (inputs k).bits q),
   )
 
   dm-passes : (i q : ℕ) (m : ℕ → List ℕ) → q < 40 → (k : ℕ) → m k ≡ ver_msg (box R k) (inputs k).bits → dm_fault (box R i) m q k ≡ 0
@@ -325,19 +325,19 @@ module _ (R : Run) (X : Boxes R) where
 
   -- an honest dm opens its commitment
   dm-opens : (i q : ℕ) (m : ℕ → List ℕ) → q < 40 → (k : ℕ) → k < n → i ≢ k → m k ≡ ver_msg (box R k) (inputs k).bits
-      → third_fault (S.shareComms R i) m q k ≡ 0
+      → third_fault (S.share_comms R i) m q k ≡ 0
   unfolding third_fault
   dm-opens i q m lq k lk ne e =
-      let whole : whole_dm (m k) q ≡ dmOf k q =
+      let whole : whole_dm (m k) q ≡ dm_of k q =
       ap (λ (x : List ℕ). whole_dm x q) e ∙ ver-whole (box R k) (inputs k).bits X.range.eight q lq in
       ap (λ (t : Bool). pick t 0 2) (same-eq _ _ (ap hash whole ∙ sym (third-comm i k q lk ne lq)))
 
   -- no fault is found in honest dms
   dms-pass : (i : ℕ) (m : ℕ → List ℕ) → ((k : ℕ) → k < n → i ≢ k → m k ≡ ver_msg (box R k) (inputs k).bits)
-      → (ver_faults (box R i) (S.shareComms R i) m).code ≡ 0
+      → (ver_faults (box R i) (S.share_comms R i) m).code ≡ 0
   unfolding ver_faults third_faults dm_faults
   dms-pass i m M =
-      ap (λ (x : Fault). x.code) (or-none (third_faults (box R i) (S.shareComms R i) m) (dm_faults (box R i) m)
+      ap (λ (x : Fault). x.code) (or-none (third_faults (box R i) (S.share_comms R i) m) (dm_faults (box R i) m)
       (first-none 40 _ (λ q lq. by-none (box R i) _ (λ k lk ne. dm-opens i q m lq k lk ne (M k lk ne)))))
       ∙ first-none 40 _ (λ q lq. by-none (box R i) _ (λ k lk ne. dm-passes i q m lq k (M k lk ne)))
 
@@ -349,7 +349,7 @@ module _ (R : Run) (X : Boxes R) where
   }
 
   pub recv-10 : Receives R 10
-  unfolding plain_after echoIn mem stays_test all_of S.since S.holds S.sent S.sent10 judge kept
+  unfolding plain_after echo_in mem stays_test all_of S.since S.holds S.sent S.sent10 judge kept
   recv-10 = record {
     heard = record {
       lens = λ j r lj lr ne. ver_len_lem (box R j) (inputs j).bits X.range.eight l;
@@ -368,34 +368,34 @@ module _ (R : Run) (X : Boxes R) where
 
   -- ---- round 12
   -- the bit of string q, shared among all boxes
-  abbrev stringOf : ℕ → Shared Block
-  stringOf q = bits_of R (3 * leaky l + q)
+  abbrev string_of : ℕ → Shared Block
+  string_of q = bits_of R (3 * leaky l + q)
 
-  good : (q : ℕ) → q < 40 → Good blocks n (deltas R) (stringOf q)
+  good : (q : ℕ) → q < 40 → Good blocks n (deltas R) (string_of q)
   unfolding bits_count
   good q lq = X.bits-mac (3 * leaky l + q) (omega arith)
 
-  small-string : (q b k : ℕ) → b < n → Small ((stringOf q).mac b k)
+  small-string : (q b k : ℕ) → b < n → Small ((string_of q).mac b k)
   unfolding shared_at
   small-string q b k lb = small-mac (inputs b).bits (X.own b lb).bits-bytes ((3 * leaky l + q) * record_len n) k
 
   abbrev dms_of : ℕ → List ℕ
   dms_of i = S.dms R i
 
-  dm-cell : (i k q : ℕ) → k < n → i ≢ k → q < 40 → take (dm_len n) (drop (dm_row (box R i) k q) (dms_of i)) ≡ dmOf k q
+  dm-cell : (i k q : ℕ) → k < n → i ≢ k → q < 40 → take (dm_len n) (drop (dm_row (box R i) k q) (dms_of i)) ≡ dm_of k q
   unfolding dm_row
   dm-cell i k q lk ne lq =
       ap (λ (x : List ℕ). take (dm_len n) (drop ((k * 40 + q) * dm_len n) x)) (kept-dms i)
-      ∙ cell (box R i) 40 (dm_len n) dmOf (λ k q lk ne lq. length-own-dm (box R k) (inputs k).bits q) k q lk ne lq
+      ∙ cell (box R i) 40 (dm_len n) dm_of (λ k q lk ne lq. length-own-dm (box R k) (inputs k).bits q) k q lk ne lq
 
-  dm-bit : (i k q : ℕ) → k < n → i ≢ k → q < 40 → odd (get_or (dms_of i) (dm_row (box R i) k q) 0) ≡ (stringOf q).bit k
+  dm-bit : (i k q : ℕ) → k < n → i ≢ k → q < 40 → odd (get_or (dms_of i) (dm_row (box R i) k q) 0) ≡ (string_of q).bit k
   unfolding dm own share_at shared_at
   dm-bit i k q lk ne lq =
-      ap odd (head-part (dm_len n) (dm_row (box R i) k q) (dms_of i) (dmOf k q) (dm-some n) (dm-cell i k q lk ne lq))
-      ∙ odd-num ((stringOf q).bit k)
+      ap odd (head-part (dm_len n) (dm_row (box R i) k q) (dms_of i) (dm_of k q) (dm-some n) (dm-cell i k q lk ne lq))
+      ∙ odd-num ((string_of q).bit k)
 
   dm-mac : (i j k q : ℕ) → j < n → k < n → i ≢ j → j ≢ k → q < 40
-      → block_at (dms_of i) (dm_row (box R i) j q + dm_mac j k) ≡ (stringOf q).mac j k
+      → block_at (dms_of i) (dm_row (box R i) j q + dm_mac j k) ≡ (string_of q).mac j k
   unfolding own share_at shared_at
   dm-mac i j k q lj lk ne nk lq =
       sym (block-get (dms_of i) (dm_row (box R i) j q) (dm_len n) (dm_mac j k) (mac-fits n j k lj lk nk))
@@ -407,28 +407,28 @@ module _ (R : Run) (X : Boxes R) where
   opens k q = blocks.op (d0 (box R k) (inputs k).bits q) (sel blocks (others1 (box R k) (dms_of k) q) (deltas R k))
 
   -- it is the XOR of all MACs for k
-  opens-is : (k q : ℕ) → k < n → q < 40 → opens k q ≡ others blocks k n (λ j. (stringOf q).mac j k)
+  opens-is : (k q : ℕ) → k < n → q < 40 → opens k q ≡ others blocks k n (λ j. (string_of q).mac j k)
   unfolding others1 d0 own share_at shared_at
   opens-is k q lk lq =
       ap (λ b. blocks.op (d0 (box R k) (inputs k).bits q) (sel blocks b (deltas R k)))
-      (others-ext bits k n _ (stringOf q).bit (λ j lj ne. dm-bit k j q lj ne lq))
-      ∙ sym (opened blocks n (deltas R) (stringOf q) (good q lq) k lk)
+      (others-ext bits k n _ (string_of q).bit (λ j lj ne. dm-bit k j q lj ne lq))
+      ∙ sym (opened blocks n (deltas R) (string_of q) (good q lq) k lk)
 
   small-opens : (k q : ℕ) → k < n → q < 40 → Small (opens k q)
   small-opens k q lk lq =
-      subst Small (sym (opens-is k q lk lq)) (small-others k n (λ j. (stringOf q).mac j k) (λ j lj. small-string q j k lj))
+      subst Small (sym (opens-is k q lk lq)) (small-others k n (λ j. (string_of q).mac j k) (λ j lj. small-string q j k lj))
 
   -- and so does i compute it
   macs-are : (i k q : ℕ) → i < n → k < n → i ≢ k → q < 40
-      → macs_for (box R i) (inputs i).bits (dms_of i) q k ≡ others blocks k n (λ j. (stringOf q).mac j k)
+      → macs_for (box R i) (inputs i).bits (dms_of i) q k ≡ others blocks k n (λ j. (string_of q).mac j k)
   unfolding macs_for own share_at shared_at
   macs-are i k q li lk ne lq =
-      ap (blocks.op ((stringOf q).mac i k))
-      (others-ext blocks i n _ (λ j. sel blocks (neq k j) ((stringOf q).mac j k)) (λ j lj nj. go j lj nj (neq k j) (apart? k j)))
-      ∙ all_but blocks i k n (λ j. (stringOf q).mac j k) li (λ e. ne (sym e))
+      ap (blocks.op ((string_of q).mac i k))
+      (others-ext blocks i n _ (λ j. sel blocks (neq k j) ((string_of q).mac j k)) (λ j lj nj. go j lj nj (neq k j) (apart? k j)))
+      ∙ all_but blocks i k n (λ j. (string_of q).mac j k) li (λ e. ne (sym e))
     where
       go : (j : ℕ) → j < n → i ≢ j → (b : Bool) → Same k j b
-          → sel blocks b (block_at (dms_of i) (dm_row (box R i) j q + dm_mac j k)) ≡ sel blocks b ((stringOf q).mac j k)
+          → sel blocks b (block_at (dms_of i) (dm_row (box R i) j q + dm_mac j k)) ≡ sel blocks b ((string_of q).mac j k)
       go j lj nj false s = refl
       go j lj nj true (apart nk) = dm-mac i j k q lj lk nj (λ e. nk (sym e)) lq
 
@@ -457,7 +457,7 @@ module _ (R : Run) (X : Boxes R) where
   passes t u p q = rw (p, q) refl
 
   dibi-passes : (i q : ℕ) (m : ℕ → List ℕ) → i < n → q < 40 → (k : ℕ) → k < n → i ≢ k → m k ≡ dibi k
-      → dibi_fault (box R i) (inputs i).bits (S.shareComms R i) (dms_of i) m q k ≡ 0
+      → dibi_fault (box R i) (inputs i).bits (S.share_comms R i) (dms_of i) m q k ≡ 0
   unfolding dibi_fault d1
   dibi-passes i q m li lq k lk ne e =
       let d : block_at (m k) (8 + q * 16) ≡ opens k q = ap (λ (x : List ℕ). block_at x (8 + q * 16)) e ∙ dibi-read k q lk lq in
@@ -474,7 +474,7 @@ module _ (R : Run) (X : Boxes R) where
   }
 
   pub recv-12 : Receives R 12
-  unfolding plain_after echoIn mem stays_test all_of S.since S.sent S.sent12 judge kept dibi_faults
+  unfolding plain_after echo_in mem stays_test all_of S.since S.sent S.sent12 judge kept dibi_faults
   recv-12 = record {
     heard = record {
       lens = λ j r lj lr ne. dibi-len j;

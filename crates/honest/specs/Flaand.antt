@@ -33,14 +33,14 @@ use Rattle.engine.specs.Step.{Fault}
 use Rattle.engine.specs.StepLaws.{or-none, by-none}
 use Rattle.engine.specs.Area.{mem, length-sec}
 use Rattle.engine.specs.Sheet.{Known, stays_test}
-use Rattle.engine.specs.Order.{echoIn}
+use Rattle.engine.specs.Order.{echo_in}
 use Rattle.engine.specs.Honest.{before, due, plain_after}
 use Rattle.rounds.specs.Area.{ES, HS, H_COMMS, SECTIONS, sizes, size_of, at, rows}
 use Rattle.rounds.specs.Table.{judge, kept, held, written}
 use Rattle.rounds.specs.Haand.{x, y, r, G, phi, u, phi_at, key_hash, u_at, z_at, mac_hash}
 use Rattle.rounds.specs.Flaand.{e, flaand_msg, e_told, u_told, e_rows, z_key, h, hs, comm_msg, own_comms, comm_rows, hash_msg, h_told, opening}
 use Rattle.rounds.specs.Flaand.{zero_sum, h_faults}
-use Rattle.rounds.specs.FlaandLaws.{length-ownComms}
+use Rattle.rounds.specs.FlaandLaws.{length-own_comms}
 use Rattle.alone.specs.Base.{rows_ext}
 use Rattle.alone.specs.HaandLaws.{small-G, small-phi, small-u, phi-read, key-hash-read, u-read, mac-hash-read}
 use Rattle.alone.specs.FlaandLaws.{h-alg, block_row, length-es, e-read}
@@ -53,7 +53,7 @@ use Rattle.honest.specs.Base.{h-comms-at, keep-none, keep-free, keep_one, keep_t
 use Rattle.alone.specs.Cells.{items-row, length-cells, cell}
 use Rattle.honest.specs.Firsts.{pairs-trip, bit-read, block_read, hash-bits}
 use Rattle.honest.specs.Haand.{leaky-small, and-z}
-use Rattle.honest.specs.Values.{xOf, yOf, rOf, z_of, small-z, LeakyTriples}
+use Rattle.honest.specs.Values.{x_of, y_of, r_of, z_of, small-z, LeakyTriples}
 
 -- ---- what is kept depends on the others' messages alone
 module _ (f : Frame) where
@@ -81,13 +81,13 @@ module _ (R : Run) (X : Boxes R) where
   small = leaky-small R X
 
   -- what box j sends at position t
-  abbrev eOf : ℕ → ℕ → Bool
-  eOf j t = e (box R j) (inputs j).bits (S.z_rows R j) t
+  abbrev e_of : ℕ → ℕ → Bool
+  e_of j t = e (box R j) (inputs j).bits (S.z_rows R j) t
 
   -- ---- what is read of the messages of round 15
-  e-told : (i j t : ℕ) → t < leaky l → e_told (λ j. S.sent15 R j i) j t ≡ eOf j t
+  e-told : (i j t : ℕ) → t < leaky l → e_told (λ j. S.sent15 R j i) j t ≡ e_of j t
   unfolding e_told S.sent15 flaand_msg
-  e-told i j t lt = bit-read (leaky l) (eOf j) _ small t lt
+  e-told i j t lt = bit-read (leaky l) (e_of j) _ small t lt
 
   u-at : (i j t : ℕ) → i < n → j < n → j ≢ i → t < leaky l
       → u_at (box R j) (S.leaky_rows R j) i t ≡ u (box R j) (deltas R j) (inputs j).bits i t
@@ -102,25 +102,25 @@ module _ (R : Run) (X : Boxes R) where
       → u_told (λ j. S.sent15 R j i) j t ≡ u (box R j) (deltas R j) (inputs j).bits i t
   unfolding u_told S.sent15 flaand_msg
   u-told i j t li lj ne lt =
-      block_read (leaky l) (eOf j) (λ t. u_at (box R j) (S.leaky_rows R j) i t) small t lt (small-u-at i j t li lj (λ p. ne (sym p)) lt)
+      block_read (leaky l) (e_of j) (λ t. u_at (box R j) (S.leaky_rows R j) i t) small t lt (small-u-at i j t li lj (λ p. ne (sym p)) lt)
       ∙ u-at i j t li lj (λ p. ne (sym p)) lt
 
   -- the e that box i keeps
-  e-at : (i j t : ℕ) → j < n → i ≢ j → t < leaky l → odd (get_or (S.es R i) (j * leaky l + t) 0) ≡ eOf j t
+  e-at : (i j t : ℕ) → j < n → i ≢ j → t < leaky l → odd (get_or (S.es R i) (j * leaky l + t) 0) ≡ e_of j t
   unfolding S.es
   e-at i j t lj ne lt = e-read (box R i) (λ j. S.sent15 R j i) j t lj ne lt ∙ e-told i j t lt
 
   -- ---- z keeps the MAC rule
   z-key : (i j t : ℕ) → j < n → i ≢ j → t < leaky l
       → (z_of R t).key i j
-      ≡ Leaky.z_key blocks n (deltas R) (z_of R t).bit (rOf R t).bit (rOf R t).mac (rOf R t).key i j
+      ≡ Leaky.z_key blocks n (deltas R) (z_of R t).bit (r_of R t).bit (r_of R t).mac (r_of R t).key i j
   unfolding z_of z_key Leaky.z_key r share_at shared_at e
-  z-key i j t lj ne lt = ap (λ (b : Bool). blocks.op ((rOf R t).key i j) (sel blocks b (deltas R i))) (e-at i j t lj ne lt)
+  z-key i j t lj ne lt = ap (λ (b : Bool). blocks.op ((r_of R t).key i j) (sel blocks b (deltas R i))) (e-at i j t lj ne lt)
 
   pub z-good : (t : ℕ) → t < leaky l → Good blocks n (deltas R) (z_of R t)
   unfolding z_of r share_at shared_at bits_count
   z-good t lt i j li lj ne =
-      Leaky.z-mac blocks n (deltas R) (z_of R t).bit (rOf R t).bit (rOf R t).mac (rOf R t).key
+      Leaky.z-mac blocks n (deltas R) (z_of R t).bit (r_of R t).bit (r_of R t).mac (r_of R t).key
       (X.bits-mac (2 * leaky l + t) (omega arith)) i j li lj ne
       ∙ ap (λ (b : Block). blocks.op b (sel blocks ((z_of R t).bit i) (deltas R j))) (sym (z-key j i t li (λ p. ne (sym p)) lt))
 
@@ -134,16 +134,16 @@ module _ (R : Run) (X : Boxes R) where
   }
 
   -- ---- the value of h: box i's at position t, in the words of the algebra
-  unfoldable hOf : ℕ → ℕ → Block
-  hOf t i =
-      let x = xOf R t in
-      let y = yOf R t in
+  unfoldable h_of : ℕ → ℕ → Block
+  h_of t i =
+      let x = x_of R t in
+      let y = y_of R t in
       let z = z_of R t in
-      Leaky.leakyH blocks G n (deltas R) x.bit y.bit z.bit x.mac x.key y.mac y.key z.mac z.key i
+      Leaky.leaky_h blocks G n (deltas R) x.bit y.bit z.bit x.mac x.key y.mac y.key z.mac z.key i
 
   -- all h sum to zero
-  h-sum : (t : ℕ) → t < leaky l → sum blocks n (hOf t) ≡ blocks.nil
-  unfolding hOf bits_count
+  h-sum : (t : ℕ) → t < leaky l → sum blocks n (h_of t) ≡ blocks.nil
+  unfolding h_of bits_count
   h-sum t lt =
       Leaky.leaky-check blocks G n (deltas R) _ _ _ _ _ _ _ _ _ (X.bits-mac t (omega arith)) (X.bits-mac (leaky l + t) (omega arith))
       (z-good t lt) (and-z R X t lt)
@@ -152,10 +152,10 @@ module _ (R : Run) (X : Boxes R) where
   h-is : (i t : ℕ) → i < n → t < leaky l
       → h (box R i) (deltas R i) (inputs i).bits (S.leaky_rows R i) (S.z_rows R i)
       (λ j. S.sent15 R j i) t
-      ≡ hOf t i
-  unfolding h hOf Leaky.leakyH Leaky.phi phi u z_of x y r share_at shared_at S.leaky_rows S.z_rows
+      ≡ h_of t i
+  unfolding h h_of Leaky.leaky_h Leaky.phi phi u z_of x y r share_at shared_at S.leaky_rows S.z_rows
   h-is i t li lt =
-      let x : Shared Block = xOf R t in
+      let x : Shared Block = x_of R t in
       let z : Shared Block = z_of R t in
       let v : ℕ → Block = λ j. u (box R j) (deltas R j) (inputs j).bits i t in
       let terms = others-ext blocks i n _ (λ j. blocks.op (blocks.op (z.mac i j) (z.key i j)) (sel blocks (x.bit i) (v j)))
@@ -174,10 +174,10 @@ module _ (R : Run) (X : Boxes R) where
       (λ j. sel blocks (x.bit i) (v j)) (sel blocks (x.bit i) (phi (box R i) (deltas R i) (inputs i).bits t))
       (sel blocks (z.bit i) (deltas R i))
 
-  small-h : (i t : ℕ) → i < n → Small (hOf t i)
-  unfolding hOf Leaky.leakyH Leaky.phi phi u x y share_at shared_at share_of
+  small-h : (i t : ℕ) → i < n → Small (h_of t i)
+  unfolding h_of Leaky.leaky_h Leaky.phi phi u x y share_at shared_at share_of
   small-h i t li =
-      let x : Shared Block = xOf R t in
+      let x : Shared Block = x_of R t in
       let z : Shared Block = z_of R t in
       let sz = small-z R X i li t in
       let sd = small-delta R X in
@@ -191,7 +191,7 @@ module _ (R : Run) (X : Boxes R) where
       (small-sel (z.bit i) (deltas R i) (sd i li))
 
   -- ---- what HS holds
-  h-at : (i t : ℕ) → i < n → t < leaky l → block_at (S.hs R i) (t * 16) ≡ hOf t i
+  h-at : (i t : ℕ) → i < n → t < leaky l → block_at (S.hs R i) (t * 16) ≡ h_of t i
   unfolding S.hs hs
   h-at i t li lt = block_row (leaky l) _ t lt (rw (h-is i t li lt) (small-h i t li)) ∙ h-is i t li lt
 
@@ -210,7 +210,7 @@ module _ (R : Run) (X : Boxes R) where
 
   flaand-form : (j r : ℕ) → form_of (kind_of l 15) (count_due n l 15) (S.sent15 R j r) ≡ 0
   unfolding S.sent15 flaand_msg kind_of count_due
-  flaand-form j r = (pairs-trip (leaky l) (eOf j) _ small).form-is
+  flaand-form j r = (pairs-trip (leaky l) (e_of j) _ small).form-is
 
   pub send-15 : Sends R 15
   unfolding stays_test all_of mem S.since S.sent S.sent15 held written
@@ -221,7 +221,7 @@ module _ (R : Run) (X : Boxes R) where
   }
 
   pub recv-15 : Receives R 15
-  unfolding plain_after echoIn mem stays_test all_of S.since S.holds S.sent S.es S.hs judge kept
+  unfolding plain_after echo_in mem stays_test all_of S.since S.holds S.sent S.es S.hs judge kept
   recv-15 = record {
     heard = record {
       lens = λ j r lj lr ne. flaand-len j r;
@@ -239,7 +239,7 @@ module _ (R : Run) (X : Boxes R) where
   list-15 = record {
     size = λ j lj. length-hash_vec 15 _;
     hashes = λ i j li lj ne.
-        hash-bits (leaky l) (eOf j) _ small 15 refl ∙ sym (hash-bits (leaky l) (eOf j) _ small 15 refl);
+        hash-bits (leaky l) (e_of j) _ small 15 refl ∙ sym (hash-bits (leaky l) (e_of j) _ small 15 refl);
   }
 
   -- ---- round 17
@@ -259,11 +259,11 @@ module _ (R : Run) (X : Boxes R) where
   comm-form j r = list-form (Items 32 0) (leaky l) (comm j) small (λ t i. coded-hash (comm j t) (length-hash _))
 
   -- H_COMMS holds the commitments
-  comms-are : (i : ℕ) → S.hComms R i ≡ rows (box R i) (leaky l * 32) (λ k. cat (leaky l) (comm k))
-  unfolding S.hComms comm_rows S.sent17 comm_msg
+  comms-are : (i : ℕ) → S.h_comms R i ≡ rows (box R i) (leaky l * 32) (λ k. cat (leaky l) (comm k))
+  unfolding S.h_comms comm_rows S.sent17 comm_msg
   comms-are i = rows_ext (box R i) (leaky l * 32) _ _ (λ k lk ne. items-row (leaky l) 32 (comm k) (λ t lt. length-hash _))
 
-  comm-cell : (i k t : ℕ) → k < n → i ≢ k → t < leaky l → take 32 (drop ((k * leaky l + t) * 32) (S.hComms R i)) ≡ comm k t
+  comm-cell : (i k t : ℕ) → k < n → i ≢ k → t < leaky l → take 32 (drop ((k * leaky l + t) * 32) (S.h_comms R i)) ≡ comm k t
   comm-cell i k t lk ne lt =
       ap (λ (s : List ℕ). take 32 (drop ((k * leaky l + t) * 32) s)) (comms-are i)
       ∙ cell (box R i) (leaky l) 32 comm (λ k j lk ne lj. length-hash _) k t lk ne lt
@@ -277,7 +277,7 @@ module _ (R : Run) (X : Boxes R) where
       → length (own_comms (box R i) (at (box R i) HS w) (at (box R i) H_COMMS w)) ≡ size_of (box R i) H_COMMS
   unfolding at size_of sizes
   own-long i li w K =
-      length-ownComms (box R i) (at (box R i) HS w) (at (box R i) H_COMMS w) li
+      length-own_comms (box R i) (at (box R i) HS w) (at (box R i) H_COMMS w) li
       (length-sec (size_of (box R i)) SECTIONS w K.long H_COMMS (omega arith))
 
   pub send-17 : Sends R 17
@@ -288,7 +288,7 @@ module _ (R : Run) (X : Boxes R) where
   }
 
   pub recv-17 : Receives R 17
-  unfolding plain_after echoIn mem stays_test all_of S.since S.holds S.sent S.hComms judge kept comm_rows
+  unfolding plain_after echo_in mem stays_test all_of S.since S.holds S.sent S.h_comms judge kept comm_rows
   recv-17 = record {
     heard = record {
       lens = λ j r lj lr ne. comm-len j r;
@@ -328,7 +328,7 @@ module _ (R : Run) (X : Boxes R) where
   opens : (b : Bool) (c : ℕ) → b ≡ true → pick b 0 c ≡ 0
   opens b c e = rw e refl
 
-  h-opens : (i : ℕ) (m : ℕ → List ℕ) → ((k : ℕ) → k < n → i ≢ k → m k ≡ S.sent19 R k i) → (opening (box R i) (S.hComms R i) m).code ≡ 0
+  h-opens : (i : ℕ) (m : ℕ → List ℕ) → ((k : ℕ) → k < n → i ≢ k → m k ≡ S.sent19 R k i) → (opening (box R i) (S.h_comms R i) m).code ≡ 0
   unfolding opening
   h-opens i m M =
       by-none (box R i) _ (λ k lk ne. opens _ 2 (all_of_lem (leaky l) _ (λ t lt. same-eq _ _
@@ -341,8 +341,8 @@ module _ (R : Run) (X : Boxes R) where
       opens _ 10
       (all_of_lem (leaky l) _ (λ t lt. eq_block_lem _ _
       (ap₂ blocks.op (h-at i t li lt)
-      (others-ext blocks i n _ (hOf t) (λ k lk ne. h-told i k t m (M k lk ne) lk lt ∙ h-at k t lk lt))
-      ∙ blocks.comm (hOf t i) (others blocks i n (hOf t)) ∙ others-all blocks i n (hOf t) li ∙ h-sum t lt)))
+      (others-ext blocks i n _ (h_of t) (λ k lk ne. h-told i k t m (M k lk ne) lk lt ∙ h-at k t lk lt))
+      ∙ blocks.comm (h_of t i) (others blocks i n (h_of t)) ∙ others-all blocks i n (h_of t) li ∙ h-sum t lt)))
 
   pub send-19 : Sends R 19
   unfolding stays_test all_of mem S.since S.sent S.sent19 held written
@@ -352,14 +352,14 @@ module _ (R : Run) (X : Boxes R) where
   }
 
   pub recv-19 : Receives R 19
-  unfolding plain_after echoIn mem stays_test all_of S.since S.sent judge kept h_faults
+  unfolding plain_after echo_in mem stays_test all_of S.since S.sent judge kept h_faults
   recv-19 = record {
     heard = record {
       lens = λ j r lj lr ne. hash-len j r;
       formed = λ i j li lj ne. hash-form j i;
       judged = λ i li w K m M.
           ap₂ (λ (o c : List ℕ). (h_faults (box R i) o c m).code) (hs-at R K refl) (h-comms-at R K refl)
-          ∙ ap (λ (x : Fault). x.code) (or-none (opening (box R i) (S.hComms R i) m) (zero_sum (box R i) (S.hs R i) m) (h-opens i m M))
+          ∙ ap (λ (x : Fault). x.code) (or-none (opening (box R i) (S.h_comms R i) m) (zero_sum (box R i) (S.hs R i) m) (h-opens i m M))
           ∙ h-zero i li m M;
     };
     keeps = λ i li w K m M. keep-none R (due 19) (before 21) i li K refl;

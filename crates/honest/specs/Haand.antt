@@ -8,7 +8,7 @@ use Rattle.lists.specs.All.{all_of}
 use Rattle.lists.specs.Rows.{cat-ext}
 use Rattle.algebra.specs.Group.{bits, addb, sel, odd, num, odd-num}
 use Rattle.algebra.specs.Sum.{others, others-ext, sum-ext}
-use Rattle.algebra.specs.Half.{halfV, halfZ, and-of-xors}
+use Rattle.algebra.specs.Half.{half_v, half_z, and-of-xors}
 use Rattle.algebra.specs.Share.{total}
 use Rattle.block.specs.Block.{bytes_of}
 use Rattle.block.specs.Group.{blocks}
@@ -24,7 +24,7 @@ use Rattle.plan.specs.PlanLaws.{leaky-most}
 use Rattle.engine.specs.declared.Frame.{Frame}
 use Rattle.engine.specs.Area.{mem}
 use Rattle.engine.specs.Sheet.{stays_test}
-use Rattle.engine.specs.Order.{echoIn}
+use Rattle.engine.specs.Order.{echo_in}
 use Rattle.engine.specs.Honest.{before, due, plain_after}
 use Rattle.rounds.specs.Area.{LEAKY, ZS, sizes, size_of}
 use Rattle.rounds.specs.Table.{judge, kept, held, written}
@@ -33,7 +33,7 @@ use Rattle.alone.specs.HaandLaws.{length-leaky_rows, length-z_rows, z-read}
 use Rattle.honest.specs.Script as S
 use Rattle.honest.specs.Inputs.{Run, box, Boxes, deltas}
 use Rattle.honest.specs.Base.{Receives, Sends, list-form, list_len_lem, Fit, delta-is, masks-at, bits_at, keep_one}
-use Rattle.honest.specs.Values.{xOf, yOf, z_of}
+use Rattle.honest.specs.Values.{x_of, y_of, z_of}
 
 -- ---- a message of two bits each
 module _ (c : ℕ) (a b : ℕ → Bool) (small : c < 2 ^ 64) (t : ℕ) (lt : t < c) where
@@ -102,7 +102,7 @@ module _ (R : Run) (X : Boxes R) where
   }
 
   pub recv-14 : Receives R 14
-  unfolding plain_after echoIn mem stays_test all_of S.since S.holds S.sent S.z_rows judge kept
+  unfolding plain_after echo_in mem stays_test all_of S.since S.holds S.sent S.z_rows judge kept
   recv-14 = record {
     heard = record {
       lens = λ j r lj lr ne. haand-len j r;
@@ -116,9 +116,9 @@ module _ (R : Run) (X : Boxes R) where
 
   -- ---- the value of z
   -- what box i read back of its own rows
-  pub z-at : (i t : ℕ) → t < leaky l → z_at (S.z_rows R i) t ≡ z (box R i) (inputs i).masks (inputs i).bits (λ j. S.sent14 R j i) t
+  pub z_at_lem : (i t : ℕ) → t < leaky l → z_at (S.z_rows R i) t ≡ z (box R i) (inputs i).masks (inputs i).bits (λ j. S.sent14 R j i) t
   unfolding S.z_rows
-  z-at i t lt = z-read (box R i) (inputs i).masks (inputs i).bits (λ j. S.sent14 R j i) t lt
+  z_at_lem i t lt = z-read (box R i) (inputs i).masks (inputs i).bits (λ j. S.sent14 R j i) t lt
 
   -- the mask of box i for box j
   abbrev s : ℕ → ℕ → ℕ → Bool
@@ -127,15 +127,15 @@ module _ (R : Run) (X : Boxes R) where
   -- it is the z of the half AND
   z-half : (i t : ℕ) → t < leaky l
       → z (box R i) (inputs i).masks (inputs i).bits (λ j. S.sent14 R j i) t
-      ≡ halfZ blocks H n (deltas R) (xOf R t).bit (yOf R t).bit (xOf R t).mac (xOf R t).key (s t) i
-  unfolding z v halfZ halfV x y share_at shared_at S.sent14 haand_msg h0 h1
+      ≡ half_z blocks H n (deltas R) (x_of R t).bit (y_of R t).bit (x_of R t).mac (x_of R t).key (s t) i
+  unfolding z v half_z half_v x y share_at shared_at S.sent14 haand_msg h0 h1
   z-half i t lt =
-      ap (λ (b : Bool). addb b (sel bits ((xOf R t).bit i) ((yOf R t).bit i))) (others-ext bits i n _ _ (λ j lj ne.
-      ap₂ (λ (b a : Bool). addb (s t i j) (addb (H ((xOf R t).mac i j)) (cond ((xOf R t).bit i) b a)))
+      ap (λ (b : Bool). addb b (sel bits ((x_of R t).bit i) ((y_of R t).bit i))) (others-ext bits i n _ _ (λ j lj ne.
+      ap₂ (λ (b a : Bool). addb (s t i j) (addb (H ((x_of R t).mac i j)) (cond ((x_of R t).bit i) b a)))
       (second-read (leaky l) _ _ leaky-small t lt) (first_read (leaky l) _ _ leaky-small t lt)))
 
-  pub and-z : (t : ℕ) → t < leaky l → total n (z_of R t) ≡ sel bits (total n (xOf R t)) (total n (yOf R t))
+  pub and-z : (t : ℕ) → t < leaky l → total n (z_of R t) ≡ sel bits (total n (x_of R t)) (total n (y_of R t))
   unfolding z_of bits_count
   and-z t lt =
-      sum-ext bits n _ _ (λ i li. z-at i t lt ∙ z-half i t lt)
-      ∙ and-of-xors blocks H n (deltas R) (xOf R t).bit (yOf R t).bit (xOf R t).mac (xOf R t).key (s t) (X.bits-mac t (omega arith))
+      sum-ext bits n _ _ (λ i li. z_at_lem i t lt ∙ z-half i t lt)
+      ∙ and-of-xors blocks H n (deltas R) (x_of R t).bit (y_of R t).bit (x_of R t).mac (x_of R t).key (s t) (X.bits-mac t (omega arith))

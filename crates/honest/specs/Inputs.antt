@@ -65,23 +65,23 @@ module _ (R : Run) where
   deltas b = block_at (inputs b).delta 0
 
   -- record t of all boxes' lists, as one shared bit
-  abbrev pub lentBits : ℕ → Shared Block
-  lentBits t = lent_shared (λ b. (inputs b).bits) (t * lent_len n)
+  abbrev pub lent_bits : ℕ → Shared Block
+  lent_bits t = lent_shared (λ b. (inputs b).bits) (t * lent_len n)
 
-  abbrev pub lentAlphas : ℕ → Shared Block
-  lentAlphas t = lent_shared (λ b. (inputs b).alpha) (t * lent_len n)
+  abbrev pub lent_alphas : ℕ → Shared Block
+  lent_alphas t = lent_shared (λ b. (inputs b).alpha) (t * lent_len n)
 
-  abbrev pub lentBetas : ℕ → Shared Block
-  lentBetas t = lent_shared (λ b. (inputs b).beta) (t * lent_len n)
+  abbrev pub lent_betas : ℕ → Shared Block
+  lent_betas t = lent_shared (λ b. (inputs b).beta) (t * lent_len n)
 
   -- "The MAC rule between boxes j and k, both ways and at each position: j's MAC for k equals k's key for j, plus the delta k was opened
   -- with where j's bit is 1."
   pub record Opened : Type 0 where
     pub range : InRange n l
     pub own : (b : ℕ) → b < n → Own (box b) (inputs b)
-    pub bits-mac : (t : ℕ) → t < bits_count l → Good blocks n deltas (lentBits t)
-    pub alpha-mac : (t : ℕ) → t < l → Good blocks n deltas (lentAlphas t)
-    pub beta-mac : (t : ℕ) → t < l → Good blocks n deltas (lentBetas t)
+    pub bits-mac : (t : ℕ) → t < bits_count l → Good blocks n deltas (lent_bits t)
+    pub alpha-mac : (t : ℕ) → t < l → Good blocks n deltas (lent_alphas t)
+    pub beta-mac : (t : ℕ) → t < l → Good blocks n deltas (lent_betas t)
 
 -- ---- as they are kept
 -- what the rounds go by among n boxes, of the inputs that a box keeps
@@ -100,26 +100,26 @@ module _ (R : Run) where
   abbrev pub bits_of : ℕ → Shared Block
   bits_of t = shared_at (λ b. (inputs b).bits) (t * record_len n)
 
-  abbrev pub alphasOf : ℕ → Shared Block
-  alphasOf t = shared_at (λ b. (inputs b).alpha) (t * record_len n)
+  abbrev pub alphas_of : ℕ → Shared Block
+  alphas_of t = shared_at (λ b. (inputs b).alpha) (t * record_len n)
 
-  abbrev pub betasOf : ℕ → Shared Block
-  betasOf t = shared_at (λ b. (inputs b).beta) (t * record_len n)
+  abbrev pub betas_of : ℕ → Shared Block
+  betas_of t = shared_at (λ b. (inputs b).beta) (t * record_len n)
 
   pub record Boxes : Type 0 where
     pub range : InRange n l
     pub own : (b : ℕ) → b < n → Kept n (inputs b)
     pub bits-mac : (t : ℕ) → t < bits_count l → Good blocks n (deltas R) (bits_of t)
-    pub alpha-mac : (t : ℕ) → t < l → Good blocks n (deltas R) (alphasOf t)
-    pub beta-mac : (t : ℕ) → t < l → Good blocks n (deltas R) (betasOf t)
+    pub alpha-mac : (t : ℕ) → t < l → Good blocks n (deltas R) (alphas_of t)
+    pub beta-mac : (t : ℕ) → t < l → Good blocks n (deltas R) (betas_of t)
 
   -- "The joint seed is the XOR of all seeds"
-  unfoldable pub jointOf : List ℕ
-  jointOf = tab 32 (λ t. sum numbers n (λ b. get_or (inputs b).seed t 0))
+  unfoldable pub joint_of : List ℕ
+  joint_of = tab 32 (λ t. sum numbers n (λ b. get_or (inputs b).seed t 0))
 
   -- "the permutation from the joint seed" (02, order 6)
   abbrev pub order_of : List ℕ
-  order_of = order (box R 0) jointOf
+  order_of = order (box R 0) joint_of
 
 -- ---- what is read of them fits a Block
 module _ (R : Run) (X : Boxes R) (b : ℕ) (lb : b < R.n) where

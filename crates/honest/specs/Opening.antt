@@ -28,7 +28,7 @@ use Rattle.engine.specs.World.{session_of}
 use Rattle.engine.specs.Area.{to_others}
 use Rattle.engine.specs.Sheet.{Known}
 use Rattle.engine.specs.Honest.{Lawful, due}
-use Rattle.engine.specs.PlainSession.{AlikeSend, alike_same, HonestOpening}
+use Rattle.engine.proofs.PlainSession.{AlikeSend, alike_same, HonestOpening}
 use Rattle.rounds.specs.Area.{BITS, KEY_SUMS, work_len, at, keep}
 use Rattle.rounds.specs.Opening.{Args, party, lists_due, buffers_due, masks_fault, or_fault, bytes_fault, lengths_fault, reason}
 use Rattle.rounds.specs.Opening.{kept, section, area, spec}
@@ -233,8 +233,8 @@ module _ (R : Run) (X : Opened R) where
   open R use {n, l, inputs}
 
   -- what box b keeps of its counts: they make l
-  abbrev pub countsOf : ℕ → List ℕ
-  countsOf b = tally (inputs b).counts
+  abbrev pub counts_of : ℕ → List ℕ
+  counts_of b = tally (inputs b).counts
 
   pub counts-make : (b : ℕ) → b < n → whole l (tally (inputs b).counts) ≡ true
   counts-make b lb =
@@ -242,8 +242,8 @@ module _ (R : Run) (X : Opened R) where
       (whole-tally (inputs b).counts (X.own b lb).counts-taken)
 
   -- what box b's opening writes: the commitment of its seed
-  abbrev pub firstOut : ℕ → List ℕ
-  firstOut b = to_others n b (λ r. Toss.comm_msg (inputs b).seed b)
+  abbrev pub first_out : ℕ → List ℕ
+  first_out b = to_others n b (λ r. Toss.comm_msg (inputs b).seed b)
 
   own-lend : (b : ℕ) → b < n → (work out : List ℕ) → Own (box R b) (lend (inputs b) work out)
   own-lend b lb work out = let o = X.own b lb in search
@@ -259,7 +259,7 @@ module _ (R : Run) (X : Opened R) where
 
   -- it accepts its own inputs, and what the buffers held is not seen
   takes-given : (b : ℕ) (a : Args) → b < n → Given R b a
-      → (reason a ≡ 0) × (spec a ≡ outcome (session_of n l (countsOf b) b 1) Accepted (area (inputs b)) (firstOut b))
+      → (reason a ≡ 0) × (spec a ≡ outcome (session_of n l (counts_of b) b 1) Accepted (area (inputs b)) (first_out b))
   unfolding area section
   takes-given b a lb g =
       let z : reason (lend (inputs b) a.work a.out) ≡ 0 = no-reason-lend b lb a.work a.out g.work-len g.out-len in
@@ -277,7 +277,7 @@ module _ (R : Run) (X : Opened R) where
       → HonestOpening subject (S.script (played R)) n l opener (Agree R) (Given R) W (λ b. tally (inputs b).counts) counts-make
   unfolding S.sent S.sent1
   honest-opening W = record {
-    first = record { work = λ b. area (inputs b); out = firstOut };
+    first = record { work = λ b. area (inputs b); out = first_out };
     refuses = spec-refuses;
     takes = takes-given;
     keeps = known-opened;

@@ -15,7 +15,7 @@ use Rattle.engine.specs.declared.Frame.{Frame}
 use Rattle.rounds.specs.Area.{work_len}
 use Rattle.rounds.specs.OpeningLaws.{neither, passed}
 use Rattle.rounds.specs.Opening.{Args, party, lists_due, buffers_due, masks_fault, bytes_fault, reason}
-use Rattle.honest.specs.Inputs.{Run, box, deltas, Own, lentBits, lentAlphas, lentBetas, Opened}
+use Rattle.honest.specs.Inputs.{Run, box, deltas, Own, lent_bits, lent_alphas, lent_betas, Opened}
 use Rattle.honest.specs.Course.{lawful}
 use Rattle.honest.specs.Opening.{Given, honest-opening}
 use Rattle.honest.specs.Supply.{Lists, zero_inputs, zero_run, zero-boxes}
@@ -38,9 +38,9 @@ pub record Premises (R : Run) : Type 0 where
   pub party : (b : ℕ) → b < R.n → party (R.inputs b) ≡ box R b
   pub fine : (b : ℕ) → b < R.n → reason (R.inputs b) ≡ 0
   pub bytes : (b : ℕ) → b < R.n → InBytes (R.inputs b)
-  pub bits-mac : (t : ℕ) → t < bits_count R.l → Good blocks R.n (deltas R) (lentBits R t)
-  pub alpha-mac : (t : ℕ) → t < R.l → Good blocks R.n (deltas R) (lentAlphas R t)
-  pub beta-mac : (t : ℕ) → t < R.l → Good blocks R.n (deltas R) (lentBetas R t)
+  pub bits-mac : (t : ℕ) → t < bits_count R.l → Good blocks R.n (deltas R) (lent_bits R t)
+  pub alpha-mac : (t : ℕ) → t < R.l → Good blocks R.n (deltas R) (lent_alphas R t)
+  pub beta-mac : (t : ℕ) → t < R.l → Good blocks R.n (deltas R) (lent_betas R t)
 
 -- ---- what an opening without a reason was given
 not-zero : (k : ℕ) → ◌≡◌ {A = ℕ} (suc k) 0 → ⊥

@@ -11,9 +11,9 @@ use Rattle.share.specs.Lent.{lent_len, lent_of, lent_at}
 use Rattle.share.specs.LentLaws.{length-lent_of, lent_row}
 use Rattle.share.specs.Parties.{lent_shared, share_of, good-lent, total-lent, lent_written}
 use Rattle.honest.specs.Script as S
-use Rattle.honest.specs.Inputs.{Run, Boxes, deltas, alphasOf, betasOf}
+use Rattle.honest.specs.Inputs.{Run, Boxes, deltas, alphas_of, betas_of}
 use Rattle.honest.specs.Values.{LeakyTriples}
-use Rattle.honest.specs.Buckets.{aOf, bOf, cOf, abc-triple}
+use Rattle.honest.specs.Buckets.{a_of, b_of, c_of, abc-triple}
 use Rattle.honest.specs.Beaver.{out_of, small-out, result-is}
 
 module _ (R : Run) (X : Boxes R) where
@@ -36,14 +36,14 @@ module _ (R : Run) (X : Boxes R) where
     read = lent_written n (out_of R t) result (t * lent_len n) here (λ i li. small-out R X i t li)
 
     module _ (L : LeakyTriples R) where
-      product : Triple blocks n (deltas R) (alphasOf R t) (betasOf R t) (out_of R t)
+      product : Triple blocks n (deltas R) (alphas_of R t) (betas_of R t) (out_of R t)
       product =
-          beaver blocks n (deltas R) (aOf R t) (bOf R t) (cOf R t)
-          (alphasOf R t) (betasOf R t) (abc-triple R X L t lt) (X.alpha-mac t lt) (X.beta-mac t lt)
+          beaver blocks n (deltas R) (a_of R t) (b_of R t) (c_of R t)
+          (alphas_of R t) (betas_of R t) (abc-triple R X L t lt) (X.alpha-mac t lt) (X.beta-mac t lt)
 
       pub good-result : Good blocks n (deltas R) (lent_shared (λ i. S.result_of R i) (t * lent_len n))
       good-result = good-lent n (out_of R t) result (t * lent_len n) read (deltas R) product.good-c
 
       pub total-result : total n (lent_shared (λ i. S.result_of R i) (t * lent_len n))
-          ≡ sel bits (total n (alphasOf R t)) (total n (betasOf R t))
+          ≡ sel bits (total n (alphas_of R t)) (total n (betas_of R t))
       total-result = total-lent n (out_of R t) result (t * lent_len n) read ∙ product.product

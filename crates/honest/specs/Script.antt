@@ -40,8 +40,8 @@ module _ (R : Run) where
   unfoldable pub sent4 : ℕ → ℕ → List ℕ
   sent4 j r = Toss.comm_msg (chunk 32 r (inputs j).pairs) j
 
-  unfoldable pub pairComms : ℕ → List ℕ
-  pairComms i = Toss.told_rows (box R i) (λ j. sent4 j i)
+  unfoldable pub pair_comms : ℕ → List ℕ
+  pair_comms i = Toss.told_rows (box R i) (λ j. sent4 j i)
 
   unfoldable pub sent5 : ℕ → ℕ → List ℕ
   sent5 j r = Toss.ver_msg (chunk 32 r (inputs j).pairs)
@@ -60,8 +60,8 @@ module _ (R : Run) where
   unfoldable pub sent8 : ℕ → ℕ → List ℕ
   sent8 j r = Fashare.comm_msg (box R j) (deltas R j) (recs j)
 
-  unfoldable pub shareComms : ℕ → List ℕ
-  shareComms i = Fashare.comm_rows (box R i) (λ j. sent8 j i)
+  unfoldable pub share_comms : ℕ → List ℕ
+  share_comms i = Fashare.comm_rows (box R i) (λ j. sent8 j i)
 
   unfoldable pub sent10 : ℕ → ℕ → List ℕ
   sent10 j r = Fashare.ver_msg (box R j) (recs j)
@@ -95,8 +95,8 @@ module _ (R : Run) where
   unfoldable pub sent17 : ℕ → ℕ → List ℕ
   sent17 j r = Flaand.comm_msg (box R j) (hs j)
 
-  unfoldable pub hComms : ℕ → List ℕ
-  hComms i = Flaand.comm_rows (box R i) (λ j. sent17 j i)
+  unfoldable pub h_comms : ℕ → List ℕ
+  h_comms i = Flaand.comm_rows (box R i) (λ j. sent17 j i)
 
   unfoldable pub sent19 : ℕ → ℕ → List ℕ
   sent19 j r = Flaand.hash_msg (box R j) (hs j)
@@ -128,10 +128,10 @@ module _ (R : Run) where
       pick (eqb s DELTA) (inputs i).delta (pick (eqb s SEED) (inputs i).seed
       (pick (eqb s PAIRS) (inputs i).pairs (pick (eqb s MASKS) (inputs i).masks
       (pick (eqb s BITS) (inputs i).bits (pick (eqb s ALPHA) (inputs i).alpha (pick (eqb s BETA) (inputs i).beta
-      (pick (eqb s COMMS) (comms i) (pick (eqb s JOINT) (joint i) (pick (eqb s PAIR_COMMS) (pairComms i) (pick (eqb s PAIRWISE) (pairwise i)
-      (pick (eqb s KEY_SUMS) (key_sums i) (pick (eqb s SHARE_COMMS) (shareComms i) (pick (eqb s DMS) (dms i)
+      (pick (eqb s COMMS) (comms i) (pick (eqb s JOINT) (joint i) (pick (eqb s PAIR_COMMS) (pair_comms i) (pick (eqb s PAIRWISE) (pairwise i)
+      (pick (eqb s KEY_SUMS) (key_sums i) (pick (eqb s SHARE_COMMS) (share_comms i) (pick (eqb s DMS) (dms i)
       (pick (eqb s LEAKY) (leaky_rows i) (pick (eqb s ZS) (z_rows i)
-      (pick (eqb s ES) (es i) (pick (eqb s HS) (hs i) (pick (eqb s H_COMMS) (hComms i)
+      (pick (eqb s ES) (es i) (pick (eqb s HS) (hs i) (pick (eqb s H_COMMS) (h_comms i)
       (pick (eqb s PERM) (perms i) (pick (eqb s DS) (ds i) (pick (eqb s TRIPLES) (triple_rows i)
       (replicate (size_of (box R i) s) 0))))))))))))))))))))))
 

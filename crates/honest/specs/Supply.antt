@@ -22,7 +22,7 @@ use Rattle.batches.specs.BatchLaws.{total-single, untaken, single-taken}
 use Rattle.plan.specs.Plan.{InRange, leaky, bits_count, r_len, msg_len}
 use Rattle.engine.specs.Step.{frame, Loan}
 use Rattle.engine.specs.Honest.{Lawful}
-use Rattle.engine.specs.PlainSession.{Supply}
+use Rattle.engine.proofs.PlainSession.{Supply}
 use Rattle.rounds.specs.Area.{work_len}
 use Rattle.rounds.specs.Opening.{Args}
 use Rattle.rounds.specs.Table.{lent}

@@ -19,22 +19,24 @@ use Rattle.share.specs.Parties.{lent_shared}
 use Rattle.plan.specs.Plan.{InRange, leaky, r_len}
 use Rattle.engine.specs.Step.{Loan, Lent, Protocol}
 use Rattle.engine.specs.World.{In, All, Box, Call, opening, turn, Scene, start, runs, FairList, AllRight, Done}
-use Rattle.engine.specs.Engine.{Duty, every_call, every-done, every-long}
-use Rattle.engine.specs.Live.{Cast, AsCast, lentFor, robin, fair-robin, robin-done, robin-lends, robin-has}
+use Rattle.engine.specs.Engine.{Duty}
+use Rattle.engine.proofs.EngineLaws.{every_call, every-done, every-long}
+use Rattle.engine.specs.Live.{Cast}
+use Rattle.engine.proofs.LiveLaws.{AsCast, lent_for, robin, fair-robin, robin-done, robin-lends, robin-has}
 use Rattle.engine.specs.Area.{mem, also}
-use Rattle.engine.specs.Order.{echoIn, nextIn}
-use Rattle.engine.specs.Plain.{next_of, number_of, steps_of, protocolOf}
+use Rattle.engine.specs.Order.{echo_in, next_in}
+use Rattle.engine.specs.Plain.{next_of, number_of, steps_of, protocol_of}
 use Rattle.engine.specs.Honest.{Lawful, plain_after, Honest}
-use Rattle.engine.specs.PlainSession.{HonestOpening, scene_of, Supply, cast_of, cast-lends, dutyOf, every-written}
+use Rattle.engine.proofs.PlainSession.{HonestOpening, scene_of, Supply, cast_of, cast-lends, duty_of, every-written}
 use Rattle.rounds.specs.Area.{work_len}
 use Rattle.rounds.specs.Opening.{Args}
 use Rattle.rounds.specs.Fabitn as Fabitn
 use Rattle.rounds.specs.FabitnLaws.{seed-long}
 use Rattle.honest.specs.Subject.{opener, subject}
 use Rattle.honest.specs.Script as S
-use Rattle.honest.specs.Inputs.{Run, box, deltas, lentAlphas, lentBetas, Opened, Boxes}
+use Rattle.honest.specs.Inputs.{Run, box, deltas, lent_alphas, lent_betas, Opened, Boxes}
 use Rattle.honest.specs.Course.{lawful}
-use Rattle.honest.specs.Opening.{Given, Agree, played, total-keeps, boxes-for, countsOf, counts-make, honest-opening}
+use Rattle.honest.specs.Opening.{Given, Agree, played, total-keeps, boxes-for, counts_of, counts-make, honest-opening}
 use Rattle.honest.specs.Supply.{Lists, zero_run, Forms, supply, supply-r, one_seed, one_seed_lem}
 use Rattle.honest.specs.Premises.{Premises, opened_of, zero-premises}
 use Rattle.honest.specs.Values.{LeakyTriples}
@@ -49,7 +51,7 @@ use Rattle.honest.specs.Results.{length-result, good-result, total-result}
 
 -- the session of document 01, after its opening
 abbrev pub session : Protocol
-session = protocolOf subject
+session = protocol_of subject
 
 -- ---- WHAT IS CLAIMED, of a run: n boxes with one l, box b opened with `inputs b`, all lent the same r strings, of which nothing is asked.
 -- "Demand 3's equal r strings are the Blocks lent or drawn, whichever form each box got." (02, order 4)
@@ -58,7 +60,7 @@ module _ (R : Run) (P : Premises R) where
 
   abbrev pub scene : Scene Args
   scene =
-      scene_of subject n l opener (Agree R) (Given R) (lawful n l (opened_of R P).range) (countsOf R (opened_of R P))
+      scene_of subject n l opener (Agree R) (Given R) (lawful n l (opened_of R P).range) (counts_of R (opened_of R P))
       (counts-make R (opened_of R P))
 
   -- "every list of openings and round calls in which a box takes a round only once its messages are there, whatever the order among boxes
@@ -109,7 +111,7 @@ module _ (R : Run) (X : Boxes R) where
   open R use {n, l}
 
   pub honest : Honest subject (S.script R) n l
-  unfolding plain_after echoIn mem all_of
+  unfolding plain_after echo_in mem all_of
   honest = record {
     plain = 1 ∷ 3 ∷ 4 ∷ 5 ∷ 6 ∷ 8 ∷ 10 ∷ 12 ∷ 14 ∷ 15 ∷ 17 ∷ 19 ∷ 21 ∷ [];
     whole = refl;
@@ -163,12 +165,12 @@ steps-are false = refl
 
 -- r is due with the call for round 5, which writes `fabitn`: it is the fourth of two boxes, and else the fifth
 fabitn-next : (two : Bool) → next_of subject two 5 ≡ 6
-unfolding nextIn echoIn mem
+unfolding next_in echo_in mem
 fabitn-next true = refl
 fabitn-next false = refl
 
 fabitn-fifth : (two : Bool) → number_of subject two (pick two 3 4) ≡ 5
-unfolding number_of nextIn echoIn mem
+unfolding number_of next_in echo_in mem
 fabitn-fifth true = refl
 fabitn-fifth false = refl
 
@@ -200,11 +202,11 @@ module _ (R : Run) (P : Premises R) where
   abbrev H : Honest subject (S.script R') n l
   H = honest R' X'
 
-  abbrev opens : HonestOpening subject (S.script R') n l opener (Agree R) (Given R) W (countsOf R O) (counts-make R O)
+  abbrev opens : HonestOpening subject (S.script R') n l opener (Agree R) (Given R) W (counts_of R O) (counts-make R O)
   opens = honest-opening R O W
 
   abbrev duty : Duty (scene R P)
-  duty = dutyOf subject (S.script R') n l opener (Agree R) (Given R) W (countsOf R O) (counts-make R O) H opens
+  duty = duty_of subject (S.script R') n l opener (Agree R) (Given R) W (counts_of R O) (counts-make R O) H opens
 
   abbrev triples : LeakyTriples R'
   triples = leaky-triple R' X'
@@ -215,7 +217,7 @@ module _ (R : Run) (P : Premises R) where
   -- what a done box wrote last
   wrote-is : (cs : List (Call Args)) → Fine R P cs → (b : ℕ) (x : Box) → Stands R P cs b x
       → Done session x.session → (b < n) × (x.wrote ≡ result b)
-  wrote-is = every-written subject (S.script R') n l opener (Agree R) (Given R) W (countsOf R O) (counts-make R O) H opens
+  wrote-is = every-written subject (S.script R') n l opener (Agree R) (Given R) W (counts_of R O) (counts-make R O) H opens
 
   mac-rule : (j k : ℕ) → j < n → k < n → j ≢ k → (t : ℕ) → t < l
       → (lent_at (result j) (t * lent_len n)).mac k
@@ -232,7 +234,7 @@ module _ (R : Run) (P : Premises R) where
       ∙ ap₂ (sel bits)
       (total-keeps R O (λ l. l) (λ b. (inputs b).alpha) (λ b lb. (O.own b lb).alpha-bytes) t lt)
       (total-keeps R O (λ l. l) (λ b. (inputs b).beta) (λ b lb. (O.own b lb).beta-bytes) t lt)
-      ∙ and_is (total n (lentAlphas R t)) (total n (lentBetas R t))
+      ∙ and_is (total n (lent_alphas R t)) (total n (lent_betas R t))
 
   -- ---- DEMAND 3
   pub every-list : (cs : List (Call Args)) → Fine R P cs → Claim R P cs
@@ -258,16 +260,16 @@ module _ (R : Run) (P : Premises R) where
 
   -- ---- its premises can be met, and all boxes come to be done, whichever form of the strings each box is lent
   module _ (forms : ℕ → List ℕ) (F : Forms R forms) where
-    abbrev supplied : Supply subject n l opener (Agree R) (Given R) W (countsOf R O) (counts-make R O)
-    supplied = supply R forms F W (countsOf R O) (counts-make R O)
+    abbrev supplied : Supply subject n l opener (Agree R) (Given R) W (counts_of R O) (counts-make R O)
+    supplied = supply R forms F W (counts_of R O) (counts-make R O)
 
     abbrev cast : Cast (scene R P)
-    cast = cast_of subject n l opener (Agree R) (Given R) W (countsOf R O) (counts-make R O) supplied
+    cast = cast_of subject n l opener (Agree R) (Given R) W (counts_of R O) (counts-make R O) supplied
 
     r-lent : (b : ℕ) (q : Loan) → q ≡ cast.lends b 5 → q.r ≡ forms b
     r-lent b q e =
-        ap (λ (q : Loan). q.r) (e ∙ cast-lends subject n l opener (Agree R) (Given R) W (countsOf R O) (counts-make R O) supplied b 5)
-        ∙ ap (λ j. (supplied.lends b j).r) (fabitn-next (eqb n 2)) ∙ supply-r R forms F W (countsOf R O) (counts-make R O) b
+        ap (λ (q : Loan). q.r) (e ∙ cast-lends subject n l opener (Agree R) (Given R) W (counts_of R O) (counts-make R O) supplied b 5)
+        ∙ ap (λ j. (supplied.lends b j).r) (fabitn-next (eqb n 2)) ∙ supply-r R forms F W (counts_of R O) (counts-make R O) b
 
     as_lent : (b : ℕ) (cs : List (Call Args)) → All (AsCast (scene R P) duty cast) cs → All (LentR b (forms b)) cs
     as_lent b [] h = tt
@@ -283,7 +285,7 @@ module _ (R : Run) (P : Premises R) where
     lent-as : (b : ℕ) → b < n → LentAs b (forms b) calls
     lent-as b lb =
         let d : ℕ = pick (eqb n 2) 3 4 in
-        let q : Lent = lentFor (scene R P) duty cast d b in
+        let q : Lent = lent_for (scene R P) duty cast d b in
         record {
           one = (
             q,

@@ -28,7 +28,7 @@ use Rattle.engine.specs.declared.Frame.{Frame}
 use Rattle.engine.specs.StepLaws.{by-none}
 use Rattle.engine.specs.Area.{mem}
 use Rattle.engine.specs.Sheet.{stays_test}
-use Rattle.engine.specs.Order.{echoIn}
+use Rattle.engine.specs.Order.{echo_in}
 use Rattle.engine.specs.Honest.{before, due, plain_after}
 use Rattle.rounds.specs.Area.{COMMS, JOINT, PAIR_COMMS, PAIRWISE, sizes, size_of}
 use Rattle.rounds.specs.Table.{judge, kept, held, written}
@@ -37,7 +37,7 @@ use Rattle.alone.specs.Base.{rows_ext, length-rows, chunk-rows}
 use Rattle.blake3.specs.ByteLaws.{length-hash}
 use Rattle.rounds.specs.EchoLaws.{length-hash_vec}
 use Rattle.honest.specs.Script as S
-use Rattle.honest.specs.Inputs.{Run, box, Boxes, jointOf}
+use Rattle.honest.specs.Inputs.{Run, box, Boxes, joint_of}
 use Rattle.honest.specs.Base.{Receives, Sends, Hashes, list-form, list_len_lem, Fit, seed-at, pairs-at, comms-at, pair-comms-at}
 use Rattle.honest.specs.Base.{keep-none, keep_one}
 
@@ -145,7 +145,7 @@ module _ (R : Run) (X : Boxes R) where
   fit-comms = (omega arith, λ i li. length-told (box R i) (λ j. S.sent1 R j i) (λ k. (inputs k).seed) (λ k lk ne. refl))
 
   pub recv-1 : Receives R 1
-  unfolding plain_after echoIn mem stays_test all_of S.since S.holds S.sent S.sent1 S.comms judge kept
+  unfolding plain_after echo_in mem stays_test all_of S.since S.holds S.sent S.sent1 S.comms judge kept
   recv-1 = record {
     heard = record {
       lens = λ j r lj lr ne. comm-len (inputs j).seed j n l;
@@ -178,7 +178,7 @@ module _ (R : Run) (X : Boxes R) where
   told-seed j lj m e = ap told e ∙ told-ver (inputs j).seed (X.own j lj).seed-len
 
   pub recv-3 : Receives R 3
-  unfolding plain_after echoIn mem stays_test all_of S.since S.holds S.sent S.sent1 S.sent3 S.comms S.joint judge kept
+  unfolding plain_after echo_in mem stays_test all_of S.since S.holds S.sent S.sent1 S.sent3 S.comms S.joint judge kept
   recv-3 = record {
     heard = record {
       lens = λ j r lj lr ne. ver_len_lem (inputs j).seed n l;
@@ -192,8 +192,8 @@ module _ (R : Run) (X : Boxes R) where
   }
 
   -- after the toss all boxes hold one joint seed: each has heard the seeds of all others
-  pub one-joint : (i : ℕ) → i < n → S.joint R i ≡ jointOf R
-  unfolding S.joint S.sent3 joint_seed jointOf
+  pub one-joint : (i : ℕ) → i < n → S.joint R i ≡ joint_of R
+  unfolding S.joint S.sent3 joint_seed joint_of
   one-joint i li =
       tab-ext 32 _ _ (λ t lt.
       let seed : ℕ → ℕ = λ k. get_or (inputs k).seed t 0 in
@@ -215,14 +215,14 @@ module _ (R : Run) (X : Boxes R) where
   pair j r = chunk 32 r (inputs j).pairs
 
   fit-pair-comms : Fit R PAIR_COMMS
-  unfolding S.holds S.pairComms S.sent4 size_of sizes
+  unfolding S.holds S.pair_comms S.sent4 size_of sizes
   fit-pair-comms = (
     omega arith,
     λ i li. length-told (box R i) (λ j. S.sent4 R j i) (λ k. pair k i) (λ k lk ne. refl),
   )
 
   pub recv-4 : Receives R 4
-  unfolding plain_after echoIn mem stays_test all_of S.since S.holds S.sent S.sent4 S.pairComms judge kept msg_len count_due kind_of
+  unfolding plain_after echo_in mem stays_test all_of S.since S.holds S.sent S.sent4 S.pair_comms judge kept msg_len count_due kind_of
   recv-4 = record {
     heard = record {
       lens = λ j r lj lr ne. comm-len (pair j r) j n l;
@@ -250,7 +250,7 @@ module _ (R : Run) (X : Boxes R) where
       ap told e ∙ told-ver (pair j i) (length-chunk 32 n i (inputs j).pairs li (omega (arith, (X.own j lj).pairs_len)))
 
   pub recv-5 : Receives R 5
-  unfolding plain_after echoIn mem stays_test all_of S.since S.holds S.sent S.sent4 S.sent5 S.pairComms S.pairwise judge kept msg_len count_due kind_of
+  unfolding plain_after echo_in mem stays_test all_of S.since S.holds S.sent S.sent4 S.sent5 S.pair_comms S.pairwise judge kept msg_len count_due kind_of
   recv-5 = record {
     heard = record {
       lens = λ j r lj lr ne. ver_len_lem (pair j r) n l;

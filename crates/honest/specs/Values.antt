@@ -22,21 +22,21 @@ module _ (R : Run) where
   open R use {l, inputs}
 
   -- x, y and r of position t, in the lists of bits
-  abbrev pub xOf : ℕ → Shared Block
-  xOf t = bits_of R t
+  abbrev pub x_of : ℕ → Shared Block
+  x_of t = bits_of R t
 
-  abbrev pub yOf : ℕ → Shared Block
-  yOf t = bits_of R (leaky l + t)
+  abbrev pub y_of : ℕ → Shared Block
+  y_of t = bits_of R (leaky l + t)
 
-  abbrev pub rOf : ℕ → Shared Block
-  rOf t = bits_of R (2 * leaky l + t)
+  abbrev pub r_of : ℕ → Shared Block
+  r_of t = bits_of R (2 * leaky l + t)
 
   -- box i's share of them
-  pub share-x : (i t : ℕ) → share_of i (xOf t) ≡ x (box R i) (inputs i).bits t
+  pub share-x : (i t : ℕ) → share_of i (x_of t) ≡ x (box R i) (inputs i).bits t
   unfolding share_of shared_at share_at x
   share-x i t = refl
 
-  pub share-y : (i t : ℕ) → share_of i (yOf t) ≡ y (box R i) (inputs i).bits t
+  pub share-y : (i t : ℕ) → share_of i (y_of t) ≡ y (box R i) (inputs i).bits t
   unfolding share_of shared_at share_at y
   share-y i t = refl
 
@@ -68,4 +68,4 @@ module _ (R : Run) where
 
   -- what rounds 14 to 19 leave
   abbrev pub LeakyTriples : Type 0
-  LeakyTriples = (t : ℕ) → t < leaky l → Triple blocks n (deltas R) (xOf R t) (yOf R t) (z_of t)
+  LeakyTriples = (t : ℕ) → t < leaky l → Triple blocks n (deltas R) (x_of R t) (y_of R t) (z_of t)

@@ -11,7 +11,7 @@ use Rattle.engine.specs.declared.Session.{Session}
 use Rattle.engine.specs.Step.{Lent, Reply, Accepted, Refused, Outcome, frame, round_spec}
 use Rattle.engine.specs.OneBox.{taken}
 use Rattle.engine.specs.Area.{off}
-use Rattle.engine.specs.Plain.{protocolOf}
+use Rattle.engine.specs.Plain.{protocol_of}
 use Rattle.rounds.specs.Area.{JOINT, PAIRWISE, size_of}
 use Rattle.rounds.specs.Opening as Opening
 use Rattle.rounds.specs.Combine as Combine
@@ -94,14 +94,14 @@ of_turn o b = turned (of_outcome o) (told_c o.reply o.session.due o.told b)
 
 -- "20, 19, 17", where that buffer has another length than is due
 unfoldable pub told_reason : Session → ℕ → ℕ
-told_reason s k = pick (not ((protocolOf table).alive s)) 20 (pick (not (eqb k s.due)) 19 17)
+told_reason s k = pick (not ((protocol_of table).alive s)) 20 (pick (not (eqb k s.due)) 19 17)
 
 -- a session of another length is none that opening can have made: 20, and there is no i to name
 unfoldable pub round_c : List ℕ → ℕ → Lent → List ℕ → List ℕ → Turned
 round_c s k q w b =
     pick (eqb (length s) SESSION)
     (pick (eqb (length b) TOLD)
-    (of_turn (round_spec (protocolOf table) (session_at s) k q w) b)
+    (of_turn (round_spec (protocol_of table) (session_at s) k q w) b)
     (turned (exported (packed_of (Refused (told_reason (session_at s) k) (session_at s).party.i)) s w q.out) b))
     (turned (exported (packed_of (Refused 20 NO_PARTY)) s w q.out) b)
 
@@ -123,7 +123,7 @@ sum_c c = pick (eqb (counts_fault c) 0) (total c) (packed_of (Refused (counts_fa
 
 -- the round due
 unfoldable pub due_of : List ℕ → ℕ
-due_of s = pick (eqb (length s) SESSION && (protocolOf table).alive (session_at s)) (get_or s 3 0) 0
+due_of s = pick (eqb (length s) SESSION && (protocol_of table).alive (session_at s)) (get_or s 3 0) 0
 
 -- the round after round k of n parties, the first after opening (k = 0)
 unfoldable pub round_after : ℕ → ℕ → ℕ

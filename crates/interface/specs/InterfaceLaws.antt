@@ -17,9 +17,9 @@ use Rattle.plan.specs.Names.{round_name}
 use Rattle.engine.specs.declared.Frame.{Frame}
 use Rattle.engine.specs.declared.Session.{Session}
 use Rattle.engine.specs.Step.{Lent, Reply, Accepted, Refused, Outcome, leaves, outcome, accepted, round_spec}
-use Rattle.engine.specs.StepLaws.{round-faults, round-cases}
-use Rattle.engine.specs.Order.{nextIn}
-use Rattle.engine.specs.Plain.{next_of, protocolOf}
+use Rattle.engine.proofs.RoundLaws.{round-faults, round-cases}
+use Rattle.engine.specs.Order.{next_in}
+use Rattle.engine.specs.Plain.{next_of, protocol_of}
 use Rattle.rounds.specs.Opening as Opening
 use Rattle.rounds.specs.Opening.{Args, party, or_fault, lengths_fault, reason}
 use Rattle.rounds.specs.OpeningLaws.{within, passed}
@@ -27,7 +27,7 @@ use Rattle.rounds.specs.Combine as Combine
 use Rattle.rounds.specs.CombineLaws as CombineLaws
 use Rattle.rounds.specs.JudgeLaws.{Named, fault-named}
 use Rattle.rounds.specs.Table.{table}
-use Rattle.admit.specs.AdmitLaws.{reason-zero, alive-round, round-low}
+use Rattle.admit.proofs.AdmitLaws.{reason-zero, alive-round, round-low}
 use Rattle.interface.specs.Interface.{COUNTS, SESSION, TOLD, session_at, numbers_of, packed_of, NO_PARTY, exported, of_outcome, open_reason, open_c}
 use Rattle.interface.specs.Interface.{turned, told_c, of_turn, told_reason, round_c, sum_c}
 use Rattle.interface.specs.Interface.{combined, combine_c, due_of, message_len, name_byte}
@@ -151,7 +151,7 @@ module _ (s : List ℕ) (k : ℕ) (q : Lent) (w b : List ℕ) where
     pub answer-is : n ≡ packed_of v
     pub session-is : s' ≡ numbers_of t
     pub told_is : b' ≡ told_c v t.due d b
-    pub call-is : leaves t v d w' o ≡ round_spec (protocolOf table) (session_at s) k q w
+    pub call-is : leaves t v d w' o ≡ round_spec (protocol_of table) (session_at s) k q w
 
   pub rounds : length s ≡ SESSION → length b ≡ TOLD → (n : ℕ) (s' w' o b' : List ℕ) (t : Session) (v : Reply) (d : List ℕ)
       → Left n s' w' o b' t v d → turned (exported n s' w' o) b' ≡ round_c s k q w b
@@ -183,7 +183,7 @@ combines a n o v en e = ap (λ m. combined m o) en ∙ ap (λ (x : Combine.Outco
 -- ---- what fits
 module _ (s : Session) (k : ℕ) (q : Lent) (w : List ℕ) where
   next_small : k ≤ 22 → (b : Bool) → next_of table b k < 0x1_0000_0000
-  unfolding nextIn
+  unfolding next_in
   next_small h b = go (leb 22 k) (b && echo? (suc k))
     where
       go : (x y : Bool) → pick x 0 (pick y (suc (suc k)) (suc k)) < 0x1_0000_0000
@@ -196,22 +196,22 @@ module _ (s : Session) (k : ℕ) (q : Lent) (w : List ℕ) where
   narrow-due h d = record { n-fits = h.n-fits; i-fits = h.i-fits; l-fits = h.l-fits; due-fits = d; counts-fit = h.counts-fit }
 
   -- a round call leaves a session that fits
-  pub round-narrow : Narrow s → Narrow (round_spec (protocolOf table) s k q w).session
+  pub round-narrow : Narrow s → Narrow (round_spec (protocol_of table) s k q w).session
   unfolding accepted
   round-narrow h =
-      round-cases (protocolOf table) s k q w (λ (o : Outcome). Narrow o.session) (λ ne. h)
-      (λ z ne. rw (round-faults (protocolOf table) s k q w z ne) (narrow-due h (omega arith)))
+      round-cases (protocol_of table) s k q w (λ (o : Outcome). Narrow o.session) (λ ne. h)
+      (λ z ne. rw (round-faults (protocol_of table) s k q w z ne) (narrow-due h (omega arith)))
       (λ z f.
       let A = reason-zero s k q w z in
       let low = round-low s.party.n s.due (alive-round s A.alive-is) in
       narrow-due h (next_small (omega (arith, A.due-is, low)) (eqb s.party.n 2)))
 
   -- and names a party that fits
-  pub round-named : Narrow s → named (round_spec (protocolOf table) s k q w).reply ≤ NO_PARTY
+  pub round-named : Narrow s → named (round_spec (protocol_of table) s k q w).reply ≤ NO_PARTY
   unfolding accepted Named
   round-named h =
-      round-cases (protocolOf table) s k q w (λ (o : Outcome). named o.reply ≤ NO_PARTY) (λ ne. omega (arith, h.i-fits))
-      (λ z ne. rw (round-faults (protocolOf table) s k q w z ne)
+      round-cases (protocol_of table) s k q w (λ (o : Outcome). named o.reply ≤ NO_PARTY) (λ ne. omega (arith, h.i-fits))
+      (λ z ne. rw (round-faults (protocol_of table) s k q w z ne)
       (let A = reason-zero s k q w z in
       omega (arith, fault-named s.party A.ranges.own k q w ne, A.ranges.range.eight)))
       (λ z f. omega arith)
@@ -251,15 +251,15 @@ module _ (c : List ℕ) (code : ℕ) where
 
 -- ---- the buffer for the batches
 module _ (s : Session) (k : ℕ) where
-  pub told_over : (protocolOf table).alive s ≡ false → 20 ≡ told_reason s k
+  pub told_over : (protocol_of table).alive s ≡ false → 20 ≡ told_reason s k
   unfolding told_reason
   told_over h = rw h refl
 
-  pub told-turn : (protocolOf table).alive s ≡ true → k ≢ s.due → 19 ≡ told_reason s k
+  pub told-turn : (protocol_of table).alive s ≡ true → k ≢ s.due → 19 ≡ told_reason s k
   unfolding told_reason
   told-turn h ne = rw (h, ne_eqb k s.due ne) refl
 
-  pub told-short : (protocolOf table).alive s ≡ true → k ≡ s.due → 17 ≡ told_reason s k
+  pub told-short : (protocol_of table).alive s ≡ true → k ≡ s.due → 17 ≡ told_reason s k
   unfolding told_reason
   told-short h e = rw (h, eq-eqb k s.due e) refl
 
@@ -281,10 +281,10 @@ pub due-short : (s : List ℕ) → length s ≢ SESSION → 0 ≡ due_of s
 unfolding due_of
 due-short s ne = rw (ne_eqb (length s) SESSION ne) refl
 
-pub due-is : (s : List ℕ) (t : Session) (b : Bool) → length s ≡ SESSION → t ≡ session_at s → b ≡ (protocolOf table).alive t
+pub due-is : (s : List ℕ) (t : Session) (b : Bool) → length s ≡ SESSION → t ≡ session_at s → b ≡ (protocol_of table).alive t
     → pick b (get_or s 3 0) 0 ≡ due_of s
 unfolding due_of
-due-is s t b h e q = rw (eq-eqb (length s) SESSION h) (ap (λ x. pick x (get_or s 3 0) 0) (q ∙ ap (λ (y : Session). (protocolOf table).alive y) e))
+due-is s t b h e q = rw (eq-eqb (length s) SESSION h) (ap (λ x. pick x (get_or s 3 0) 0) (q ∙ ap (λ (y : Session). (protocol_of table).alive y) e))
 
 pub message-is : (n l k m : ℕ) (a b : Bool) → a ≡ in_range n l → b ≡ is_round n k → m ≡ msg_len n l k
     → pick a (pick b m 0) 0 ≡ message_len n l k
@@ -313,7 +313,7 @@ bucket-small l = go (leb 280000 l) (leb 3100 l)
     go false false = omega arith
 
 pub writes-small : (n k : ℕ) → writes n k < 0x1_0000_0000
-unfolding writes nextIn
+unfolding writes next_in
 writes-small n k = go (eqb k 0 || is_round n k) (leb 22 k) refl (eqb n 2 && echo? (suc k))
   where
     go : (a b : Bool) → leb 22 k ≡ b → (e : Bool) → pick a (pick b 0 (pick e (suc (suc k)) (suc k))) 0 < 0x1_0000_0000

@@ -13,7 +13,8 @@ use Rattle.block.specs.Block.{word_at}
 use Rattle.block.specs.Trip.{word-drop}
 use Rattle.message.specs.declared.Kind.TheVariants.{Items, Dvalues, Options}
 use Rattle.message.specs.Format.{bools, vec_len, item_len, item_of, item_due}
-use Rattle.message.specs.FormatLaws.{word_at_lem, and-true, first-false, bools-false, bools-past, Held, vec-some, vec-none, vec-held}
+use Rattle.message.specs.FormatLaws.{and-true, first-false, bools-false, bools-past, Held, vec-some, vec-none, vec-held}
+use Rattle.message.proofs.FormLaws.{word_at_lem}
 use Rattle.message.specs.FormatLaws.{vec-le, items-some, items-short, items-not, bucket-some, bucket-short, bucket-not, bucket-bare}
 use Rattle.message.specs.FormatLaws.{bucket-held, bucket-due}
 

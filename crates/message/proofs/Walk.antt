@@ -14,7 +14,8 @@ use Rattle.message.specs.declared.Kind.TheVariants.{Items}
 use Rattle.message.specs.Format.{bools, vec_len, item_len, item_at, count_of, decodes, item_of, value_of, Value, read_of, item_due, form_by, form_of, used_of}
 use Rattle.message.specs.Format.{due_of}
 use Rattle.message.specs.FormatLaws.{item-le, at_zero, at_next, decoded, decodes-of, decodes-bad, used-some, read_none, read_some}
-use Rattle.message.specs.FormatLaws.{inners_due, counts-are, vec-some, items-some, items-not, at-le, fixed-at}
+use Rattle.message.specs.FormatLaws.{inners_due, counts-are, vec-some, items-some, items-not, at-le}
+use Rattle.message.proofs.FormLaws.{fixed-at}
 use Rattle.message.proofs.Laws.{bools-none}
 
 -- the first t items decode, and item t begins at pos

@@ -20,7 +20,7 @@ use Rattle.plan.specs.Plan.{bits_count}
 use Rattle.engine.specs.declared.Frame.{Frame}
 use Rattle.engine.specs.declared.Session.{Session}
 use Rattle.engine.specs.Step.{frame, Reply, Accepted, leaves, outcome}
-use Rattle.engine.specs.Area.{off, sec, putSec, to_others}
+use Rattle.engine.specs.Area.{off, sec, put_sec, to_others}
 use Rattle.rounds.specs.Area.{SEED, BITS, SECTIONS, sizes, size_of, work_len, at, keep}
 use Rattle.rounds.specs.Toss as Toss
 use Rattle.rounds.specs.Opening.{Args, party, kept, section, area, spec}
@@ -39,8 +39,8 @@ module _ (size : ℕ → ℕ) (g : ℕ → List ℕ) where
 
   -- one section more
   pub filled-turn : (s : ℕ) (w₀ w : List ℕ) → Written g s (off size s) w₀ w → length (g s) ≡ size s → off size s + size s ≤ length w₀
-      → Written g (suc s) (off size (suc s)) w₀ (putSec size s (g s) w)
-  unfolding off putSec
+      → Written g (suc s) (off size (suc s)) w₀ (put_sec size s (g s) w)
+  unfolding off put_sec
   filled-turn s w₀ w p long h =
       let o = off size s in
       let e : (o + size s) - o ≡ size s = omega arith in

@@ -76,9 +76,9 @@ module _ (f : Frame) (m : ℕ → List ℕ) where
       of (λ x. pick (eq_block (block_at x (8 + j * 17 + 1))
       (blocks.op (block_at sums ((k * 120 + j) * 16)) (sel blocks (odd (get_or x (8 + j * 17) 0)) d))) 0 8) k l ne))
 
-  shareComms : Fashare.comm_rows f M ≡ Fashare.comm_rows f m
+  share_comms : Fashare.comm_rows f M ≡ Fashare.comm_rows f m
   unfolding Fashare.comm_rows
-  shareComms = rows_ext f (40 * 96) _ _ (λ k l ne. of (λ x. take (40 * 96) (drop 8 x)) k l ne)
+  share_comms = rows_ext f (40 * 96) _ _ (λ k l ne. of (λ x. take (40 * 96) (drop 8 x)) k l ne)
 
   third_faults : (comms : List ℕ) → Fashare.third_faults f comms M ≡ Fashare.third_faults f comms m
   unfolding Fashare.third_faults Fashare.third_fault
@@ -135,9 +135,9 @@ module _ (f : Frame) (m : ℕ → List ℕ) where
       of (λ x. blocks.op (blocks.op ((Haand.r f recs t).mac j) (Flaand.z_key f d recs (odd (get_or x (8 + t * 17) 0)) t j))
       (sel blocks (Haand.x f recs t).bit (block_at x (8 + t * 17 + 1)))) j l ne)))
 
-  hComms : Flaand.comm_rows f M ≡ Flaand.comm_rows f m
+  h_comms : Flaand.comm_rows f M ≡ Flaand.comm_rows f m
   unfolding Flaand.comm_rows
-  hComms = rows_ext f (leaky f.l * 32) _ _ (λ k l ne. of (λ x. take (leaky f.l * 32) (drop 8 x)) k l ne)
+  h_comms = rows_ext f (leaky f.l * 32) _ _ (λ k l ne. of (λ x. take (leaky f.l * 32) (drop 8 x)) k l ne)
 
   h_faults : (own comms : List ℕ) → Flaand.h_faults f own comms M ≡ Flaand.h_faults f own comms m
   unfolding Flaand.h_faults Flaand.opening Flaand.zero_sum Flaand.h_told
@@ -210,11 +210,11 @@ module _ (f : Frame) (m : ℕ → List ℕ) where
       (either (eqb k 3) (put JOINT w (joint (at f SEED w)))
       (either (eqb k 4) (put PAIR_COMMS w told)
       (either (eqb k 5) (put PAIRWISE w (pairwise (at f PAIRS w)))
-      (either (eqb k 8) (put SHARE_COMMS w shareComms)
+      (either (eqb k 8) (put SHARE_COMMS w share_comms)
       (either (eqb k 10) (put DMS w dm_rows)
       (either (eqb k 14) (put ZS w (z_rows (at f MASKS w) (at f BITS w)))
       (either (eqb k 15)
       (ap₂ (λ (x y : List ℕ). keep f HS x (keep f ES y w)) (hs (delta f w) (at f BITS w) (at f LEAKY w) (at f ZS w)) es)
-      (either (eqb k 17) (put H_COMMS w hComms)
+      (either (eqb k 17) (put H_COMMS w h_comms)
       (either (eqb k 21) (put DS w (ds (at f BITS w) (at f PERM w)))
       refl)))))))))

@@ -5,7 +5,7 @@ use Rattle.std.proofs.Common.{sym, ap, ◌∙◌, subst, arith}
 use borrow.Author.Tests.{ne_eqb}
 use Rattle.message.specs.declared.Kind.{Kind}
 use Rattle.message.specs.declared.Kind.TheVariants.{Items}
-use Rattle.message.specs.FormatLaws.{fixed}
+use Rattle.message.proofs.FormLaws.{fixed}
 use Rattle.plan.specs.Plan.{kind_of, count_due}
 use Rattle.engine.specs.declared.Frame.{Frame}
 use Rattle.engine.specs.Step.{Fault, mask}

@@ -16,11 +16,11 @@ use Rattle.plan.specs.Plan.{echo?, leaky, msg_len}
 use Rattle.plan.specs.PlanLaws.{Rest}
 use Rattle.engine.specs.declared.Frame.{Frame}
 use Rattle.engine.specs.Step.{Loan}
-use Rattle.engine.specs.Order.{echoIn}
+use Rattle.engine.specs.Order.{echo_in}
 use Rattle.engine.specs.Area.{to_others, mem}
 use Rattle.rounds.specs.Area.{DELTA, BITS, KEY_SUMS, LEAKY, HS, H_COMMS, leaky_len, sizes, size_of, at}
 use Rattle.rounds.specs.HaandLaws.{length-leaky_row}
-use Rattle.rounds.specs.FlaandLaws.{length-ownComms, own_row}
+use Rattle.rounds.specs.FlaandLaws.{length-own_comms, own_row}
 use Rattle.rounds.specs.Loops.{length-rows}
 use Rattle.rounds.specs.Fabitn as Fabitn
 use Rattle.rounds.specs.Fabitn.{r_fits}
@@ -72,7 +72,7 @@ module _ {f : Frame} {w : List ℕ} (h : Work f w) where
   comms-long = length_at h H_COMMS (omega arith) ∙ size-h-comms f
 
   length-own : length (Flaand.own_comms f (at f HS w) (at f H_COMMS w)) ≡ size_of f H_COMMS
-  length-own = length-ownComms f (at f HS w) (at f H_COMMS w) h.ranges.own comms-long ∙ sym (size-h-comms f)
+  length-own = length-own_comms f (at f HS w) (at f H_COMMS w) h.ranges.own comms-long ∙ sym (size-h-comms f)
 
   -- ---- what `hold` kept is what `write` asks for
   leaky-held : (q : Loan) → LeakyKept f (held 14 f q w)
@@ -143,7 +143,7 @@ unfoldable test : ℕ → Bool
 test k = pick (leb 1 k && not (echo? k)) (plain k) true
 
 tested : all_of 23 test ≡ true
-unfolding all_of test plain echoIn mem
+unfolding all_of test plain echo_in mem
 tested = refl
 
 pub plain-round : (k : ℕ) → 1 ≤ k → k ≤ 22 → echo? k ≡ false → plain k ≡ true

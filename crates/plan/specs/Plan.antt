@@ -5,7 +5,7 @@ use Rattle.lists.specs.Pick.{pick}
 use Rattle.message.specs.declared.Kind.{Kind}
 use Rattle.message.specs.declared.Kind.TheVariants.{Items, Dms, Dvalues, Options}
 use Rattle.share.specs.Lent.{lent_len}
-use Rattle.engine.specs.Order.{Order, echoIn, roundIn, nextIn}
+use Rattle.engine.specs.Order.{Order, echo_in, round_in, next_in}
 
 -- ---- the order of the rounds
 
@@ -56,15 +56,15 @@ abbrev pub the_rounds : Order
 the_rounds = record { last = FAAND; echoes = 2 ∷ 7 ∷ 9 ∷ 11 ∷ 13 ∷ 16 ∷ 18 ∷ 20 ∷ [] }
 
 abbrev pub echo? : ℕ → Bool
-echo? k = echoIn the_rounds k
+echo? k = echo_in the_rounds k
 
 -- round k takes place
 abbrev pub is_round : ℕ → ℕ → Bool
-is_round n k = roundIn the_rounds (eqb n 2) k
+is_round n k = round_in the_rounds (eqb n 2) k
 
 -- the round after k, the first after opening (k = 0), and 0 after the last
 abbrev pub next_round : ℕ → ℕ → ℕ
-next_round n k = nextIn the_rounds (eqb n 2) k
+next_round n k = next_in the_rounds (eqb n 2) k
 
 -- the rounds in order, for two parties and for more: next_round walks through them (PlanLaws, `order-next`)
 unfoldable pub order : Bool → List ℕ

@@ -12,7 +12,7 @@ use Rattle.message.specs.declared.Kind.{Kind}
 use Rattle.message.specs.declared.Kind.TheVariants.{Items, Dms, Dvalues, Options}
 use Rattle.share.specs.Lent.{lent_len}
 use Rattle.engine.specs.Area.{mem}
-use Rattle.engine.specs.Order.{echoIn, roundIn, nextIn}
+use Rattle.engine.specs.Order.{echo_in, round_in, next_in}
 use Rattle.plan.specs.Plan.{the_rounds, echo?, is_round, next_round, order, writes, bucket_size, leaky, bits_count, r_blocks, r_len}
 use Rattle.plan.specs.Plan.{kind_of, count_due, dm_len, list_len, Listed, msg_len, parties?, in_range, InRange, bits_len, shares_len}
 use Rattle.plan.specs.Plan.{masks_len, pairs_len, out_len, r_due, sent_up_to}
@@ -21,7 +21,7 @@ use Rattle.plan.specs.Plan.{masks_len, pairs_len, out_len, r_due, sent_up_to}
 
 -- the code's tests are those of the list
 pub echo-tests : (k : ℕ) → (eqb k 2 || eqb k 7 || eqb k 9 || eqb k 11 || eqb k 13 || eqb k 16 || eqb k 18 || eqb k 20) ≡ echo? k
-unfolding echoIn mem
+unfolding echo_in mem
 echo-tests k = go (eqb k 2) (eqb k 7) (eqb k 9) (eqb k 11) (eqb k 13) (eqb k 16) (eqb k 18) (eqb k 20)
   where
     go : (a b c d e f g h : Bool)
@@ -39,15 +39,15 @@ echo-tests k = go (eqb k 2) (eqb k 7) (eqb k 9) (eqb k 11) (eqb k 13) (eqb k 16)
 
 -- as writes, by whether there are two parties
 writes_if : Bool → ℕ → ℕ
-writes_if two k = pick (eqb k 0 || roundIn the_rounds two k) (nextIn the_rounds two k) 0
+writes_if two k = pick (eqb k 0 || round_in the_rounds two k) (next_in the_rounds two k) 0
 
 -- each round in order is a round, and the one after it is the next in order; past the last stands 0
 step? : Bool → ℕ → Bool
 step? two d =
-    roundIn the_rounds two (get_or (order two) d 0) && eqb (nextIn the_rounds two (get_or (order two) d 0)) (get_or (order two) (suc d) 0)
+    round_in the_rounds two (get_or (order two) d 0) && eqb (next_in the_rounds two (get_or (order two) d 0)) (get_or (order two) (suc d) 0)
 
 steps : (two : Bool) → all_of (length (order two)) (step? two) ≡ true
-unfolding all_of step? order roundIn nextIn echoIn mem
+unfolding all_of step? order round_in next_in echo_in mem
 steps true = refl
 steps false = refl
 
@@ -62,10 +62,10 @@ module _ (n d : ℕ) (h : d < length (order (eqb n 2))) where
       eqb-true _ _ (and_second (is_round n (get_or (order (eqb n 2)) d 0)) _ (of-all _ (step? (eqb n 2)) (steps (eqb n 2)) d h))
 
 pub order-first : (n : ℕ) → next_round n 0 ≡ 1
-unfolding nextIn echoIn mem
+unfolding next_in echo_in mem
 order-first n = go (eqb n 2)
   where
-    go : (two : Bool) → nextIn the_rounds two 0 ≡ 1
+    go : (two : Bool) → next_in the_rounds two 0 ≡ 1
     go true = refl
     go false = refl
 
@@ -74,12 +74,12 @@ lent? : Bool → ℕ → Bool
 lent? two k = beq (eqb (writes_if two k) 6) (eqb k 5)
 
 lents : (two : Bool) → all_of 23 (lent? two) ≡ true
-unfolding all_of lent? writes_if roundIn nextIn echoIn mem
+unfolding all_of lent? writes_if round_in next_in echo_in mem
 lents true = refl
 lents false = refl
 
 pub writes-past : (n k : ℕ) → 22 < k → writes n k ≡ 0
-unfolding writes roundIn
+unfolding writes round_in
 writes-past n k h = rw (ne_eqb k 0 (omega arith), le-leb 1 k (omega arith), lt-leb k 22 h) refl
 
 beq-true : (a b : Bool) → beq a b ≡ true → a ≡ b
@@ -102,15 +102,15 @@ writes-fabitn n k = go (ltb k 23) refl
 -- the next round, as the code finds it
 module _ (n k : ℕ) (b : Bool) (h : k < 22) (e : b ≡ echo? (k + 1)) where
   pub next-skips : (eqb n 2 && b) ≡ true → k + 2 ≡ next_round n k
-  unfolding nextIn
+  unfolding next_in
   next-skips s = rw (lt-leb 22 k h, sym (ap (λ x. eqb n 2 && x) (e ∙ ap echo? (add-one k))) ∙ s) (omega arith)
 
   pub next-on : (eqb n 2 && b) ≡ false → k + 1 ≡ next_round n k
-  unfolding nextIn
+  unfolding next_in
   next-on s = rw (lt-leb 22 k h, sym (ap (λ x. eqb n 2 && x) (e ∙ ap echo? (add-one k))) ∙ s) (omega arith)
 
 pub next-some : (n k : ℕ) → k < 22 → next_round n k ≢ 0
-unfolding nextIn
+unfolding next_in
 next-some n k h = rw (lt-leb 22 k h) (go (eqb n 2 && echo? (suc k)))
   where
     go : (b : Bool) → pick b (suc (suc k)) (suc k) ≢ 0
@@ -118,7 +118,7 @@ next-some n k h = rw (lt-leb 22 k h) (go (eqb n 2 && echo? (suc k)))
     go false = omega arith
 
 pub no-echo : (k : ℕ) → 20 < k → echo? k ≡ false
-unfolding echoIn mem
+unfolding echo_in mem
 no-echo k h =
     rw (
       ne_eqb k 2 (omega arith),

@@ -5,5 +5,3 @@ pub mod DigitLaws
 pub mod WordLaws
 pub mod TableLaws
 pub mod LoopLaws
-pub mod ChosenLaws
-pub mod BitLaws

@@ -7,7 +7,7 @@ use Rattle.share.specs.Record.{record_len}
 use Rattle.plan.specs.Plan.{bucket_size, leaky, bits_count, dm_len}
 use Rattle.engine.specs.declared.Frame.{Frame}
 use Rattle.engine.specs.Step.{Fault, none?, or_else, other}
-use Rattle.engine.specs.Area.{off, sec, putSec}
+use Rattle.engine.specs.Area.{off, sec, put_sec}
 
 -- own delta
 abbrev pub DELTA : ℕ
@@ -138,7 +138,7 @@ at f s w = sec (size_of f) s w
 
 -- w with x as section s
 unfoldable pub keep : Frame → ℕ → List ℕ → List ℕ → List ℕ
-keep f s x w = putSec (size_of f) s x w
+keep f s x w = put_sec (size_of f) s x w
 
 -- a row of m bytes for each party, zero for the own
 unfoldable pub rows : Frame → ℕ → (ℕ → List ℕ) → List ℕ

@@ -6,7 +6,7 @@ use Rattle.lists.specs.Pick.{pick, pick-then}
 use Rattle.block.specs.Block.{word_at}
 use Rattle.message.specs.declared.Kind.TheVariants.{Dms}
 use Rattle.message.specs.Format.{item_at, form_of}
-use Rattle.message.specs.FormatLaws.{formed-at, formed-item, level-at, Dm, dm-held}
+use Rattle.message.proofs.FormLaws.{formed-at, formed-item, level-at, Dm, dm-held}
 use Rattle.plan.specs.Plan.{dm_len}
 use Rattle.engine.specs.declared.Frame.{Frame}
 use Rattle.engine.specs.Step.{by_party}

@@ -23,7 +23,7 @@ use Rattle.blake3.specs.ByteLaws.{length-bytes, bytes-bytes}
 use Rattle.message.specs.declared.Kind.{Kind}
 use Rattle.message.specs.declared.Kind.TheVariants.{Options}
 use Rattle.message.specs.Format.{item_len, item_at, form_of}
-use Rattle.message.specs.FormatLaws.{formed-item, Entry, entry-held}
+use Rattle.message.proofs.FormLaws.{formed-item, Entry, entry-held}
 use Rattle.encode.specs.Encode.{none_item, some_item}
 use Rattle.plan.specs.Plan as Plan
 use Rattle.plan.specs.Plan.{kind_of, count_due, msg_len}

@@ -38,9 +38,9 @@ module _ (f : Frame) (own : List ℕ) where
       ∙ cat-chunk 16 (leaky f.l) own ∙ take_all (leaky f.l * 16) own (omega (arith, h))))
 
   module _ (rows : List ℕ) (own_is : f.i < f.n) (long : length rows ≡ f.n * (leaky f.l * 32)) where
-    pub length-ownComms : length (own_comms f own rows) ≡ f.n * (leaky f.l * 32)
+    pub length-own_comms : length (own_comms f own rows) ≡ f.n * (leaky f.l * 32)
     unfolding own_comms
-    length-ownComms =
+    length-own_comms =
         length-put (f.i * (leaky f.l * 32)) (leaky f.l * 32) (comms f own) rows length-comms
         (omega (arith, in-chunks f.i f.n (leaky f.l * 32) own_is))
         ∙ long

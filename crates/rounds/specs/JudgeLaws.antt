@@ -20,7 +20,7 @@ use Rattle.message.specs.Format.{item_at}
 use Rattle.plan.specs.Plan.{leaky, dm_len}
 use Rattle.engine.specs.declared.Frame.{Frame}
 use Rattle.engine.specs.Step.{Lent, Fault, none?, other, mask, part, or_else, scan, by_party, fault_of}
-use Rattle.engine.specs.Plain.{waiting, isEcho, toEcho, pending, echoCheck, checkOf, ruleOf}
+use Rattle.engine.specs.Plain.{waiting, is_echo, to_echo, pending, echo_check, check_of, rule_of}
 use Rattle.engine.specs.Area.{mem}
 use Rattle.rounds.specs.Area.{first_of}
 use Rattle.rounds.specs.Toss as Toss
@@ -107,24 +107,24 @@ module _ (f : Frame) (w : List ℕ) (m : ℕ → List ℕ) where
     unfolding Fabitn.abits
     abits = found_first (8 ∷ []) f.n 120 _ (λ j. found-by (8 ∷ []) f (Fabitn.abit_fault delta w m j) (abit j))
 
-  abbrev dmNumbers : List ℕ
-  dmNumbers = 2 ∷ 4 ∷ 1 ∷ []
+  abbrev dm_numbers : List ℕ
+  dm_numbers = 2 ∷ 4 ∷ 1 ∷ []
 
-  third : (q k : ℕ) → One dmNumbers (Fashare.third_fault w m q k)
+  third : (q k : ℕ) → One dm_numbers (Fashare.third_fault w m q k)
   unfolding Fashare.third_fault mem
-  third q k = test dmNumbers (same? _ _) 2 refl
+  third q k = test dm_numbers (same? _ _) 2 refl
 
-  dm : (q k : ℕ) → One dmNumbers (Fashare.dm_fault f m q k)
+  dm : (q k : ℕ) → One dm_numbers (Fashare.dm_fault f m q k)
   unfolding Fashare.dm_fault mem
   dm q k =
-      one-pick dmNumbers (eqb (word_at (m k) (item_at Dms (m k) q)) (dm_len f.n)) _ 4
-      (test dmNumbers (leb (get_or (m k) (Fashare.dm_at (m k) q) 0) 1) 1 refl) (one_of dmNumbers 4 refl)
+      one-pick dm_numbers (eqb (word_at (m k) (item_at Dms (m k) q)) (dm_len f.n)) _ 4
+      (test dm_numbers (leb (get_or (m k) (Fashare.dm_at (m k) q) 0) 1) 1 refl) (one_of dm_numbers 4 refl)
 
-  dms : Found dmNumbers f.n (Fashare.ver_faults f w m)
+  dms : Found dm_numbers f.n (Fashare.ver_faults f w m)
   unfolding Fashare.ver_faults Fashare.third_faults Fashare.dm_faults
-  dms = found-or dmNumbers f.n _ _
-      (found_first dmNumbers f.n 40 _ (λ q. found-by dmNumbers f (Fashare.third_fault w m q) (third q)))
-      (found_first dmNumbers f.n 40 _ (λ q. found-by dmNumbers f (Fashare.dm_fault f m q) (dm q)))
+  dms = found-or dm_numbers f.n _ _
+      (found_first dm_numbers f.n 40 _ (λ q. found-by dm_numbers f (Fashare.third_fault w m q) (third q)))
+      (found_first dm_numbers f.n 40 _ (λ q. found-by dm_numbers f (Fashare.dm_fault f m q) (dm q)))
 
   module _ (comms rows : List ℕ) where
     opened : (q k : ℕ) → One (2 ∷ 9 ∷ []) (Fashare.dibi_fault f w comms rows m q k)
@@ -205,12 +205,12 @@ named_by : (f : Frame) (c : ℕ → ℕ) → Named f.n (by_party f c)
 unfolding by_party
 named_by f c = named-scan f.n _ f.n (le_refl f.n)
 
-pub fault-named : (f : Frame) → f.i < f.n → (k : ℕ) (q : Lent) (w : List ℕ) → Named f.n (fault_of (ruleOf Table.table k) f q w)
-unfolding fault_of checkOf echoCheck pending
+pub fault-named : (f : Frame) → f.i < f.n → (k : ℕ) (q : Lent) (w : List ℕ) → Named f.n (fault_of (rule_of Table.table k) f q w)
+unfolding fault_of check_of echo_check pending
 fault-named f h k q w =
     named-or f.n _ _ (named_by f _)
-    (named-pick f.n (isEcho Table.table k) _ _ (named-or f.n _ _ (named_by f _) (named-waiting f.n _ _))
-    (named-pick f.n (toEcho Table.table (eqb f.n 2) k) _ _ (named_none f.n) (judged (Table.judge k f w m) (judge-found f h k w m))))
+    (named-pick f.n (is_echo Table.table k) _ _ (named-or f.n _ _ (named_by f _) (named-waiting f.n _ _))
+    (named-pick f.n (to_echo Table.table (eqb f.n 2) k) _ _ (named_none f.n) (judged (Table.judge k f w m) (judge-found f h k w m))))
   where
     m : ℕ → List ℕ
     m = mask f (part q)

@@ -15,7 +15,7 @@ use Rattle.algebra.specs.Group.{XorGroup, sel}
 use Rattle.algebra.specs.Sum.{neq, neq-own, neq-true, sum, others, Same, apart, apart?}
 use Rattle.engine.specs.declared.Frame.{Frame}
 use Rattle.engine.specs.StepLaws.{other-neq}
-use Rattle.engine.specs.Area.{off, sec, putSec, nth, nth-below, to_others, length-sec, length-putSec, sec-same, sec-other, putSec-twice}
+use Rattle.engine.specs.Area.{off, sec, put_sec, nth, nth-below, to_others, length-sec, length-put_sec, sec-same, sec-other, put_sec-twice}
 use Rattle.engine.specs.Area.{put-sec}
 use Rattle.rounds.specs.Area.{rows}
 
@@ -104,7 +104,7 @@ lent-part p m k w e h =
 -- ---- a section that is written row by row
 -- w is w₀ with the first j rows of section s in place of its first a bytes
 pub record Keeping (size : ℕ → ℕ) (S s : ℕ) (g : ℕ → List ℕ) (j a : ℕ) (w₀ w : List ℕ) : Type 0 where
-  pub here : w ≡ putSec size s (cat j g ++ drop a (sec size s w₀)) w₀
+  pub here : w ≡ put_sec size s (cat j g ++ drop a (sec size s w₀)) w₀
   pub at : length (cat j g) ≡ a
   pub fits : a ≤ size s
   pub same : length w ≡ length w₀
@@ -117,7 +117,7 @@ module _ (size : ℕ → ℕ) (S s : ℕ) (in-S : s < S) (w₀ : List ℕ) (h : 
         length_over (cat j g) (sec size s w₀) a n (omega arith) ∙ e
 
     pub keeping_none : Keeping size S s g 0 0 w₀ w₀
-    unfolding cat sec putSec
+    unfolding cat sec put_sec
     keeping_none = record { here = self; at = refl; fits = omega arith; same = refl }
       where
         self : w₀ ≡ put_mid (off size s) (size s) w₀ (take (size s) (drop (off size s) w₀))
@@ -148,22 +148,22 @@ module _ (size : ℕ → ℕ) (S s : ℕ) (in-S : s < S) (w₀ : List ℕ) (h : 
             ap length (sym (cat-add g j m)) ∙ length-append (cat j g) more
             ∙ (let q : length (cat j g) + length more ≡ e' = omega (arith, v.at) in q)
 
-        kept : length (putSec size s next w₀) ≡ length w₀
-        kept = length-putSec size S w₀ h s next in-S (whole (j + m) e' long hs) ∙ sym h
+        kept : length (put_sec size s next w₀) ≡ length w₀
+        kept = length-put_sec size S w₀ h s next in-S (whole (j + m) e' long hs) ∙ sym h
 
         rows : put_mid a k body x ≡ next
         rows =
             ap (put_mid a k body) hx ∙ over-put (cat j g) more (sec size s w₀) a k v.at
             ∙ ap₂ (λ (y : List ℕ) n. y ++ drop n (sec size s w₀)) (cat-add g j m) ha
 
-        now : put_mid p (e - p) w x ≡ putSec size s next w₀
+        now : put_mid p (e - p) w x ≡ put_sec size s next w₀
         now =
             ap₂ (λ b n. put_mid b n w x) hp (let q : e - p ≡ k = omega arith in q)
             ∙ put-sec size S w (v.same ∙ h) s a k x in-S (omega arith)
-            ∙ ap₂ (λ (y z : List ℕ). putSec size s (put_mid a k y x) z) (ap (sec size s) v.here ∙ sec-same size S w₀ h s body in-S filled)
+            ∙ ap₂ (λ (y z : List ℕ). put_sec size s (put_mid a k y x) z) (ap (sec size s) v.here ∙ sec-same size S w₀ h s body in-S filled)
             v.here
-            ∙ ap (λ (y : List ℕ). putSec size s y (putSec size s body w₀)) rows
-            ∙ putSec-twice size S w₀ h s next body in-S filled
+            ∙ ap (λ (y : List ℕ). put_sec size s y (put_sec size s body w₀)) rows
+            ∙ put_sec-twice size S w₀ h s next body in-S filled
 
     -- one more row
     pub keeping-turn : (j a k p e e' : ℕ) (w x : List ℕ) → Keeping size S s g j a w₀ w → x ≡ g j → length (g j) ≡ k → p ≡ off size s + a
@@ -174,10 +174,10 @@ module _ (size : ℕ → ℕ) (S s : ℕ) (in-S : s < S) (w₀ : List ℕ) (h : 
         let one : g j ≡ cat 1 (λ i. g (j + i)) = ap g (sym (add-zero j)) in
         keeping-more j 1 a k p e e' w x v (hx ∙ one) (ap length (sym one) ∙ hk)
 
-    pub keeping-end : (j n a : ℕ) (w : List ℕ) → Keeping size S s g j a w₀ w → j ≡ n → size s ≤ a → w ≡ putSec size s (cat n g) w₀
+    pub keeping-end : (j n a : ℕ) (w : List ℕ) → Keeping size S s g j a w₀ w → j ≡ n → size s ≤ a → w ≡ put_sec size s (cat n g) w₀
     keeping-end j n a w v hj ha =
         let e : length (sec size s w₀) ≡ size s = length-sec size S w₀ h s in-S in
-        v.here ∙ ap (λ (x : List ℕ). putSec size s x w₀) (over-full (cat j g) (sec size s w₀) a (omega arith) ∙ ap (λ m. cat m g) hj)
+        v.here ∙ ap (λ (x : List ℕ). put_sec size s x w₀) (over-full (cat j g) (sec size s w₀) a (omega arith) ∙ ap (λ m. cat m g) hj)
 
     -- the other sections are as they were
     pub keeping-other : (j a t : ℕ) (w : List ℕ) → Keeping size S s g j a w₀ w → t ≢ s → sec size t w ≡ sec size t w₀

@@ -19,8 +19,8 @@ use Rattle.engine.specs.Area.{nth, nth-below}
 use Rattle.rbits.specs.Chosen.{bit_sum, words_of, pair_at}
 use Rattle.rbits.specs.Tables.{record_block, tables, lookup, window_of, half_at, record_bit, packed, masked_at}
 use Rattle.rbits.specs.WordLaws.{words-ext, words_at_lem, words-zero, words-self}
-use Rattle.rbits.specs.ChosenLaws.{half-group, groups, groups-zero, groups-more, groups-all}
-use Rattle.rbits.specs.BitLaws.{masked, masked-none, masked-turn, masked-end}
+use Rattle.rbits.proofs.ChosenLaws.{half-group, groups, groups-zero, groups-more, groups-all}
+use Rattle.rbits.proofs.BitLaws.{masked, masked-none, masked-turn, masked-end}
 use Rattle.rpairs.specs.Added.{added_from}
 use Rattle.rsums.specs.Sums.{party_sums, grown}
 
@@ -35,8 +35,8 @@ keys-within n i q h = omega (arith, entry-within n (nth i q) (nth-below n i q h)
 
 module _ (off : ℕ → ℕ) (n i : ℕ) (s : List ℕ) (count first : ℕ) (win : List ℕ) (h : ℕ) (acc : List ℕ) where
   -- the tables of the q-th party but i
-  abbrev partyTables : ℕ → List ℕ
-  partyTables q = tables (λ e. record_block s (record_len n) (off (nth i q)) count (first + e))
+  abbrev party_tables : ℕ → List ℕ
+  party_tables q = tables (λ e. record_block s (record_len n) (off (nth i q)) count (first + e))
 
   pub grown-none : length acc ≡ 1680 → acc ≡ words_of 840 (grown off n i s count first win h acc 0)
   unfolding grown
@@ -45,11 +45,11 @@ module _ (off : ℕ → ℕ) (n i : ℕ) (s : List ℕ) (count first : ℕ) (win
       ∙ words-ext 840 (pair_at acc) (grown off n i s count first win h acc 0) (λ p v. rw (le-ltb p 0 (omega arith)))
 
   more : ℕ → ℕ → Block
-  more q p = blocks.op (pair_at acc p) (lookup (partyTables q) (half_at win h (p % 120)))
+  more q p = blocks.op (pair_at acc p) (lookup (party_tables q) (half_at win h (p % 120)))
 
   -- Block p, where the q-th party is added
   added-grown : (q p : ℕ) (x : List ℕ) → pair_at x p ≡ grown off n i s count first win h acc q p
-      → added_from (q * 120) x (partyTables q) win h p ≡ grown off n i s count first win h acc (q + 1) p
+      → added_from (q * 120) x (party_tables q) win h p ≡ grown off n i s count first win h acc (q + 1) p
   unfolding added_from grown more
   added-grown q p x e = go (ltb p (q * 120)) refl (ltb p (q * 120 + 120)) refl
     where
@@ -57,7 +57,7 @@ module _ (off : ℕ → ℕ) (n i : ℕ) (s : List ℕ) (count first : ℕ) (win
       old b w = e ∙ ap (λ (t : Bool). pick t (more (p / 120) p) (pair_at acc p)) w
 
       go : (b : Bool) → ltb p (q * 120) ≡ b → (d : Bool) → ltb p (q * 120 + 120) ≡ d
-          → pick (leb (q * 120) p && ltb p (q * 120 + 120)) (blocks.op (pair_at x p) (lookup (partyTables q) (half_at win h (p - q * 120))))
+          → pick (leb (q * 120) p && ltb p (q * 120 + 120)) (blocks.op (pair_at x p) (lookup (party_tables q) (half_at win h (p - q * 120))))
           (pair_at x p)
           ≡ pick (ltb p ((q + 1) * 120)) (more (p / 120) p) (pair_at acc p)
       go true w d v =
@@ -67,7 +67,7 @@ module _ (off : ℕ → ℕ) (n i : ℕ) (s : List ℕ) (count first : ℕ) (win
           let l : q * 120 ≤ p = ltb-false p (q * 120) w in
           let u : p < q * 120 + 120 = ltb-true p (q * 120 + 120) v in
           rw (le-leb (q * 120) p l, v, lt-ltb p ((q + 1) * 120) (omega arith))
-          (ap₂ (λ (b : Block) k. blocks.op b (lookup (partyTables q) (half_at win h k))) (old false w)
+          (ap₂ (λ (b : Block) k. blocks.op b (lookup (party_tables q) (half_at win h k))) (old false w)
           (let k : p - q * 120 ≡ p % 120 = omega arith in k)
           ∙ ap (λ k. more k p) (let k : q ≡ p / 120 = omega arith in k))
       go false w false v =
@@ -82,28 +82,28 @@ module _ (off : ℕ → ℕ) (n i : ℕ) (s : List ℕ) (count first : ℕ) (win
   grown-turn q stride k at x x' hs hk ha e e' =
       e'
       ∙ ap₂ (λ a b. words_of 840 (added_from (q * 120) x (tables (λ e. record_block s a b count (first + e))) win h)) hs (ha ∙ ap off hk)
-      ∙ words-ext 840 (added_from (q * 120) x (partyTables q) win h) (grown off n i s count first win h acc (q + 1))
+      ∙ words-ext 840 (added_from (q * 120) x (party_tables q) win h) (grown off n i s count first win h acc (q + 1))
       (λ p l. added-grown q p x
       (ap (λ (y : List ℕ). pair_at y p) e ∙ words_at_lem 840 (grown off n i s count first win h acc q) p l))
 
 -- ---- `sums`
 module _ (off : ℕ → ℕ) (n i : ℕ) (s r : List ℕ) (row count : ℕ) where
   -- Block p of the sums over the first g groups
-  unfoldable pub partyGroups : ℕ → ℕ → Block
-  partyGroups g p = sel blocks (ltb p ((n - 1) * 120)) (groups s (record_len n) (off (nth i (p / 120))) r row count g (p % 120))
+  unfoldable pub party_groups : ℕ → ℕ → Block
+  party_groups g p = sel blocks (ltb p ((n - 1) * 120)) (groups s (record_len n) (off (nth i (p / 120))) r row count g (p % 120))
 
-  parties-none : replicate 1680 0 ≡ words_of 840 (partyGroups 0)
-  unfolding partyGroups
+  parties-none : replicate 1680 0 ≡ words_of 840 (party_groups 0)
+  unfolding party_groups
   parties-none =
       words-zero 840
-      ∙ words-ext 840 (λ p. blocks.nil) (partyGroups 0)
+      ∙ words-ext 840 (λ p. blocks.nil) (party_groups 0)
       (λ p l. sym (ap (sel blocks (ltb p ((n - 1) * 120))) (groups-zero s (record_len n) (off (nth i (p / 120))) r row count (p % 120))
       ∙ sel-nil blocks (ltb p ((n - 1) * 120))))
 
   module _ (hr : Bytes r) (long : 120 * row ≤ length r) (g : ℕ) (hg : g * 8 + 8 ≤ row) where
-    grown-groups : (acc : List ℕ) (p : ℕ) → pair_at acc p ≡ partyGroups g p
-        → grown off n i s count (g * 64) (window_of r row (g / 2)) (g % 2) acc (n - 1) p ≡ partyGroups (g + 1) p
-    unfolding grown partyGroups
+    grown-groups : (acc : List ℕ) (p : ℕ) → pair_at acc p ≡ party_groups g p
+        → grown off n i s count (g * 64) (window_of r row (g / 2)) (g % 2) acc (n - 1) p ≡ party_groups (g + 1) p
+    unfolding grown party_groups
     grown-groups acc p e = go (ltb p ((n - 1) * 120)) e
       where
         at : ℕ
@@ -121,19 +121,19 @@ module _ (off : ℕ → ℕ) (n i : ℕ) (s r : List ℕ) (row count : ℕ) wher
             ∙ groups-more s (record_len n) at r row count g (p % 120) hr long hg (omega arith)
         go false e = e
 
-    parties-turn : (acc acc' win : List ℕ) → acc ≡ words_of 840 (partyGroups g) → win ≡ window_of r row (g / 2)
-        → acc' ≡ words_of 840 (grown off n i s count (g * 64) win (g % 2) acc (n - 1)) → acc' ≡ words_of 840 (partyGroups (g + 1))
+    parties-turn : (acc acc' win : List ℕ) → acc ≡ words_of 840 (party_groups g) → win ≡ window_of r row (g / 2)
+        → acc' ≡ words_of 840 (grown off n i s count (g * 64) win (g % 2) acc (n - 1)) → acc' ≡ words_of 840 (party_groups (g + 1))
     parties-turn acc acc' win e hw e' =
         e' ∙ ap (λ (w : List ℕ). words_of 840 (grown off n i s count (g * 64) w (g % 2) acc (n - 1))) hw
-        ∙ words-ext 840 (grown off n i s count (g * 64) (window_of r row (g / 2)) (g % 2) acc (n - 1)) (partyGroups (g + 1))
-        (λ p l. grown-groups acc p (ap (λ (x : List ℕ). pair_at x p) e ∙ words_at_lem 840 (partyGroups g) p l))
+        ∙ words-ext 840 (grown off n i s count (g * 64) (window_of r row (g / 2)) (g % 2) acc (n - 1)) (party_groups (g + 1))
+        (λ p l. grown-groups acc p (ap (λ (x : List ℕ). pair_at x p) e ∙ words_at_lem 840 (party_groups g) p l))
 
-  parties-end : (g : ℕ) (acc : List ℕ) → count ≤ g * 64 → acc ≡ words_of 840 (partyGroups g)
+  parties-end : (g : ℕ) (acc : List ℕ) → count ≤ g * 64 → acc ≡ words_of 840 (party_groups g)
       → acc ≡ words_of 840 (party_sums off n i s r row count)
-  unfolding partyGroups party_sums
+  unfolding party_groups party_sums
   parties-end g acc h e =
       e
-      ∙ words-ext 840 (partyGroups g) (party_sums off n i s r row count)
+      ∙ words-ext 840 (party_groups g) (party_sums off n i s r row count)
       (λ p l. ap (sel blocks (ltb p ((n - 1) * 120))) (groups-all s (record_len n) (off (nth i (p / 120))) r row count g (p % 120) h))
 
 -- what the loop over the groups has after g of them
@@ -144,8 +144,8 @@ pub record Grouped (n i : ℕ) (s r : List ℕ) (row count g : ℕ) (bits macs k
   pub keys-long : length keys ≡ 1680
   pub win-long : length win ≡ 240
   pub bits_are : bits ≡ tab 120 (masked s (record_len n) r row count g)
-  pub macs-are : macs ≡ words_of 840 (partyGroups mac_off n i s r row count g)
-  pub keys-are : keys ≡ words_of 840 (partyGroups key_off n i s r row count g)
+  pub macs-are : macs ≡ words_of 840 (party_groups mac_off n i s r row count g)
+  pub keys-are : keys ≡ words_of 840 (party_groups key_off n i s r row count g)
   pub half-left : g % 2 ≡ 1 → win ≡ window_of r row (g / 2)
 
 module _ (n i : ℕ) (s r : List ℕ) (row count : ℕ) where

@@ -9,8 +9,8 @@ use Rattle.plan.specs.Plan.{next_round}
 use Rattle.engine.specs.declared.Session.{Session}
 use Rattle.engine.specs.Step.{Lent, Accepted, Refused, leaves, outcome, told_after, mask, part, reason_of, fault_of, ended, refused, faulted, accepted}
 use Rattle.engine.specs.Step.{round_spec}
-use Rattle.engine.specs.StepLaws.{round-refuses, round-faults, round-accepts}
-use Rattle.engine.specs.Plain.{next_of, ruleOf, protocolOf, keepOf, writeOf}
+use Rattle.engine.proofs.RoundLaws.{round-refuses, round-faults, round-accepts}
+use Rattle.engine.specs.Plain.{next_of, rule_of, protocol_of, keep_of, write_of}
 use Rattle.rounds.specs.FaultLaws.{Finds}
 use Rattle.rounds.specs.Table.{table}
 
@@ -26,33 +26,33 @@ module _ (due : ℕ) (counts : List ℕ) where
 
 module _ (s : Session) (k : ℕ) (q : Lent) (w : List ℕ) where
   -- refused, and all as it was
-  pub call-refused : (code : ℕ) → code ≡ reason_of (protocolOf table) s k q w → code ≢ 0
-      → outcome s (Refused code s.party.i) w q.out ≡ round_spec (protocolOf table) s k q w
+  pub call-refused : (code : ℕ) → code ≡ reason_of (protocol_of table) s k q w → code ≢ 0
+      → outcome s (Refused code s.party.i) w q.out ≡ round_spec (protocol_of table) s k q w
   unfolding refused
   call-refused code e ne =
-      ap (λ c. outcome s (Refused c s.party.i) w q.out) e ∙ sym (round-refuses (protocolOf table) s k q w (λ z. ne (e ∙ z)))
+      ap (λ c. outcome s (Refused c s.party.i) w q.out) e ∙ sym (round-refuses (protocol_of table) s k q w (λ z. ne (e ∙ z)))
 
-  module _ (z : reason_of (protocolOf table) s k q w ≡ 0) where
+  module _ (z : reason_of (protocol_of table) s k q w ≡ 0) where
     -- a received fault
-    pub call-faulted : (code party : ℕ) (t : Session) (v : List ℕ) → Finds code party (fault_of (ruleOf table k) s.party q w) → code ≢ 0
+    pub call-faulted : (code party : ℕ) (t : Session) (v : List ℕ) → Finds code party (fault_of (rule_of table k) s.party q w) → code ≢ 0
         → t ≡ ended s → v ≡ replicate (length w) 0
-        → outcome t (Refused code party) v q.out ≡ round_spec (protocolOf table) s k q w
+        → outcome t (Refused code party) v q.out ≡ round_spec (protocol_of table) s k q w
     unfolding faulted
     call-faulted code party t v h ne et ev =
-        let bad : (fault_of (ruleOf table k) s.party q w).code ≢ 0 = λ x. ne (h.code_is ∙ x) in
+        let bad : (fault_of (rule_of table k) s.party q w).code ≢ 0 = λ x. ne (h.code_is ∙ x) in
         ap₂ (λ (a : Session) (b : List ℕ). outcome a (Refused code party) b q.out) et ev
         ∙ ap₂ (λ c p. outcome (ended s) (Refused c p) (replicate (length w) 0) q.out) h.code_is (h.party-is bad)
-        ∙ sym (round-faults (protocolOf table) s k q w z bad)
+        ∙ sym (round-faults (protocol_of table) s k q w z bad)
 
     -- accepted
-    pub call-accepted : (fault_of (ruleOf table k) s.party q w).code ≡ 0 → (next : ℕ) → next ≡ next_round s.party.n k
+    pub call-accepted : (fault_of (rule_of table k) s.party q w).code ≡ 0 → (next : ℕ) → next ≡ next_round s.party.n k
         → (t : List ℕ) → t ≡ told_after next s.counts → (m : ℕ → List ℕ) → m ≡ mask s.party (part q) → (v o : List ℕ)
-        → v ≡ keepOf table k s.party q.loan w m → o ≡ writeOf table k s.party q.loan w m
-        → leaves (record { party = s.party; due = next; counts = s.counts }) Accepted t v o ≡ round_spec (protocolOf table) s k q w
+        → v ≡ keep_of table k s.party q.loan w m → o ≡ write_of table k s.party q.loan w m
+        → leaves (record { party = s.party; due = next; counts = s.counts }) Accepted t v o ≡ round_spec (protocol_of table) s k q w
     unfolding accepted
     call-accepted y next e t et m em v o ev eo =
         let d : ℕ = next_of table (eqb s.party.n 2) k in
         ap₂ (λ d u. leaves (record { party = s.party; due = d; counts = s.counts }) Accepted u v o) e (et ∙ ap (λ d. told_after d s.counts) e)
         ∙ ap₂ (λ (a b : List ℕ). leaves (record { party = s.party; due = d; counts = s.counts }) Accepted (told_after d s.counts) a b)
-        (ev ∙ ap (keepOf table k s.party q.loan w) em) (eo ∙ ap (writeOf table k s.party q.loan w) em)
-        ∙ sym (round-accepts (protocolOf table) s k q w z y)
+        (ev ∙ ap (keep_of table k s.party q.loan w) em) (eo ∙ ap (write_of table k s.party q.loan w) em)
+        ∙ sym (round-accepts (protocol_of table) s k q w z y)

@@ -6,9 +6,9 @@ use mathlib.Core.List.{List, [], ◌∷◌}
 use Rattle.lists.specs.Pick.{pick}
 use Rattle.engine.specs.declared.Frame.{Frame}
 use Rattle.engine.specs.Step.{Fault}
-use Rattle.engine.specs.Plain.{waits, if_clean, forEcho, digests, hashes}
-use Rattle.engine.specs.PlainLaws.{length-rows}
-use Rattle.engine.specs.Area.{putSec, length-putSec, sec-same, sec-other}
+use Rattle.engine.specs.Plain.{waits, if_clean, for_echo, digests, hashes}
+use Rattle.engine.proofs.PlainLaws.{length-rows}
+use Rattle.engine.specs.Area.{put_sec, length-put_sec, sec-same, sec-other}
 use Rattle.rounds.specs.Area.{PENDING, HASHES, SECTIONS, sizes, size_of, work_len, keep}
 use Rattle.rounds.specs.Echo.{hash_vec}
 use Rattle.rounds.specs.EchoLaws.{length-hash_vec}
@@ -45,13 +45,13 @@ module _ (f : Frame) (k : ℕ) (m : ℕ → List ℕ) where
   unfolding hashes keep work_len size_of sizes
   hashes-kept x w h =
       let d = length-digests in
-      let l1 = length-putSec (size_of f) SECTIONS w h HASHES (digests table k f m) (omega arith) d in
+      let l1 = length-put_sec (size_of f) SECTIONS w h HASHES (digests table k f m) (omega arith) d in
       sec-other (size_of f) SECTIONS _ l1 HASHES PENDING (waits x) (omega arith) (omega arith) (length-waits x)
       ∙ sec-same (size_of f) SECTIONS w h HASHES (digests table k f m) (omega arith) d
 
   -- what the two steps leave
   pub held-is : (w v : List ℕ) → v ≡ pick (eqb (Table.judge k f w m).code 0) (Table.kept k f w m) w
-      → keep f PENDING (waits (Table.judge k f w m)) (keep f HASHES (digests table k f m) v) ≡ forEcho table k f w m
-  unfolding forEcho if_clean keep
+      → keep f PENDING (waits (Table.judge k f w m)) (keep f HASHES (digests table k f m) v) ≡ for_echo table k f w m
+  unfolding for_echo if_clean keep
   held-is w v e =
-      ap (λ (y : List ℕ). putSec (size_of f) PENDING (waits (Table.judge k f w m)) (putSec (size_of f) HASHES (digests table k f m) y)) e
+      ap (λ (y : List ℕ). put_sec (size_of f) PENDING (waits (Table.judge k f w m)) (put_sec (size_of f) HASHES (digests table k f m) y)) e

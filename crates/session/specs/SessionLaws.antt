@@ -13,26 +13,26 @@ use Rattle.plan.specs.Plan.{echo?, next_round, kind_of, count_due, msg_len}
 use Rattle.plan.specs.PlanLaws.{no-echo}
 use Rattle.engine.specs.declared.Frame.{Frame}
 use Rattle.engine.specs.Step.{none?, Loan, mask}
-use Rattle.engine.specs.Order.{echoIn, nextIn}
-use Rattle.engine.specs.Plain.{toEcho, len_of, outLenOf, lent_of, checkOf, echoCheck, forEcho, made, keepOf, writeOf, digests}
+use Rattle.engine.specs.Order.{echo_in, next_in}
+use Rattle.engine.specs.Plain.{to_echo, len_of, out_len_of, lent_of, check_of, echo_check, for_echo, made, keep_of, write_of, digests}
 use Rattle.engine.specs.Area.{to_others, mem}
 use Rattle.rounds.specs.declared.Mail.{Mail}
 use Rattle.rounds.specs.Echo.{echo, echo_msg}
 use Rattle.rounds.specs.EchoLaws.{Received}
 use Rattle.rounds.specs.Table.{table}
 use Rattle.rounds.specs.Table as Table
-use Rattle.admit.specs.AdmitLaws.{echo-kind, echo-count}
+use Rattle.admit.proofs.AdmitLaws.{echo-kind, echo-count}
 use Rattle.plain.specs.MaskLaws as Masks
 
 -- ---- the order of the rounds, in plan's words
-pub to-echo-is : (n k : ℕ) (b : Bool) → b ≡ echo? (k + 1) → (not (eqb n 2) && b) ≡ toEcho table (eqb n 2) k
-unfolding toEcho
+pub to-echo-is : (n k : ℕ) (b : Bool) → b ≡ echo? (k + 1) → (not (eqb n 2) && b) ≡ to_echo table (eqb n 2) k
+unfolding to_echo
 to-echo-is n k b e = ap (λ x. not (eqb n 2) && x) (e ∙ ap echo? (add-one k))
 
 -- ---- what follows a call that writes no echo is no echo
 -- no two echoes stand together
 single : (k : ℕ) → k ≤ 22 → echo? k ≡ true → echo? (suc k) ≡ false
-unfolding all_of echoIn mem
+unfolding all_of echo_in mem
 single k h e =
     let t : pick (echo? k) (not (echo? (suc k))) true ≡ true =
     of-all 23 (λ k. pick (echo? k) (not (echo? (suc k))) true) refl k (omega arith) in
@@ -43,8 +43,8 @@ single k h e =
     not-true false q = refl
 
 module _ (n k : ℕ) (h : k < 22) where
-  pub next-plain : toEcho table (eqb n 2) k ≡ false → echo? (next_round n k) ≡ false
-  unfolding toEcho nextIn
+  pub next-plain : to_echo table (eqb n 2) k ≡ false → echo? (next_round n k) ≡ false
+  unfolding to_echo next_in
   next-plain e = rw (lt-leb 22 k h) (go (eqb n 2) (echo? (suc k)) refl e)
     where
       go : (two b : Bool) → echo? (suc k) ≡ b → (not two && b) ≡ false → echo? (pick (two && b) (suc (suc k)) (suc k)) ≡ false
@@ -54,7 +54,7 @@ module _ (n k : ℕ) (h : k < 22) where
       go false false q z = q
 
   pub next_low : 1 ≤ next_round n k
-  unfolding nextIn
+  unfolding next_in
   next_low = rw (lt-leb 22 k h) (go (eqb n 2 && echo? (suc k)))
     where
       go : (b : Bool) → 1 ≤ pick b (suc (suc k)) (suc k)
@@ -62,7 +62,7 @@ module _ (n k : ℕ) (h : k < 22) where
       go false = omega arith
 
   pub next-high : next_round n k ≤ 22
-  unfolding nextIn
+  unfolding next_in
   next-high = rw (lt-leb 22 k h) (go (eqb n 2) (echo? (suc k)) refl)
     where
       go : (two b : Bool) → echo? (suc k) ≡ b → pick (two && b) (suc (suc k)) (suc k) ≤ 22
@@ -74,12 +74,12 @@ module _ (n k : ℕ) (h : k < 22) where
 
 -- ---- lengths and what is lent
 module _ (f : Frame) (k : ℕ) where
-  pub out-last : k ≡ 22 → outLenOf table k f ≡ f.l * lent_len f.n
-  unfolding outLenOf
+  pub out-last : k ≡ 22 → out_len_of table k f ≡ f.l * lent_len f.n
+  unfolding out_len_of
   out-last e = rw (eq-eqb k 22 e) refl
 
-  pub out-echo : k < 22 → toEcho table (eqb f.n 2) k ≡ true → outLenOf table k f ≡ (f.n - 1) * msg_len f.n 1 2
-  unfolding outLenOf len_of nextIn toEcho echo
+  pub out-echo : k < 22 → to_echo table (eqb f.n 2) k ≡ true → out_len_of table k f ≡ (f.n - 1) * msg_len f.n 1 2
+  unfolding out_len_of len_of next_in to_echo echo
   out-echo h e =
       let q = go (eqb f.n 2) (echo? (suc k)) e in
       rw (ne_eqb k 22 (omega arith), lt-leb 22 k h, q.0, q.1) refl
@@ -88,9 +88,9 @@ module _ (f : Frame) (k : ℕ) where
       go true b z = absurd (true-false (sym z))
       go false b z = (refl, z)
 
-  pub out-made : k < 22 → toEcho table (eqb f.n 2) k ≡ false
-      → outLenOf table k f ≡ (f.n - 1) * msg_len f.n f.l (next_round f.n k)
-  unfolding outLenOf len_of
+  pub out-made : k < 22 → to_echo table (eqb f.n 2) k ≡ false
+      → out_len_of table k f ≡ (f.n - 1) * msg_len f.n f.l (next_round f.n k)
+  unfolding out_len_of len_of
   out-made h e = rw (ne_eqb k 22 (omega arith), next-plain f.n k h e) refl
 
   pub lent-made : (q : Loan) → lent_of table k f.n f.l q ≡ Table.lent (next_round f.n k) f.n f.l q
@@ -99,46 +99,46 @@ module _ (f : Frame) (k : ℕ) where
 
 -- ---- the content
 module _ (f : Frame) (w : List ℕ) (m : ℕ → List ℕ) (k : ℕ) where
-  pub check-echo : echo? k ≡ true → checkOf table k f w m ≡ echoCheck table k f w m
-  unfolding checkOf
+  pub check-echo : echo? k ≡ true → check_of table k f w m ≡ echo_check table k f w m
+  unfolding check_of
   check-echo e = rw (e) refl
 
-  pub check-held : echo? k ≡ false → toEcho table (eqb f.n 2) k ≡ true → checkOf table k f w m ≡ none?
-  unfolding checkOf
+  pub check-held : echo? k ≡ false → to_echo table (eqb f.n 2) k ≡ true → check_of table k f w m ≡ none?
+  unfolding check_of
   check-held e t = rw (e, t) refl
 
-  pub check-plain : echo? k ≡ false → toEcho table (eqb f.n 2) k ≡ false → checkOf table k f w m ≡ Table.judge k f w m
-  unfolding checkOf
+  pub check-plain : echo? k ≡ false → to_echo table (eqb f.n 2) k ≡ false → check_of table k f w m ≡ Table.judge k f w m
+  unfolding check_of
   check-plain e t = rw (e, t) refl
 
   -- ---- what is kept and written
   module _ (q : Loan) where
-    pub keep-last : k ≡ 22 → keepOf table k f q w m ≡ replicate (length w) 0
-    unfolding keepOf
+    pub keep-last : k ≡ 22 → keep_of table k f q w m ≡ replicate (length w) 0
+    unfolding keep_of
     keep-last e = rw (eq-eqb k 22 e) refl
 
-    pub keep-held : k ≢ 22 → toEcho table (eqb f.n 2) k ≡ true → keepOf table k f q w m ≡ forEcho table k f w m
-    unfolding keepOf
+    pub keep-held : k ≢ 22 → to_echo table (eqb f.n 2) k ≡ true → keep_of table k f q w m ≡ for_echo table k f w m
+    unfolding keep_of
     keep-held ne t = rw (ne_eqb k 22 ne, t) refl
 
-    pub keep-made : k < 22 → toEcho table (eqb f.n 2) k ≡ false
-        → keepOf table k f q w m ≡ Table.held (next_round f.n k) f q (pick (echo? k) w (Table.kept k f w m))
-    unfolding keepOf made
+    pub keep-made : k < 22 → to_echo table (eqb f.n 2) k ≡ false
+        → keep_of table k f q w m ≡ Table.held (next_round f.n k) f q (pick (echo? k) w (Table.kept k f w m))
+    unfolding keep_of made
     keep-made h t = rw (ne_eqb k 22 (omega arith), t) refl
 
-    pub write-last : k ≡ 22 → writeOf table k f q w m ≡ table.result f w m
-    unfolding writeOf
+    pub write-last : k ≡ 22 → write_of table k f q w m ≡ table.result f w m
+    unfolding write_of
     write-last e = rw (eq-eqb k 22 e) refl
 
-    pub write-held : k ≢ 22 → toEcho table (eqb f.n 2) k ≡ true
-        → writeOf table k f q w m ≡ to_others f.n f.i (echo_msg f.n f.i (digests table k f m))
-    unfolding writeOf echo
+    pub write-held : k ≢ 22 → to_echo table (eqb f.n 2) k ≡ true
+        → write_of table k f q w m ≡ to_others f.n f.i (echo_msg f.n f.i (digests table k f m))
+    unfolding write_of echo
     write-held ne t = rw (ne_eqb k 22 ne, t) refl
 
-    pub write-made : k < 22 → toEcho table (eqb f.n 2) k ≡ false
-        → writeOf table k f q w m ≡ to_others f.n f.i (Table.written (next_round f.n k) f q
+    pub write-made : k < 22 → to_echo table (eqb f.n 2) k ≡ false
+        → write_of table k f q w m ≡ to_others f.n f.i (Table.written (next_round f.n k) f q
         (Table.held (next_round f.n k) f q (pick (echo? k) w (Table.kept k f w m))))
-    unfolding writeOf made
+    unfolding write_of made
     write-made h t = rw (ne_eqb k 22 (omega arith), t) refl
 
 -- ---- an echo's messages are n options

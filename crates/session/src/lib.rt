@@ -9,7 +9,7 @@ ghost use Rattle.share.specs.Lent.{lent_len};
 ghost use Rattle.plan.specs.Plan.{echo?};
 ghost use Rattle.batches.specs.Batches.{total};
 ghost use Rattle.engine.specs.Step.{mask, reply_of, leaves, told_after, fault_of, round_spec};
-ghost use Rattle.engine.specs.Plain.{protocolOf, ruleOf, toEcho, outLenOf, lent_of, digests, hashes, checkOf, forEcho, keepOf, writeOf};
+ghost use Rattle.engine.specs.Plain.{protocol_of, rule_of, to_echo, out_len_of, lent_of, digests, hashes, check_of, for_echo, keep_of, write_of};
 ghost use Rattle.rounds.specs.Mail.{letter};
 ghost use Rattle.rounds.specs.FaultLaws.{Finds};
 ghost use Rattle.rounds.specs.Table as Table;
@@ -27,7 +27,7 @@ const LAST: usize = plan::FAAND;
 // Whether the call for round k writes an echo.
 fn to_echo(n: usize, k: usize) -> bool
     requires { k ≤ 22 }
-    ensures { result ≡ toEcho table (eqb n 2) k }
+    ensures { result ≡ to_echo table (eqb n 2) k }
 {
     (n != 2) & plan::is_echo(k + 1)
 }
@@ -35,7 +35,7 @@ fn to_echo(n: usize, k: usize) -> bool
 // The content of the messages of round k. Where they are echoed, their faults wait for the echo.
 fn content(work: &[u8], incoming: &[u8], mail: Mail, f: Frame, k: usize) -> Fault
     requires { Let f k work.now incoming.now mail }
-    ensures { Finds result.code result.party (checkOf table k f work.now (mask f (letter incoming.now mail))) }
+    ensures { Finds result.code result.party (check_of table k f work.now (mask f (letter incoming.now mail))) }
 {
     let n = f.n;
     if plan::is_echo(k) {
@@ -62,7 +62,7 @@ fn keep_clean(work: &mut [u8], code: u8, incoming: &[u8], mail: Mail, f: Frame, 
 // After a call that writes an echo: what was received without a fault is kept, and the hashes and the fault for the echo.
 fn hold_echo(work: &mut [u8], incoming: &[u8], mail: Mail, f: Frame, k: usize)
     requires { Let f k work.old incoming.now mail }
-    ensures { (work.new ≡ forEcho table k f work.old (mask f (letter incoming.now mail)))
+    ensures { (work.new ≡ for_echo table k f work.old (mask f (letter incoming.now mail)))
         × (hashes table f work.new ≡ digests table k f (mask f (letter incoming.now mail))) }
 {
     let e = plain::judge(work, incoming, mail, f, k);
@@ -97,11 +97,11 @@ fn finish(w: &mut [u8], out: &mut [u8], incoming: &[u8], mail: Mail, f: Frame)
 // An accepted call for round k: what is kept, and what is written.
 fn step(work: &mut [u8], out: &mut [u8], incoming: &[u8], mail: Mail, r: &[u8], f: Frame, k: usize)
     requires fact { Let f k work.old incoming.now mail }
-    requires mail_value { (checkOf table k f work.old (mask f (letter incoming.now mail))).code ≡ 0 }
-    requires out_len { (length out.old ≡ outLenOf table k f) × (lent_of table k f.n f.l (loan r.now) ≡ 0) }
-    ensures { (work.new ≡ keepOf table k f (loan r.now) work.old
+    requires mail_value { (check_of table k f work.old (mask f (letter incoming.now mail))).code ≡ 0 }
+    requires out_len { (length out.old ≡ out_len_of table k f) × (lent_of table k f.n f.l (loan r.now) ≡ 0) }
+    ensures { (work.new ≡ keep_of table k f (loan r.now) work.old
         (mask f (letter incoming.now mail)))
-        × (out.new ≡ writeOf table k f (loan r.now) work.old
+        × (out.new ≡ write_of table k f (loan r.now) work.old
         (mask f (letter incoming.now mail))) }
 {
     let n = f.n;
@@ -120,7 +120,7 @@ fn step(work: &mut [u8], out: &mut [u8], incoming: &[u8], mail: Mail, r: &[u8], 
 fn fault(work: &[u8], incoming: &[u8], mail: Mail, missing: &[u8], f: Frame, k: usize) -> Fault
     requires { Admitted f k work.now incoming.now mail missing.now }
     ensures { Finds result.code result.party
-        (fault_of (ruleOf table k) f (posted incoming.now mail missing.now) work.now) }
+        (fault_of (rule_of table k) f (posted incoming.now mail missing.now) work.now) }
 {
     let first = form::form(incoming, mail, missing, f, k);
     if first.code != 0 {
@@ -154,7 +154,7 @@ pub fn round(
     work: &mut [u8],
     out: &mut [u8],
 ) -> Answer
-    ensures { leaves result.session (reply_of result.verdict) result.told work.new out.new ≡ round_spec (protocolOf table) s k
+    ensures { leaves result.session (reply_of result.verdict) result.told work.new out.new ≡ round_spec (protocol_of table) s k
         (given incoming.now starts.now lens.now missing.now r.now out.old)
         work.old }
 {

@@ -15,7 +15,7 @@ use Rattle.lists.specs.Rows.{chunk, chunk-cat, cat-ext}
 use Rattle.lists.specs.Bytes.{Bytes, bytes-append, bytes-cat, bytes-replicate}
 use Rattle.algebra.specs.Group.{XorGroup, bits, addb, sel, odd, num, odd-num}
 use Rattle.algebra.specs.Sum.{sum, sum-ext, neq, neq-own, neq-true, Same, same, apart, apart?}
-use Rattle.algebra.specs.Bucket.{bucketX, bucketZ}
+use Rattle.algebra.specs.Bucket.{bucket_x, bucket_z}
 use Rattle.block.specs.declared.Block.{Block}
 use Rattle.block.specs.Block.{word_at, block_at, bytes_of, le8, zero_of}
 use Rattle.block.specs.Group.{blocks}
@@ -60,27 +60,27 @@ key_sum_lem (suc m) f k = ap (λ (b : Block). blocks.op b ((f m).key k)) (key_su
 
 -- ---- a bucket, part by part
 module _ (x : ℕ → Share) (c : ℕ) where
-  pub bit-bucket-x : (bucketX shares x c).bit ≡ bucketX bits (λ e. (x e).bit) c
-  unfolding bucketX
+  pub bit-bucket-x : (bucket_x shares x c).bit ≡ bucket_x bits (λ e. (x e).bit) c
+  unfolding bucket_x
   bit-bucket-x = bit_sum_lem (suc c) x
 
   module _ (z : ℕ → Share) (d : ℕ → Bool) where
-    pub bit-bucket-z : (bucketZ shares x z d c).bit ≡ bucketZ bits (λ e. (x e).bit) (λ e. (z e).bit) d c
-    unfolding bucketZ shares
+    pub bit-bucket-z : (bucket_z shares x z d c).bit ≡ bucket_z bits (λ e. (x e).bit) (λ e. (z e).bit) d c
+    unfolding bucket_z shares
     bit-bucket-z =
         ap₂ addb (bit_sum_lem (suc c) z)
         (bit_sum_lem c (λ e. sel shares (d e) (x (suc e)))
         ∙ sum-ext bits c _ (λ e. sel bits (d e) (x (suc e)).bit) (λ e l. bit-sel (d e) (x (suc e))))
 
-    pub mac-bucket-z : (k : ℕ) → (bucketZ shares x z d c).mac k ≡ bucketZ blocks (λ e. (x e).mac k) (λ e. (z e).mac k) d c
-    unfolding bucketZ shares
+    pub mac-bucket-z : (k : ℕ) → (bucket_z shares x z d c).mac k ≡ bucket_z blocks (λ e. (x e).mac k) (λ e. (z e).mac k) d c
+    unfolding bucket_z shares
     mac-bucket-z k =
         ap₂ blocks.op (mac_sum_lem (suc c) z k)
         (mac_sum_lem c (λ e. sel shares (d e) (x (suc e))) k
         ∙ sum-ext blocks c _ (λ e. sel blocks (d e) ((x (suc e)).mac k)) (λ e l. mac-sel (d e) (x (suc e)) k))
 
-    pub key-bucket-z : (k : ℕ) → (bucketZ shares x z d c).key k ≡ bucketZ blocks (λ e. (x e).key k) (λ e. (z e).key k) d c
-    unfolding bucketZ shares
+    pub key-bucket-z : (k : ℕ) → (bucket_z shares x z d c).key k ≡ bucket_z blocks (λ e. (x e).key k) (λ e. (z e).key k) d c
+    unfolding bucket_z shares
     key-bucket-z k =
         ap₂ blocks.op (key_sum_lem (suc c) z k)
         (key_sum_lem c (λ e. sel shares (d e) (x (suc e))) k

@@ -4,4 +4,3 @@ pub mod Shuffle
 pub mod Always
 pub mod Cases
 pub mod Turns
-pub mod TurnLaws

@@ -9,7 +9,7 @@ ghost use Rattle.lists.specs.Sect.{put};
 ghost use Rattle.lists.specs.Rows.{chunk};
 ghost use Rattle.algebra.specs.Group.{bits, odd};
 ghost use Rattle.algebra.specs.Sum.{sum};
-ghost use Rattle.algebra.specs.Bucket.{bucketX, bucketZ};
+ghost use Rattle.algebra.specs.Bucket.{bucket_x, bucket_z};
 ghost use Rattle.block.specs.declared.Block.{Block};
 ghost use Rattle.share.specs.Record.{record_len};
 ghost use Rattle.share.specs.Share.{shares};
@@ -50,8 +50,8 @@ fn party(recs: &[u8], es: &[u8], ts: &[usize], d: &[u8], delta: Delta, f: Frame,
     requires ranged { (Ranged f) × (k < f.n) }
     requires bucketed { Bucketed f recs.now es.now ts.now d.now }
     ensures { (zs : List ℕ) → Entries f.i k
-        (bucketX shares (λ e. x f recs.now (get_or ts.now e 0)) (length d.now))
-        (bucketZ shares (λ e. x f recs.now (get_or ts.now e 0))
+        (bucket_x shares (λ e. x f recs.now (get_or ts.now e 0)) (length d.now))
+        (bucket_z shares (λ e. x f recs.now (get_or ts.now e 0))
         (λ e. B.z_share f delta.0 recs.now zs es.now (get_or ts.now e 0))
         (λ e. odd (get_or d.now e 0)) (length d.now)) result }
 {

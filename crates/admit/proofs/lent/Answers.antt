@@ -6,7 +6,7 @@ use Rattle.lists.specs.Pick.{pick}
 use Rattle.engine.specs.Plain.{lent_of}
 use Rattle.rounds.specs.Table.{table}
 use Rattle.admit.specs.Admit.{loan}
-use Rattle.admit.specs.AdmitLaws.{lent_of_lem, lent-r, lent-rest}
+use Rattle.admit.proofs.AdmitLaws.{lent_of_lem, lent-r, lent-rest}
 use Rattle.admit.proofs.lent.Goals as goal
 use Rattle.admit.proofs.lent.Goals.{After-r_fits, Else-next_round-eq-FABITN}
 

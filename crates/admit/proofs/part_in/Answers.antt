@@ -2,7 +2,7 @@
 use Rattle.lists.specs.Kit.{[], rules}
 use Rattle.engine.specs.Step.{Lent}
 use Rattle.admit.specs.Admit.{given}
-use Rattle.admit.specs.AdmitLaws.{fits-own, fits-gone, fits-there}
+use Rattle.admit.proofs.AdmitLaws.{fits-own, fits-gone, fits-there}
 use Rattle.admit.proofs.part_in.Goals as goal
 
 pub returns-then-k-i : goal.returns-then-k-i

@@ -3,7 +3,7 @@ use borrow.Author.Tests.{not-true, not-false}
 use Rattle.lists.specs.All.{all_of, all-zero}
 use Rattle.engine.specs.Step.{Lent}
 use Rattle.admit.specs.Admit.{given, fits}
-use Rattle.admit.specs.AdmitLaws.{fits-turn, parts-bad, parts-end}
+use Rattle.admit.proofs.AdmitLaws.{fits-turn, parts-bad, parts-end}
 use Rattle.admit.proofs.parts_in.Goals as goal
 
 pub loop-k-init : goal.loop-k-init

@@ -4,7 +4,7 @@ use borrow.Author.Tests.{not-true, not-false}
 use Rattle.lists.specs.All.{all_of, all-zero}
 use Rattle.engine.specs.Step.{Lent}
 use Rattle.admit.specs.Admit.{given, fits}
-use Rattle.admit.specs.AdmitLaws.{fits-turn, parts-bad, parts-end}
+use Rattle.admit.proofs.AdmitLaws.{fits-turn, parts-bad, parts-end}
 use Rattle.admit.proofs.parts_in.Given as goal
 
 abbrev pub invariant-loop-k : goal.invariant-loop-k

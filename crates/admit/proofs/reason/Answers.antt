@@ -3,11 +3,11 @@ use Rattle.lists.specs.Kit.{◌≡◌, sym, ◌∙◌, true, length, rules}
 use borrow.Author.Tests.{not-true, not-false}
 use Rattle.plan.specs.Plan.{InRange}
 use Rattle.engine.specs.Step.{Lent, parts_in}
-use Rattle.engine.specs.Plain.{protocolOf}
+use Rattle.engine.specs.Plain.{protocol_of}
 use Rattle.rounds.specs.Table.{table}
 use Rattle.admit.specs.Admit.{given, lengths_fit}
-use Rattle.admit.specs.AdmitLaws.{alive-ranges, fit-lengths, parts-any, reason-over, reason-turn, reason-lengths, reason-parts}
-use Rattle.admit.specs.AdmitLaws.{reason-lent}
+use Rattle.admit.proofs.AdmitLaws.{alive-ranges, fit-lengths, parts-any, reason-over, reason-turn, reason-lengths, reason-parts}
+use Rattle.admit.proofs.AdmitLaws.{reason-lent}
 use Rattle.admit.proofs.reason.Goals as goal
 use Rattle.admit.proofs.reason.Goals.{After-parts_in, Else-not-alive, Else-not-lengths}
 
@@ -18,7 +18,7 @@ returns-then-not-alive c =
 
 -- behind the test of the session
 
-lives : (c : Else-not-alive) → (protocolOf table).alive c.args.s ≡ true
+lives : (c : Else-not-alive) → (protocol_of table).alive c.args.s ≡ true
 lives c = sym c.alive.ensures ∙ c.if-not-alive.false
 
 ranged : (c : Else-not-alive) → InRange c.args.s.party.n c.args.s.party.l

@@ -4,7 +4,7 @@ use Prim.Native.Nat.{◌/◌, ◌%◌}
 use lib.ListN.{length-set}
 use Rattle.lists.specs.Over.{tab, tab-zero, tab-turn, tab-end}
 use Rattle.fips197.specs.Sbox.{SBox}
-use Rattle.fips197.specs.SboxLaws.{sbox-byte}
+use Rattle.fips197.proofs.SboxLaws.{sbox-byte}
 use Rattle.aes_tables.specs.Tables.{entry_of, tables}
 use Rattle.aes_tables.proofs.tables.Given as goal
 

@@ -1,6 +1,6 @@
 -- `aes_tables::xtimes` meets its contract.
 use Rattle.lists.specs.Kit.{sym, rules}
-use Rattle.fips197.specs.FieldLaws.{product-two}
+use Rattle.fips197.proofs.FieldLaws.{product-two}
 use Rattle.aes_tables.proofs.xtimes.Goals as goal
 
 pub returns : goal.returns

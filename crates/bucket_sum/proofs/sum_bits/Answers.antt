@@ -1,7 +1,7 @@
 use Rattle.lists.specs.Kit.{◌≡◌, sym, ap, ◌∙◌, List, Bool, ℕ, suc, ◌+◌, ◌-◌, ◌*◌, ◌<◌, ◌≤◌, arith, length, get_or, rules}
 use native.Mathlib.Nat.{add-zero}
 use Rattle.algebra.specs.Group.{bits, odd}
-use Rattle.algebra.specs.Bucket.{bucketX, bucketZ, first-x, first-z}
+use Rattle.algebra.specs.Bucket.{bucket_x, bucket_z, first-x, first-z}
 use Rattle.share.specs.Share.{share_at}
 use Rattle.bucket_sum.specs.Sums.{x_among, step-most, bit-turn-x, bit-turn-z}
 use Rattle.bucket_sum.proofs.sum_bits.Goals as goal
@@ -13,14 +13,14 @@ use Rattle.bucket_sum.proofs.sum_bits.Goals.{After-shared_slice_known-5-1, After
 some : (c : After-shared_slice_known-5-1) → 0 < length c.args.ts.now
 some c = omega (arith, c.requires.ts_len)
 
-x-in : (c : After-shared_slice_known-5-1) → (e : ℕ) (l : e < length c.args.ts.now) → (get_or c.args.ts.now e 0) * c.args.len < length c.args.s.now
-x-in c e l = omega (arith, c.requires.within.0 e l, ap (λ a. a * c.args.len) (add-zero (get_or c.args.ts.now e 0)))
+x_in_lem : (c : After-shared_slice_known-5-1) → (e : ℕ) (l : e < length c.args.ts.now) → (get_or c.args.ts.now e 0) * c.args.len < length c.args.s.now
+x_in_lem c e l = omega (arith, c.requires.within.0 e l, ap (λ a. a * c.args.len) (add-zero (get_or c.args.ts.now e 0)))
 
-z-in : (c : After-shared_slice_known-5-1) → (e : ℕ) (l : e < length c.args.ts.now) → ((get_or c.args.ts.now e 0) + c.args.behind) * c.args.step < length c.args.zs.now
-z-in c e l = omega (arith, c.requires.within.1 e l)
+z_in_lem : (c : After-shared_slice_known-5-1) → (e : ℕ) (l : e < length c.args.ts.now) → ((get_or c.args.ts.now e 0) + c.args.behind) * c.args.step < length c.args.zs.now
+z_in_lem c e l = omega (arith, c.requires.within.1 e l)
 
 small : (c : After-shared_slice_known-5-1) → (e : ℕ) (l : e < length c.args.ts.now) → (get_or c.args.ts.now e 0) + c.args.behind ≤ length c.args.zs.now
-small c e l = omega (arith, z-in c e l, step-most ((get_or c.args.ts.now e 0) + c.args.behind) c.args.step c.requires.within.3)
+small c e l = omega (arith, z_in_lem c e l, step-most ((get_or c.args.ts.now e 0) + c.args.behind) c.args.step c.requires.within.3)
 
 pub bounds-ts-0 : goal.bounds-ts-0
 bounds-ts-0 c =
@@ -28,19 +28,19 @@ bounds-ts-0 c =
     some-here
 
 pub overflow_mul-first : goal.overflow_mul-first
-overflow_mul-first c = omega (arith, x-in (goal.at.overflow_mul-first c).After-shared_slice_known-5-1 0 (some (goal.at.overflow_mul-first c).After-shared_slice_known-5-1), c.well_formed)
+overflow_mul-first c = omega (arith, x_in_lem (goal.at.overflow_mul-first c).After-shared_slice_known-5-1 0 (some (goal.at.overflow_mul-first c).After-shared_slice_known-5-1), c.well_formed)
 
 pub bit_at-x-requires : goal.bit_at-x-requires
-bit_at-x-requires c = x-in (goal.at.bit_at-x-requires c).After-shared_slice_known-5-1 0 (some (goal.at.bit_at-x-requires c).After-shared_slice_known-5-1)
+bit_at-x-requires c = x_in_lem (goal.at.bit_at-x-requires c).After-shared_slice_known-5-1 0 (some (goal.at.bit_at-x-requires c).After-shared_slice_known-5-1)
 
 pub overflow_add-first : goal.overflow_add-first
 overflow_add-first c = omega (arith, small (goal.at.overflow_add-first c).After-shared_slice_known-5-1 0 (some (goal.at.overflow_add-first c).After-shared_slice_known-5-1), c.well_formed)
 
 pub overflow_mul-first-2 : goal.overflow_mul-first-2
-overflow_mul-first-2 c = omega (arith, z-in (goal.at.overflow_mul-first-2 c).After-shared_slice_known-5-1 0 (some (goal.at.overflow_mul-first-2 c).After-shared_slice_known-5-1), c.well_formed)
+overflow_mul-first-2 c = omega (arith, z_in_lem (goal.at.overflow_mul-first-2 c).After-shared_slice_known-5-1 0 (some (goal.at.overflow_mul-first-2 c).After-shared_slice_known-5-1), c.well_formed)
 
 pub bit-z-requires : goal.bit-z-requires
-bit-z-requires c = z-in (goal.at.bit-z-requires c).After-shared_slice_known-5-1 0 (some (goal.at.bit-z-requires c).After-shared_slice_known-5-1)
+bit-z-requires c = z_in_lem (goal.at.bit-z-requires c).After-shared_slice_known-5-1 0 (some (goal.at.bit-z-requires c).After-shared_slice_known-5-1)
 
 pub loop-e-init : goal.loop-e-init
 unfolding x_among share_at
@@ -67,19 +67,19 @@ bounds-ts-e c =
     next-here
 
 pub overflow_mul-t : goal.overflow_mul-t
-overflow_mul-t c = omega (arith, x-in (goal.at.overflow_mul-t c).After-shared_slice_known-5-1 (c.loop-e.e) (next (goal.at.overflow_mul-t c).After-shared_slice_known-in-loop-e-1), c.well_formed)
+overflow_mul-t c = omega (arith, x_in_lem (goal.at.overflow_mul-t c).After-shared_slice_known-5-1 (c.loop-e.e) (next (goal.at.overflow_mul-t c).After-shared_slice_known-in-loop-e-1), c.well_formed)
 
 pub bit_at-later-requires : goal.bit_at-later-requires
-bit_at-later-requires c = x-in (goal.at.bit_at-later-requires c).After-shared_slice_known-5-1 (c.loop-e.e) (next (goal.at.bit_at-later-requires c).After-shared_slice_known-in-loop-e-1)
+bit_at-later-requires c = x_in_lem (goal.at.bit_at-later-requires c).After-shared_slice_known-5-1 (c.loop-e.e) (next (goal.at.bit_at-later-requires c).After-shared_slice_known-in-loop-e-1)
 
 pub overflow_add-t : goal.overflow_add-t
 overflow_add-t c = omega (arith, small (goal.at.overflow_add-t c).After-shared_slice_known-5-1 (c.loop-e.e) (next (goal.at.overflow_add-t c).After-shared_slice_known-in-loop-e-1), c.well_formed)
 
 pub overflow_mul-t-in-loop-e : goal.overflow_mul-t-in-loop-e
-overflow_mul-t-in-loop-e c = omega (arith, z-in (goal.at.overflow_mul-t-in-loop-e c).After-shared_slice_known-5-1 (c.loop-e.e) (next (goal.at.overflow_mul-t-in-loop-e c).After-shared_slice_known-in-loop-e-1), c.well_formed)
+overflow_mul-t-in-loop-e c = omega (arith, z_in_lem (goal.at.overflow_mul-t-in-loop-e c).After-shared_slice_known-5-1 (c.loop-e.e) (next (goal.at.overflow_mul-t-in-loop-e c).After-shared_slice_known-in-loop-e-1), c.well_formed)
 
 pub bit-next-requires : goal.bit-next-requires
-bit-next-requires c = z-in (goal.at.bit-next-requires c).After-shared_slice_known-5-1 (c.loop-e.e) (next (goal.at.bit-next-requires c).After-shared_slice_known-in-loop-e-1)
+bit-next-requires c = z_in_lem (goal.at.bit-next-requires c).After-shared_slice_known-5-1 (c.loop-e.e) (next (goal.at.bit-next-requires c).After-shared_slice_known-in-loop-e-1)
 
 pub overflow_sub-e : goal.overflow_sub-e
 overflow_sub-e c = omega (arith, next (goal.at.overflow_sub-e c).After-shared_slice_known-in-loop-e-1, first_done (goal.at.overflow_sub-e c).After-shared_slice_known-in-loop-e-1, c.requires.ts_len)
@@ -101,15 +101,15 @@ loop-e-preserved c =
     let later : c.bit_at-later.result ≡ X (c.loop-e.e) = c.bit_at-later.ensures in (
       omega arith,
       omega (arith, next (goal.at.loop-e-preserved c).After-shared_slice_known-in-loop-e-1),
-      bit-turn-x X Z D ((c.loop-e.e) - 1) (c.loop-e.e) p c.loop-e.x c.bit_at-later.result c.loop-e.invariant.2 later ∙ ap (bucketX bits X) q,
+      bit-turn-x X Z D ((c.loop-e.e) - 1) (c.loop-e.e) p c.loop-e.x c.bit_at-later.result c.loop-e.invariant.2 later ∙ ap (bucket_x bits X) q,
       bit-turn-z X Z D ((c.loop-e.e) - 1) (c.loop-e.e) p c.loop-e.z c.bit_at-later.result c.bit-next.result c.bit.result c.loop-e.invariant.3 later
-          c.bit-next.ensures c.bit.ensures ∙ ap (bucketZ bits X Z D) q,
+          c.bit-next.ensures c.bit.ensures ∙ ap (bucket_z bits X Z D) q,
     )
 
 pub returns : goal.returns
 returns c =
     let q : c.loop-e.e - 1 ≡ length c.args.d.now = omega (arith, c.loop-e-test.false, c.loop-e.invariant.1, c.requires.ts_len) in (
-      c.loop-e.invariant.2 ∙ ap (bucketX bits (xs c.args.len c.args.s.now c.args.ts.now)) q,
-      c.loop-e.invariant.3 ∙ ap (bucketZ bits (xs c.args.len c.args.s.now c.args.ts.now)
+      c.loop-e.invariant.2 ∙ ap (bucket_x bits (xs c.args.len c.args.s.now c.args.ts.now)) q,
+      c.loop-e.invariant.3 ∙ ap (bucket_z bits (xs c.args.len c.args.s.now c.args.ts.now)
           (zs c.args.zs.now c.args.ts.now c.args.behind c.args.step) (ds c.args.d.now)) q,
     )

@@ -2,7 +2,7 @@
 use Rattle.lists.specs.Kit.{◌≡◌, sym, ap, ◌∙◌, List, Bool, ℕ, suc, ◌+◌, ◌-◌, ◌*◌, ◌<◌, ◌≤◌, arith, length, get_or, rules}
 use native.Mathlib.Nat.{add-zero}
 use Rattle.algebra.specs.Group.{bits, odd}
-use Rattle.algebra.specs.Bucket.{bucketX, bucketZ, first-x, first-z}
+use Rattle.algebra.specs.Bucket.{bucket_x, bucket_z, first-x, first-z}
 use Rattle.share.specs.Share.{share_at}
 use Rattle.bucket_sum.specs.Sums.{x_among, step-most, bit-turn-x, bit-turn-z}
 use Rattle.bucket_sum.proofs.sum_bits.Given as goal
@@ -18,8 +18,8 @@ abbrev pub ds : List ℕ → ℕ → Bool
 ds d e = odd (get_or d e 0)
 
 abbrev pub invariant-loop-e : goal.invariant-loop-e
-invariant-loop-e l = (1 ≤ l.e) × (l.e ≤ length l.ts) × (l.x ≡ bucketX bits (xs l.len l.s l.ts) (l.e - 1))
-    × (l.z ≡ bucketZ bits (xs l.len l.s l.ts) (zs l.zs l.ts l.behind l.step) (ds l.d) (l.e - 1))
+invariant-loop-e l = (1 ≤ l.e) × (l.e ≤ length l.ts) × (l.x ≡ bucket_x bits (xs l.len l.s l.ts) (l.e - 1))
+    × (l.z ≡ bucket_z bits (xs l.len l.s l.ts) (zs l.zs l.ts l.behind l.step) (ds l.d) (l.e - 1))
 
 abbrev pub decreases-loop-e : goal.decreases-loop-e
 decreases-loop-e l = length l.ts - l.e

@@ -1,6 +1,6 @@
 use Rattle.lists.specs.Kit.{◌≡◌, ap₂, subst, ◌∙◌, List, ℕ, suc, ◌+◌, ◌-◌, ◌*◌, ◌<◌, ◌≤◌, arith, length, get_or, rules}
 use Rattle.algebra.specs.Group.{XorGroup, odd}
-use Rattle.algebra.specs.Bucket.{bucketX, bucketZ}
+use Rattle.algebra.specs.Bucket.{bucket_x, bucket_z}
 use Rattle.block.specs.Group.{blocks}
 use Rattle.share.specs.Layout.{record-within}
 use Rattle.share.specs.Record.{record_len}
@@ -23,11 +23,11 @@ within c = record-within c.args.n c.args.k c.requires.1
 few : (c : After-shared_slice_known-4-1) → c.args.k < 8
 few c = omega (arith, c.requires.1, c.requires.0.few)
 
-x-in : (c : After-shared_slice_known-4-1) → (e : ℕ) (l : e < length c.args.ts.now) → (get_or c.args.ts.now e 0) * (c.args.len) + record_len c.args.n ≤ length c.args.s.now
-x-in c e l = x_fits c.requires.0 e l
+x_in_lem : (c : After-shared_slice_known-4-1) → (e : ℕ) (l : e < length c.args.ts.now) → (get_or c.args.ts.now e 0) * (c.args.len) + record_len c.args.n ≤ length c.args.s.now
+x_in_lem c e l = x_fits c.requires.0 e l
 
-z-in : (c : After-shared_slice_known-4-1) → (e : ℕ) (l : e < length c.args.ts.now) → ((get_or c.args.ts.now e 0) + c.args.behind) * (c.args.len) + record_len c.args.n ≤ length c.args.s.now
-z-in c e l = c.requires.0.inside e l
+z_in_lem : (c : After-shared_slice_known-4-1) → (e : ℕ) (l : e < length c.args.ts.now) → ((get_or c.args.ts.now e 0) + c.args.behind) * (c.args.len) + record_len c.args.n ≤ length c.args.s.now
+z_in_lem c e l = c.requires.0.inside e l
 
 small : (c : After-shared_slice_known-4-1) → (e : ℕ) (l : e < length c.args.ts.now) → (get_or c.args.ts.now e 0) + c.args.behind ≤ length c.args.s.now
 small c e l = no_wrap c.requires.0 e l
@@ -38,19 +38,19 @@ bounds-ts-0 c =
     some-here
 
 pub overflow_mul-first : goal.overflow_mul-first
-overflow_mul-first c = omega (arith, x-in (goal.at.overflow_mul-first c).After-shared_slice_known-4-1 0 (some (goal.at.overflow_mul-first c).After-shared_slice_known-4-1), c.well_formed)
+overflow_mul-first c = omega (arith, x_in_lem (goal.at.overflow_mul-first c).After-shared_slice_known-4-1 0 (some (goal.at.overflow_mul-first c).After-shared_slice_known-4-1), c.well_formed)
 
 pub entry_at-x-requires : goal.entry_at-x-requires
-entry_at-x-requires c = (few (goal.at.entry_at-x-requires c).After-shared_slice_known-4-1, omega (arith, x-in (goal.at.entry_at-x-requires c).After-shared_slice_known-4-1 0 (some (goal.at.entry_at-x-requires c).After-shared_slice_known-4-1), within (goal.at.entry_at-x-requires c).After-shared_slice_known-4-1))
+entry_at-x-requires c = (few (goal.at.entry_at-x-requires c).After-shared_slice_known-4-1, omega (arith, x_in_lem (goal.at.entry_at-x-requires c).After-shared_slice_known-4-1 0 (some (goal.at.entry_at-x-requires c).After-shared_slice_known-4-1), within (goal.at.entry_at-x-requires c).After-shared_slice_known-4-1))
 
 pub overflow_add-first : goal.overflow_add-first
 overflow_add-first c = omega (arith, small (goal.at.overflow_add-first c).After-shared_slice_known-4-1 0 (some (goal.at.overflow_add-first c).After-shared_slice_known-4-1), c.well_formed)
 
 pub overflow_mul-first-2 : goal.overflow_mul-first-2
-overflow_mul-first-2 c = omega (arith, z-in (goal.at.overflow_mul-first-2 c).After-shared_slice_known-4-1 0 (some (goal.at.overflow_mul-first-2 c).After-shared_slice_known-4-1), c.well_formed)
+overflow_mul-first-2 c = omega (arith, z_in_lem (goal.at.overflow_mul-first-2 c).After-shared_slice_known-4-1 0 (some (goal.at.overflow_mul-first-2 c).After-shared_slice_known-4-1), c.well_formed)
 
 pub entry_at-z-requires : goal.entry_at-z-requires
-entry_at-z-requires c = (few (goal.at.entry_at-z-requires c).After-shared_slice_known-4-1, omega (arith, z-in (goal.at.entry_at-z-requires c).After-shared_slice_known-4-1 0 (some (goal.at.entry_at-z-requires c).After-shared_slice_known-4-1), within (goal.at.entry_at-z-requires c).After-shared_slice_known-4-1))
+entry_at-z-requires c = (few (goal.at.entry_at-z-requires c).After-shared_slice_known-4-1, omega (arith, z_in_lem (goal.at.entry_at-z-requires c).After-shared_slice_known-4-1 0 (some (goal.at.entry_at-z-requires c).After-shared_slice_known-4-1), within (goal.at.entry_at-z-requires c).After-shared_slice_known-4-1))
 
 pub loop-e-init : goal.loop-e-init
 unfolding x_among z_among share_at

@@ -1,7 +1,7 @@
 -- The loop's invariant: x and z have the first e records of the bucket.
 use Rattle.lists.specs.Kit.{◌≡◌, ap₂, subst, ◌∙◌, List, ℕ, suc, ◌+◌, ◌-◌, ◌*◌, ◌<◌, ◌≤◌, arith, length, get_or, rules}
 use Rattle.algebra.specs.Group.{XorGroup, odd}
-use Rattle.algebra.specs.Bucket.{bucketX, bucketZ}
+use Rattle.algebra.specs.Bucket.{bucket_x, bucket_z}
 use Rattle.block.specs.Group.{blocks}
 use Rattle.share.specs.Layout.{record-within}
 use Rattle.share.specs.Record.{record_len}
@@ -13,7 +13,7 @@ use Rattle.bucket_sum.proofs.sum_entries.Given as goal
 -- the sums over the first c + 1
 abbrev pub Sofar : ℕ → List ℕ → List ℕ → ℕ → List ℕ → ℕ → ℕ → Sums → Type 0
 Sofar len s ts behind d k c r =
-    Summed k (bucketX shares (x_among len s ts) c) (bucketZ shares (x_among len s ts) (z_among len s ts behind) (λ i. odd (get_or d i 0)) c) r
+    Summed k (bucket_x shares (x_among len s ts) c) (bucket_z shares (x_among len s ts) (z_among len s ts behind) (λ i. odd (get_or d i 0)) c) r
 
 abbrev pub invariant-loop-e : goal.invariant-loop-e
 invariant-loop-e l = (1 ≤ l.e) × (l.e ≤ length l.ts) × Sofar l.len l.s l.ts l.behind l.d l.k (l.e - 1) (record { x = l.x; z = l.z })

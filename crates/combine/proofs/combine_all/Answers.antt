@@ -5,7 +5,7 @@ use lib.Seq.{length-take-le}
 use Rattle.lists.specs.Over.{length-take-drop}
 use Rattle.lists.specs.Sect.{put, get-rest}
 use Rattle.algebra.specs.Group.{bits, odd}
-use Rattle.algebra.specs.Bucket.{bucketX, bucketZ}
+use Rattle.algebra.specs.Bucket.{bucket_x, bucket_z}
 use Rattle.share.specs.Layout.{entry-within}
 use Rattle.share.specs.Record.{record_len, bit_at}
 use Rattle.share.specs.Share.{Share, share_at, shares}
@@ -163,8 +163,8 @@ headed c =
     let room-here : 1 + LABEL ≤ length (c.loop-k.out) = omega (arith, out-long-here, head-within c.args.n) in
     ap length c.put_lent_head.ensures ∙ lent-headed (c.args.n) c.args.i c.sum_bits-b.result.x (c.loop-k.out) (room-here) ∙ out-long-here
 
-z-in : (c : After-put_lent_head) → 2 * (c.lent_len-len.result) + (1 + LABEL) ≤ length c.put_lent_head.new.out
-z-in c =
+z_in_lem : (c : After-put_lent_head) → 2 * (c.lent_len-len.result) + (1 + LABEL) ≤ length c.put_lent_head.new.out
+z_in_lem c =
     let long-here : (c.lent_len-len.result) ≡ lent_len c.args.n = c.lent_len-len.ensures in
     omega (arith, headed c, long-here, head-within (c.args.n))
 
@@ -173,7 +173,7 @@ unfolding x_among share_at x_lent lent_at
 bit-x c =
     let long-here : (c.lent_len-len.result) ≡ lent_len c.args.n = c.lent_len-len.ensures in
     c.sum_bits-b.ensures.0
-    ∙ ap (λ m. bucketX bits (λ e. bit_at c.args.triples.now (get_or (ts c.args.d.now) e 0 * m)) (length c.args.d.now)) (long-here)
+    ∙ ap (λ m. bucket_x bits (λ e. bit_at c.args.triples.now (get_or (ts c.args.d.now) e 0 * m)) (length c.args.d.now)) (long-here)
     ∙ sym (bit-bucket-x (x_lent (c.args.n) c.args.triples.now (ts c.args.d.now)) (length c.args.d.now))
 
 bit-z : (c : After-put_lent_head) → c.sum_bits-b.result.z ≡ (Z (c.args.n) c.args.triples.now c.args.d.now).bit
@@ -181,21 +181,21 @@ unfolding x_among share_at x_lent z_lent lent_at bit_at
 bit-z c =
     let long-here : (c.lent_len-len.result) ≡ lent_len c.args.n = c.lent_len-len.ensures in
     c.sum_bits-b.ensures.1
-    ∙ ap (λ m. bucketZ bits (λ e. bit_at c.args.triples.now (get_or (ts c.args.d.now) e 0 * m)) (λ e. bit_at c.args.triples.now ((get_or (ts c.args.d.now) e 0 + 2) * m))
+    ∙ ap (λ m. bucket_z bits (λ e. bit_at c.args.triples.now (get_or (ts c.args.d.now) e 0 * m)) (λ e. bit_at c.args.triples.now ((get_or (ts c.args.d.now) e 0 + 2) * m))
     (λ e. odd (get_or c.args.d.now e 0)) (length c.args.d.now)) (long-here)
     ∙ sym (bit-bucket-z (x_lent (c.args.n) c.args.triples.now (ts c.args.d.now)) (length c.args.d.now) (z_lent (c.args.n) c.args.triples.now (ts c.args.d.now)) (λ e. odd (get_or c.args.d.now e 0)))
 
 pub slice_bounds-put_lent_head-count : goal.slice_bounds-put_lent_head-count
-slice_bounds-put_lent_head-count c = omega (arith, z-in (goal.at.slice_bounds-put_lent_head-count c).After-put_lent_head)
+slice_bounds-put_lent_head-count c = omega (arith, z_in_lem (goal.at.slice_bounds-put_lent_head-count c).After-put_lent_head)
 
 pub slice_bounds-put_lent_head-start : goal.slice_bounds-put_lent_head-start
-slice_bounds-put_lent_head-start c = omega (arith, z-in (goal.at.slice_bounds-put_lent_head-start c).After-put_lent_head)
+slice_bounds-put_lent_head-start c = omega (arith, z_in_lem (goal.at.slice_bounds-put_lent_head-start c).After-put_lent_head)
 
 pub put_lent_head-requires-2 : goal.put_lent_head-requires-2
 put_lent_head-requires-2 c =
     let one : List ℕ = c.put_lent_head.new.out in
     let at : ℕ = 2 * (c.lent_len-len.result) in (
-      omega (arith, z-in (goal.at.put_lent_head-requires-2 c).After-put_lent_head, ap length (get-rest at one), length-drop at one),
+      omega (arith, z_in_lem (goal.at.put_lent_head-requires-2 c).After-put_lent_head, ap length (get-rest at one), length-drop at one),
       c.requires.n_bound.0,
       c.requires.n_bound.3,
     )
@@ -211,11 +211,11 @@ left c =
     let y-long-here : length (Y c.args.n c.args.i c.args.triples.now) ≡ lent_len c.args.n = length-lent_of c.args.n c.args.i (triple c.args.n c.args.triples.now 0).ty in
     let bit-x-here : c.sum_bits-b.result.x ≡ (X (c.args.n) c.args.triples.now c.args.d.now).bit = let long-here : (c.lent_len-len.result) ≡ lent_len c.args.n = c.lent_len-len.ensures in
     c.sum_bits-b.ensures.0
-    ∙ ap (λ m. bucketX bits (λ e. bit_at c.args.triples.now (get_or (ts c.args.d.now) e 0 * m)) (length c.args.d.now)) (long-here)
+    ∙ ap (λ m. bucket_x bits (λ e. bit_at c.args.triples.now (get_or (ts c.args.d.now) e 0 * m)) (length c.args.d.now)) (long-here)
     ∙ sym (bit-bucket-x (x_lent (c.args.n) c.args.triples.now (ts c.args.d.now)) (length c.args.d.now)) in
     let bit-z-here : c.sum_bits-b.result.z ≡ (Z (c.args.n) c.args.triples.now c.args.d.now).bit = let long-here : (c.lent_len-len.result) ≡ lent_len c.args.n = c.lent_len-len.ensures in
     c.sum_bits-b.ensures.1
-    ∙ ap (λ m. bucketZ bits (λ e. bit_at c.args.triples.now (get_or (ts c.args.d.now) e 0 * m)) (λ e. bit_at c.args.triples.now ((get_or (ts c.args.d.now) e 0 + 2) * m))
+    ∙ ap (λ m. bucket_z bits (λ e. bit_at c.args.triples.now (get_or (ts c.args.d.now) e 0 * m)) (λ e. bit_at c.args.triples.now ((get_or (ts c.args.d.now) e 0 + 2) * m))
     (λ e. odd (get_or c.args.d.now e 0)) (length c.args.d.now)) (long-here)
     ∙ sym (bit-bucket-z (x_lent (c.args.n) c.args.triples.now (ts c.args.d.now)) (length c.args.d.now) (z_lent (c.args.n) c.args.triples.now (ts c.args.d.now)) (λ e. odd (get_or c.args.d.now e 0))) in
     lined-end (c.args.n) (c.args.i) (X c.args.n c.args.triples.now c.args.d.now) (Z c.args.n c.args.triples.now c.args.d.now) (Y c.args.n c.args.i c.args.triples.now) (y-long-here) c.loop-k.invariant.1 (2 * (c.lent_len-len.result)) (twice-here)

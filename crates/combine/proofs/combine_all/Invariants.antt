@@ -6,7 +6,7 @@ use lib.Seq.{length-take-le}
 use Rattle.lists.specs.Over.{length-take-drop}
 use Rattle.lists.specs.Sect.{put, get-rest}
 use Rattle.algebra.specs.Group.{bits, odd}
-use Rattle.algebra.specs.Bucket.{bucketX, bucketZ}
+use Rattle.algebra.specs.Bucket.{bucket_x, bucket_z}
 use Rattle.share.specs.Layout.{entry-within}
 use Rattle.share.specs.Record.{record_len, bit_at}
 use Rattle.share.specs.Share.{Share, share_at, shares}
@@ -24,10 +24,10 @@ abbrev pub ts : List ℕ → List ℕ
 ts d = take (length d + 1) x_places
 
 abbrev pub X : ℕ → List ℕ → List ℕ → Share
-X n s d = bucketX shares (x_lent n s (ts d)) (length d)
+X n s d = bucket_x shares (x_lent n s (ts d)) (length d)
 
 abbrev pub Z : ℕ → List ℕ → List ℕ → Share
-Z n s d = bucketZ shares (x_lent n s (ts d)) (z_lent n s (ts d)) (λ e. odd (get_or d e 0)) (length d)
+Z n s d = bucket_z shares (x_lent n s (ts d)) (z_lent n s (ts d)) (λ e. odd (get_or d e 0)) (length d)
 
 abbrev pub Y : ℕ → ℕ → List ℕ → List ℕ
 Y n i s = lent_of n i (triple n s 0).ty

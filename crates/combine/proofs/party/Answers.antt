@@ -3,7 +3,7 @@ use Rattle.lists.specs.Kit.{sym, subst, List, ℕ, ◌-◌, ◌≤◌, arith, le
 use lib.ListN.{length-drop}
 use Rattle.lists.specs.Sect.{get-rest}
 use Rattle.algebra.specs.Group.{odd}
-use Rattle.algebra.specs.Bucket.{bucketX, bucketZ}
+use Rattle.algebra.specs.Bucket.{bucket_x, bucket_z}
 use Rattle.share.specs.Layout.{record-some}
 use Rattle.share.specs.Share.{shares}
 use Rattle.share.specs.Lent.{LABEL, lent_len}
@@ -35,8 +35,8 @@ returns c =
     let ts : List ℕ = c.args.ts.now in
     let d : List ℕ = c.args.d.now in
     let Sum : ℕ → List ℕ → Type 0 = λ m l.
-    Summed c.args.k (bucketX shares (x_among m l ts) (length d))
-    (bucketZ shares (x_among m l ts) (z_among m l ts 2) (λ e. odd (get_or d e 0)) (length d)) c.sum_entries.result in
+    Summed c.args.k (bucket_x shares (x_among m l ts) (length d))
+    (bucket_z shares (x_among m l ts) (z_among m l ts 2) (λ e. odd (get_or d e 0)) (length d)) c.sum_entries.result in
     entries-other c.args.i c.args.k _ _ c.sum_entries.result (λ e. c.if-k-i.false (sym e))
     (summed-lent c.args.n c.args.triples.now ts (λ e. odd (get_or d e 0)) (length d) c.args.k c.sum_entries.result
     (subst (Sum (lent_len c.args.n)) (get-rest LABEL c.args.triples.now)

@@ -54,8 +54,8 @@ bit_in c =
     ) in
     omega (arith, inside-here, c.loop-e-test.true)
 
-mac-in : (c : In-loop-e) → c.bucket_at-bits.result + 8 + (c.later-due.result) + 8 + c.loop-e.e * 16 + 16 ≤ length c.args.m.now
-mac-in c =
+mac_in_lem : (c : In-loop-e) → c.bucket_at-bits.result + 8 + (c.later-due.result) + 8 + c.loop-e.e * 16 + 16 ≤ length c.args.m.now
+mac_in_lem c =
     let inside-here : c.bucket_at-bits.result + (16 + (c.later-due.result) * 17) ≤ length c.args.m.now = omega (
       arith,
       bucket-in c.args.f c.args.m.now c.requires.j_lt_l.2 c.args.j
@@ -76,10 +76,10 @@ pub overflow_add-bits-in-loop-e : goal.overflow_add-bits-in-loop-e
 overflow_add-bits-in-loop-e c = omega (arith, bit_in (goal.at.overflow_add-bits-in-loop-e c).In-loop-e, c.well_formed)
 
 pub overflow_mul-e : goal.overflow_mul-e
-overflow_mul-e c = omega (arith, mac-in (goal.at.overflow_mul-e c).In-loop-e, c.well_formed)
+overflow_mul-e c = omega (arith, mac_in_lem (goal.at.overflow_mul-e c).In-loop-e, c.well_formed)
 
 pub overflow_add-macs-in-loop-e : goal.overflow_add-macs-in-loop-e
-overflow_add-macs-in-loop-e c = omega (arith, mac-in (goal.at.overflow_add-macs-in-loop-e c).In-loop-e, c.well_formed)
+overflow_add-macs-in-loop-e c = omega (arith, mac_in_lem (goal.at.overflow_add-macs-in-loop-e c).In-loop-e, c.well_formed)
 
 inside-1 : (c : After-y_at-next) → c.y_at-next.result + record_len c.args.f.n ≤ length c.args.recs.now
 inside-1 c =
@@ -88,7 +88,7 @@ inside-1 c =
 pub mac_holds-ok-requires : goal.mac_holds-ok-requires
 mac_holds-ok-requires c =
     record {
-      bit_at_in_bounds = (bit_in (goal.at.mac_holds-ok-requires c).In-loop-e, mac-in (goal.at.mac_holds-ok-requires c).In-loop-e);
+      bit_at_in_bounds = (bit_in (goal.at.mac_holds-ok-requires c).In-loop-e, mac_in_lem (goal.at.mac_holds-ok-requires c).In-loop-e);
       k_bound = (
         omega (arith, c.requires.j_lt_l, c.requires.ranged.range.eight),
         omega (arith, inside-0 (goal.at.mac_holds-ok-requires c).In-loop-e, record-within c.args.f.n c.args.k c.requires.j_lt_l.1),

@@ -4,7 +4,7 @@ use Rattle.lists.specs.Rows.{chunk}
 use Rattle.lists.specs.Same.{same?}
 use Rattle.block.specs.Block.{eq_block}
 use Rattle.message.specs.declared.Kind.TheVariants.{Options}
-use Rattle.message.specs.FormatLaws.{formed}
+use Rattle.message.proofs.FormLaws.{formed}
 use Rattle.rounds.specs.Echo.{entry_fault}
 use Rattle.rounds.specs.EchoLaws.{option-at, same_block, entry_absent, entry-there}
 use Rattle.echo.proofs.entry_fault.Goals as goal

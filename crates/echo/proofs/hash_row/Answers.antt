@@ -2,7 +2,8 @@ use Rattle.lists.specs.Kit.{sym, ap, ◌∙◌, arith, length, replicate, rules}
 use Rattle.lists.specs.Pick.{pick}
 use Rattle.algebra.specs.Sum.{neq-true}
 use Rattle.block.specs.Block.{bytes_of}
-use Rattle.message.specs.FormatLaws.{decoded, formed}
+use Rattle.message.specs.FormatLaws.{decoded}
+use Rattle.message.proofs.FormLaws.{formed}
 use Rattle.plan.specs.Plan.{kind_of, count_due}
 use Rattle.rounds.specs.Mail.{letter}
 use Rattle.rounds.specs.MailLaws.{neq-same, letter-fits}

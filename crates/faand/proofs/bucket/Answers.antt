@@ -5,7 +5,7 @@ use Rattle.engine.specs.Area.{off}
 use Rattle.rounds.specs.Area.{BITS, PERM, TRIPLES, ALPHA, BETA, size_of, at}
 use Rattle.area.specs.GivenLaws.{length_at, place_at, place-fits}
 use Rattle.area.specs.Sizes.{size-perm}
-use Rattle.buckets.specs.Entries.{yAt, first-in}
+use Rattle.buckets.specs.Entries.{y_at, first-in}
 use Rattle.faand.specs.declared.Records.{Records}
 use Rattle.faand.specs.Given.{Reads, reads}
 use Rattle.faand.proofs.bucket.Goals as goal
@@ -16,14 +16,14 @@ use Rattle.faand.proofs.bucket.Goals.{After-y_at, Start}
 there : (c : Start) → Reads (c.args.f) c.args.work.now (c.args.j) (record {
   a = off (size_of (c.args.f)) TRIPLES + (c.args.j) * (2 * record_len (c.args.f).n);
   c = off (size_of (c.args.f)) TRIPLES + ((c.args.j) * (2 * record_len (c.args.f).n) + record_len (c.args.f).n);
-  b = off (size_of (c.args.f)) BITS + yAt (c.args.f) (at (c.args.f) PERM c.args.work.now) (c.args.j) 0;
+  b = off (size_of (c.args.f)) BITS + y_at (c.args.f) (at (c.args.f) PERM c.args.work.now) (c.args.j) 0;
   alpha = off (size_of (c.args.f)) ALPHA + (c.args.j) * record_len (c.args.f).n;
   beta = off (size_of (c.args.f)) BETA + (c.args.j) * record_len (c.args.f).n;
 })
 there c = reads c.requires.0 (c.args.j) c.requires.1 (record {
   a = off (size_of (c.args.f)) TRIPLES + (c.args.j) * (2 * record_len (c.args.f).n);
   c = off (size_of (c.args.f)) TRIPLES + ((c.args.j) * (2 * record_len (c.args.f).n) + record_len (c.args.f).n);
-  b = off (size_of (c.args.f)) BITS + yAt (c.args.f) (at (c.args.f) PERM c.args.work.now) (c.args.j) 0;
+  b = off (size_of (c.args.f)) BITS + y_at (c.args.f) (at (c.args.f) PERM c.args.work.now) (c.args.j) 0;
   alpha = off (size_of (c.args.f)) ALPHA + (c.args.j) * record_len (c.args.f).n;
   beta = off (size_of (c.args.f)) BETA + (c.args.j) * record_len (c.args.f).n;
 }) (record { a = refl; c = refl; b = refl; alpha = refl; beta = refl })
@@ -36,8 +36,8 @@ len_is c = c.record_len-len.ensures
 perm_is : (c : After-y_at) → c.lent-perm.result.now ≡ at (c.args.f) PERM c.args.work.now
 perm_is c = c.lent-perm.ensures ∙ place_at (c.args.f) PERM _ _ c.requires.2.perm c.args.work.now
 
-y-is : (c : After-y_at) → c.y_at.result ≡ yAt (c.args.f) (at (c.args.f) PERM c.args.work.now) (c.args.j) 0
-y-is c = c.y_at.ensures ∙ ap (λ (p : List ℕ). yAt (c.args.f) p (c.args.j) 0) (perm_is c)
+y-is : (c : After-y_at) → c.y_at.result ≡ y_at (c.args.f) (at (c.args.f) PERM c.args.work.now) (c.args.j) 0
+y-is c = c.y_at.ensures ∙ ap (λ (p : List ℕ). y_at (c.args.f) p (c.args.j) 0) (perm_is c)
 
 row : (c : After-y_at) → (c.args.j) * (2 * (c.record_len-len.result)) ≡ (c.args.j) * (2 * record_len (c.args.f).n)
 row c = ap (λ m. (c.args.j) * (2 * m)) (len_is c)

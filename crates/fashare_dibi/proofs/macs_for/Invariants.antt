@@ -5,11 +5,11 @@ use Rattle.block.specs.Group.{blocks}
 use Rattle.share.specs.Record.{mac_at}
 use Rattle.rounds.specs.Loops.{others-none, others-turn}
 use Rattle.fashare_comm.specs.Laws.{entry_in}
-use Rattle.fashare_dibi.specs.Laws.{macIn, macs-is}
+use Rattle.fashare_dibi.specs.Laws.{mac_in, macs-is}
 use Rattle.fashare_dibi.proofs.macs_for.Given as goal
 
 abbrev pub invariant-loop-j : goal.invariant-loop-j
-invariant-loop-j l = (l.j ≤ l.n) × (l.sum.0 ≡ others blocks l.f.i l.j (macIn l.f l.recs l.dms l.q l.k))
+invariant-loop-j l = (l.j ≤ l.n) × (l.sum.0 ≡ others blocks l.f.i l.j (mac_in l.f l.recs l.dms l.q l.k))
 
 abbrev pub decreases-loop-j : goal.decreases-loop-j
 decreases-loop-j l = l.n - l.j

@@ -3,7 +3,7 @@ use Rattle.rounds.specs.Area.{SHARE_COMMS}
 use Rattle.rounds.specs.Mail.{letter}
 use Rattle.area.specs.GivenLaws.{lent_length}
 use Rattle.area.specs.Sizes.{size-share-comms}
-use Rattle.fashare_third.specs.Laws.{thirdAt, Lowest, lowest-none, lowest-new, lowest-old, lowest-found, lowest-clean}
+use Rattle.fashare_third.specs.Laws.{third_at, Lowest, lowest-none, lowest-new, lowest-old, lowest-found, lowest-clean}
 use Rattle.fashare_third.proofs.judge.Goals as goal
 use Rattle.fashare_third.proofs.judge.Goals.{then-q-first, else-q-first}
 

@@ -5,11 +5,11 @@ use Rattle.rounds.specs.Area.{SHARE_COMMS}
 use Rattle.rounds.specs.Mail.{letter}
 use Rattle.area.specs.GivenLaws.{lent_length}
 use Rattle.area.specs.Sizes.{size-share-comms}
-use Rattle.fashare_third.specs.Laws.{thirdAt, Lowest, lowest-none, lowest-new, lowest-old, lowest-found, lowest-clean}
+use Rattle.fashare_third.specs.Laws.{third_at, Lowest, lowest-none, lowest-new, lowest-old, lowest-found, lowest-clean}
 use Rattle.fashare_third.proofs.judge.Given as goal
 
 abbrev pub invariant-loop-k : goal.invariant-loop-k
-invariant-loop-k l = (l.k ≤ l.n) × Lowest (thirdAt l.f l.comms (letter l.incoming l.mail)) l.k l.first l.party
+invariant-loop-k l = (l.k ≤ l.n) × Lowest (third_at l.f l.comms (letter l.incoming l.mail)) l.k l.first l.party
 
 abbrev pub decreases-loop-k : goal.decreases-loop-k
 decreases-loop-k l = l.n - l.k

@@ -12,11 +12,11 @@ use Rattle.fashare_comm.specs.Laws.{dm-most}
 use Rattle.fashare_ver_recv.proofs.keep.Given as goal
 
 -- the bytes of a row
-abbrev pub rowLen : Frame → ℕ
-rowLen f = STRINGS * dm_len f.n
+abbrev pub row_len : Frame → ℕ
+row_len f = STRINGS * dm_len f.n
 
 abbrev pub invariant-loop-k : goal.invariant-loop-k
-invariant-loop-k l = (l.k ≤ l.n) × Filled l.f DMS (rowLen l.f) (row_of l.f.i (rowLen l.f) (λ k'. dms_of l.f.n (letter l.incoming l.mail k'))) l.k l.initial.work l.work
+invariant-loop-k l = (l.k ≤ l.n) × Filled l.f DMS (row_len l.f) (row_of l.f.i (row_len l.f) (λ k'. dms_of l.f.n (letter l.incoming l.mail k'))) l.k l.initial.work l.work
 
 abbrev pub decreases-loop-k : goal.decreases-loop-k
 decreases-loop-k l = l.n - l.k

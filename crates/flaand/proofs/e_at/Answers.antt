@@ -5,14 +5,14 @@ use Rattle.share.specs.Record.{bit_at}
 use Rattle.share.specs.Share.{share_at}
 use Rattle.rounds.specs.Haand as R
 use Rattle.rounds.specs.Flaand as F
-use Rattle.flaand.specs.KeptLaws.{r-at-in, z-in}
+use Rattle.flaand.specs.KeptLaws.{r-at-in, z_in_lem}
 use Rattle.flaand.proofs.e_at.Goals as goal
 
 pub overflow_mul-t : goal.overflow_mul-t
-overflow_mul-t c = omega (arith, z-in c.requires.0 c.args.t c.requires.1)
+overflow_mul-t c = omega (arith, z_in_lem c.requires.0 c.args.t c.requires.1)
 
 pub bit-requires : goal.bit-requires
-bit-requires c = omega (arith, z-in c.requires.0 c.args.t c.requires.1)
+bit-requires c = omega (arith, z_in_lem c.requires.0 c.args.t c.requires.1)
 
 pub r_at-requires : goal.r_at-requires
 r_at-requires c =

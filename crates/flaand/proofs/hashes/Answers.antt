@@ -5,7 +5,7 @@ use Rattle.block.specs.Group.{blocks}
 use Rattle.rounds.specs.Area.{leaky_len}
 use Rattle.rounds.specs.Haand as R
 use Rattle.flaand.specs.HLaws.{hashes_at}
-use Rattle.flaand.specs.KeptLaws.{row_in, z-in}
+use Rattle.flaand.specs.KeptLaws.{row_in, z_in_lem}
 use Rattle.flaand.proofs.hashes.Goals as goal
 use Rattle.flaand.proofs.hashes.Goals.{After-leaky_at, After-load-key_hash}
 
@@ -24,17 +24,17 @@ pub load-key_hash-requires : goal.load-key_hash-requires
 load-key_hash-requires c = read-in (goal.at.load-key_hash-requires c).After-leaky_at
 
 -- the row of ZS
-z-at : (c : After-load-key_hash) → c.args.t * 17 + 1 + 16 ≤ length c.args.zs.now
-z-at c = omega (arith, z-in c.requires.0 c.args.t c.requires.1)
+z_at_lem : (c : After-load-key_hash) → c.args.t * 17 + 1 + 16 ≤ length c.args.zs.now
+z_at_lem c = omega (arith, z_in_lem c.requires.0 c.args.t c.requires.1)
 
 pub overflow_mul-t : goal.overflow_mul-t
-overflow_mul-t c = omega (arith, z-at (goal.at.overflow_mul-t c).After-load-key_hash)
+overflow_mul-t c = omega (arith, z_at_lem (goal.at.overflow_mul-t c).After-load-key_hash)
 
 pub overflow_add-t : goal.overflow_add-t
-overflow_add-t c = omega (arith, z-at (goal.at.overflow_add-t c).After-load-key_hash)
+overflow_add-t c = omega (arith, z_at_lem (goal.at.overflow_add-t c).After-load-key_hash)
 
 pub load-requires : goal.load-requires
-load-requires c = z-at (goal.at.load-requires c).After-load-key_hash
+load-requires c = z_at_lem (goal.at.load-requires c).After-load-key_hash
 
 pub returns : goal.returns
 unfolding hashes_at R.key_hash R.mac_hash

@@ -14,11 +14,11 @@ use Rattle.area.specs.Filled.{Filled, filled_none, filled-work, filled-other, fi
 use Rattle.flaand.proofs.keep_hs.Given as goal
 
 -- h of position t, from the sections of w
-abbrev pub hOf : Frame → List ℕ → (ℕ → List ℕ) → ℕ → Block
-hOf f w m t = F.h f (Table.delta f w) (at f BITS w) (at f LEAKY w) (at f ZS w) m t
+abbrev pub h_of : Frame → List ℕ → (ℕ → List ℕ) → ℕ → Block
+h_of f w m t = F.h f (Table.delta f w) (at f BITS w) (at f LEAKY w) (at f ZS w) m t
 
 abbrev pub invariant-loop-t : goal.invariant-loop-t
-invariant-loop-t l = (l.t ≤ leaky l.f.l) × Filled l.f HS 16 (λ t'. bytes_of (hOf l.f l.initial.work (letter l.incoming l.mail) t')) l.t l.initial.work l.work
+invariant-loop-t l = (l.t ≤ leaky l.f.l) × Filled l.f HS 16 (λ t'. bytes_of (h_of l.f l.initial.work (letter l.incoming l.mail) t')) l.t l.initial.work l.work
 
 abbrev pub decreases-loop-t : goal.decreases-loop-t
 decreases-loop-t l = leaky l.f.l - l.t

@@ -20,15 +20,15 @@ load-phi-requires c =
     rw c.leaky_at.ensures (omega (arith, in-chunks c.args.t (leaky c.args.f.l) (leaky_len c.args.f.n) c.requires.in_range.1, c.requires.in_range.2))
 
 -- the row of ZS
-z-in : (c : After-load-phi) → c.args.t * 17 + 17 ≤ length c.args.zs.now
-z-in c =
+z_in_lem : (c : After-load-phi) → c.args.t * 17 + 17 ≤ length c.args.zs.now
+z_in_lem c =
     omega (arith, in-chunks c.args.t (leaky c.args.f.l) 17 c.requires.in_range.1, c.requires.in_range.3)
 
 pub overflow_mul-t : goal.overflow_mul-t
-overflow_mul-t c = omega (arith, z-in (goal.at.overflow_mul-t c).After-load-phi)
+overflow_mul-t c = omega (arith, z_in_lem (goal.at.overflow_mul-t c).After-load-phi)
 
 pub bit-z-requires : goal.bit-z-requires
-bit-z-requires c = omega (arith, z-in (goal.at.bit-z-requires c).After-load-phi)
+bit-z-requires c = omega (arith, z_in_lem (goal.at.bit-z-requires c).After-load-phi)
 
 pub returns : goal.returns
 unfolding masked_at R.phi_at R.z_at

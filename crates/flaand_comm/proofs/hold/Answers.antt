@@ -7,7 +7,7 @@ use Rattle.lists.specs.Sect.{put}
 use Rattle.block.specs.Block.{block_at, bytes_of}
 use Rattle.blake3.specs.ByteLaws.{length-hash}
 use Rattle.plan.specs.PlanLaws.{leaky-most}
-use Rattle.engine.specs.Area.{off, putSec}
+use Rattle.engine.specs.Area.{off, put_sec}
 use Rattle.rounds.specs.Loops.{Keeping, keeping_none, keeping-more, keeping-end, keeping-other}
 use Rattle.flaand_comm.specs.AreaLaws.{copied, copied-length, copied-same, cut, cut-whole, item, window-is}
 use Rattle.flaand_comm.specs.AreaLaws.{own-inside, behind, own-kept}
@@ -200,7 +200,7 @@ pub shape_of-work : goal.shape_of-work
 shape_of-work c = c.loop-t.invariant.2.same
 
 pub returns : goal.returns
-unfolding off putSec
+unfolding off put_sec
 returns c =
     let g : ℕ → List ℕ = item (c.section_at-hs.result) c.args.work.now in
     let e : c.loop-t.t ≡ (c.leaky-count.result) = omega arith in

@@ -3,7 +3,7 @@ use Rattle.engine.specs.Step.{Lent, scan}
 use Rattle.engine.specs.StepLaws.{scan-turn}
 use Rattle.rounds.specs.FaultLaws.{fault_at, clean-zero, finds-first, finds-none}
 use Rattle.admit.specs.Admit.{kind_fault, posted}
-use Rattle.admit.specs.AdmitLaws.{parts-fit, form-found}
+use Rattle.admit.proofs.AdmitLaws.{parts-fit, form-found}
 use Rattle.form.proofs.form.Goals as goal
 
 -- what is looked at, and the fault of each party

@@ -4,7 +4,7 @@ use Rattle.engine.specs.Step.{Lent, scan}
 use Rattle.engine.specs.StepLaws.{scan-turn}
 use Rattle.rounds.specs.FaultLaws.{fault_at, clean-zero, finds-first, finds-none}
 use Rattle.admit.specs.Admit.{kind_fault, posted}
-use Rattle.admit.specs.AdmitLaws.{parts-fit, form-found}
+use Rattle.admit.proofs.AdmitLaws.{parts-fit, form-found}
 use Rattle.form.proofs.form.Given as goal
 
 abbrev pub invariant-loop-j : goal.invariant-loop-j

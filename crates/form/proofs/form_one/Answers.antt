@@ -5,7 +5,7 @@ use Rattle.engine.specs.Step.{Lent}
 use Rattle.rounds.specs.Mail as Mail
 use Rattle.rounds.specs.FaultLaws.{fault-own, fault-other}
 use Rattle.admit.specs.Admit.{kind_fault, posted}
-use Rattle.admit.specs.AdmitLaws.{fits-inside, fault-gone, fault-there}
+use Rattle.admit.proofs.AdmitLaws.{fits-inside, fault-gone, fault-there}
 use Rattle.form.proofs.form_one.Goals as goal
 
 pub returns-then-k-i : goal.returns-then-k-i

@@ -2,7 +2,7 @@
 use Rattle.lists.specs.Kit.{◌≡◌, refl, ap₂, List, ℕ, ◌-◌, ◌<◌, ◌≤◌, arith, get_or, rules}
 use Rattle.rounds.specs.declared.Mail.{Mail}
 use Rattle.admit.specs.Admit.{eight, mail_of}
-use Rattle.admit.specs.AdmitLaws.{eight-none, eight-turn, eight-end}
+use Rattle.admit.proofs.AdmitLaws.{eight-none, eight-turn, eight-end}
 use Rattle.form.proofs.mail_of.Given as goal
 
 abbrev pub invariant-loop-j : goal.invariant-loop-j

@@ -7,7 +7,7 @@ use Rattle.share.specs.Record.{record_len}
 use Rattle.plan.specs.Plan.{leaky}
 use Rattle.engine.specs.Area.{to_others, length-to_others}
 use Rattle.rounds.specs.Loops.{lent-part}
-use Rattle.area.specs.Positions.{position-most, x-in}
+use Rattle.area.specs.Positions.{position-most, x_in_lem}
 use Rattle.haand_hash.specs.Window.{part_of}
 use Rattle.haand_hash.proofs.gather.Goals as goal
 use Rattle.haand_hash.proofs.gather.Goals.{In-loop-p, Start}
@@ -48,7 +48,7 @@ put_parts-requires c =
         omega (arith, c.requires.positions.ranges.own),
         (c.requires.positions.ranges.range.eight, lent-part ((c.loop-p.p) * ((c.args.f.n - 1) * 16)) ((c.args.f.n - 1) * 16) ((c.args.f.n - 1) * 16) c.loop-p.out refl (part_in (goal.at.put_parts-requires c).In-loop-p)),
       );
-      n_in_bounds = omega (arith, x-in c.args.f c.args.recs.now c.requires.positions.records (c.args.t + (c.loop-p.p)) (below (goal.at.put_parts-requires c).In-loop-p), c.x_at.ensures);
+      n_in_bounds = omega (arith, x_in_lem c.args.f c.args.recs.now c.requires.positions.records (c.args.t + (c.loop-p.p)) (below (goal.at.put_parts-requires c).In-loop-p), c.x_at.ensures);
     }
 
 pub loop-p-preserved : goal.loop-p-preserved

@@ -8,7 +8,7 @@ use Rattle.share.specs.Record.{record_len}
 use Rattle.plan.specs.Plan.{leaky}
 use Rattle.engine.specs.Area.{to_others, length-to_others}
 use Rattle.rounds.specs.Loops.{lent-part}
-use Rattle.area.specs.Positions.{position-most, x-in}
+use Rattle.area.specs.Positions.{position-most, x_in_lem}
 use Rattle.haand_hash.specs.Window.{part_of}
 use Rattle.haand_hash.proofs.gather.Given as goal
 

@@ -7,13 +7,13 @@ use Rattle.share.specs.Share.{share_at}
 use Rattle.rounds.specs.Mail.{letter}
 use Rattle.rounds.specs.Loops.{others-none, others-turn}
 use Rattle.rounds.specs.Haand as R
-use Rattle.area.specs.Positions.{x-in, y-in}
+use Rattle.area.specs.Positions.{x_in_lem, y-in}
 use Rattle.haand_recv.specs.Received as Got
 use Rattle.haand_recv.proofs.told.Goals as goal
 
 pub bit_at-x-requires : goal.bit_at-x-requires
 bit_at-x-requires c =
-    let e = x-in c.args.f c.args.recs.now c.requires.asked.records c.args.t c.requires.asked.below in
+    let e = x_in_lem c.args.f c.args.recs.now c.requires.asked.records c.args.t c.requires.asked.below in
     omega (arith, e, c.x_at.ensures, record-some c.args.f.n)
 
 pub bit_at-y-requires : goal.bit_at-y-requires

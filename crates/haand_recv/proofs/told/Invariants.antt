@@ -8,7 +8,7 @@ use Rattle.share.specs.Share.{share_at}
 use Rattle.rounds.specs.Mail.{letter}
 use Rattle.rounds.specs.Loops.{others-none, others-turn}
 use Rattle.rounds.specs.Haand as R
-use Rattle.area.specs.Positions.{x-in, y-in}
+use Rattle.area.specs.Positions.{x_in_lem, y-in}
 use Rattle.haand_recv.specs.Received as Got
 use Rattle.haand_recv.proofs.told.Given as goal
 

@@ -8,7 +8,7 @@ use Rattle.plan.specs.Plan.{leaky}
 use Rattle.rounds.specs.Loops.{sel-own, sel-other}
 use Rattle.rounds.specs.MailLaws.{letter-fits, letter-long}
 use Rattle.rounds.specs.Haand as R
-use Rattle.area.specs.Positions.{position-most, x-in}
+use Rattle.area.specs.Positions.{position-most, x_in_lem}
 use Rattle.haand_recv.specs.Received.{received, told_by}
 use Rattle.haand_recv.proofs.told_by.Goals as goal
 
@@ -21,7 +21,7 @@ letter-m-requires c =
 
 pub bit_at-x-requires : goal.bit_at-x-requires
 bit_at-x-requires c =
-    let e = x-in c.args.f c.args.recs.now c.requires.asked.0.records c.args.t c.requires.asked.0.below in
+    let e = x_in_lem c.args.f c.args.recs.now c.requires.asked.0.records c.args.t c.requires.asked.0.below in
     omega (arith, e, c.x_at.ensures, record-some c.args.f.n)
 
 pub received-requires : goal.received-requires

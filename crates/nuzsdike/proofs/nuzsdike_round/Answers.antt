@@ -1,7 +1,7 @@
 use Rattle.lists.specs.Kit.{sym, ap, subst, ◌∙◌, ◌≤◌, rules}
 use Rattle.engine.specs.declared.Session.{Session}
 use Rattle.engine.specs.Step.{Lent, Reply, reply_of, Outcome, round_spec}
-use Rattle.engine.specs.Plain.{protocolOf}
+use Rattle.engine.specs.Plain.{protocol_of}
 use Rattle.rounds.specs.Table.{table}
 use Rattle.admit.specs.Admit.{given}
 use Rattle.interface.specs.Interface.{NO_PARTY}
@@ -46,6 +46,6 @@ returns c =
       answer-is = c.answer.ensures;
       session-is = c.store.ensures;
       told_is = c.tell.ensures;
-      call-is = c.round-step.ensures ∙ ap (λ (x : Session). round_spec (protocolOf table) x c.args.round (given c.args.incoming.now c.args.starts.now c.args.lens.now c.args.missing.now c.args.r.now
+      call-is = c.round-step.ensures ∙ ap (λ (x : Session). round_spec (protocol_of table) x c.args.round (given c.args.incoming.now c.args.starts.now c.args.lens.now c.args.missing.now c.args.r.now
           c.args.out.now) c.args.work.now) c.load-s.ensures.0;
     })

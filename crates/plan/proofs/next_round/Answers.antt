@@ -1,12 +1,12 @@
 -- `plan::next_round` meets its contract.
 use Rattle.lists.specs.Kit.{arith, rules}
 use Rattle.lists.specs.Pick.{tests}
-use Rattle.engine.specs.Order.{nextIn}
+use Rattle.engine.specs.Order.{next_in}
 use Rattle.plan.specs.PlanLaws.{next-skips, next-on}
 use Rattle.plan.proofs.next_round.Goals as goal
 
 pub returns-then-k-ge-FAAND : goal.returns-then-k-ge-FAAND
-unfolding nextIn
+unfolding next_in
 returns-then-k-ge-FAAND c = search (arith, tests)
 
 pub returns-then-n-is_echo : goal.returns-then-n-is_echo

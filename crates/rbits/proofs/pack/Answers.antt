@@ -1,7 +1,7 @@
 use Rattle.lists.specs.Kit.{◌≡◌, refl, ap, ◌∙◌, ◌+◌, ◌-◌, ◌*◌, ◌≤◌, arith, rules}
 use Prim.Native.Nat.{◌%◌, ◌^◌}
 use Rattle.rbits.specs.Tables.{record_bit, packed}
-use Rattle.rbits.specs.BitLaws.{packed-fits, packed-turn}
+use Rattle.rbits.proofs.BitLaws.{packed-fits, packed-turn}
 use Rattle.rbits.proofs.pack.Goals as goal
 use Rattle.rbits.proofs.pack.Goals.{After-digit}
 

@@ -2,7 +2,7 @@
 use Rattle.lists.specs.Kit.{◌≡◌, refl, ap, ◌∙◌, ◌+◌, ◌-◌, ◌*◌, ◌≤◌, arith, rules}
 use Prim.Native.Nat.{◌%◌, ◌^◌}
 use Rattle.rbits.specs.Tables.{record_bit, packed}
-use Rattle.rbits.specs.BitLaws.{packed-fits, packed-turn}
+use Rattle.rbits.proofs.BitLaws.{packed-fits, packed-turn}
 use Rattle.rbits.proofs.pack.Given as goal
 
 abbrev pub invariant-loop-e : goal.invariant-loop-e

@@ -2,7 +2,7 @@ use Rattle.lists.specs.Kit.{◌≡◌, refl, sym, subst, ◌∙◌, List, ℕ, r
 use Rattle.engine.specs.Step.{mask}
 use Rattle.rounds.specs.Mail.{letter}
 use Rattle.rounds.specs.FaultLaws.{Finds}
-use Rattle.admit.specs.AdmitLaws.{round-one, round-low}
+use Rattle.admit.proofs.AdmitLaws.{round-one, round-low}
 use Rattle.session.specs.SessionLaws.{echo-received, check-echo, check-held, check-plain}
 use Rattle.session.proofs.content.Goals as goal
 

@@ -2,7 +2,7 @@ use Rattle.lists.specs.Kit.{◌≡◌, sym, ◌∙◌, rules}
 use Rattle.engine.specs.Step.{part, fault_of}
 use Rattle.rounds.specs.Mail.{letter}
 use Rattle.rounds.specs.FaultLaws.{finds-one, finds-two}
-use Rattle.admit.specs.AdmitLaws.{received}
+use Rattle.admit.proofs.AdmitLaws.{received}
 use Rattle.session.proofs.fault.Goals as goal
 
 pub returns-then-first-ne0 : goal.returns-then-first-ne0

@@ -1,13 +1,13 @@
 use Rattle.lists.specs.Kit.{◌≡◌, sym, ap, subst, ◌∙◌, true, arith, rules}
 use Rattle.engine.specs.Step.{Lent, reply_of, mask, part, parts_in, fault_of}
 use Rattle.engine.specs.StepLaws.{or-zero}
-use Rattle.engine.specs.Plain.{ruleOf}
+use Rattle.engine.specs.Plain.{rule_of}
 use Rattle.rounds.specs.declared.Mail.{Mail}
 use Rattle.rounds.specs.Mail.{letter}
 use Rattle.rounds.specs.FaultLaws.{Finds}
 use Rattle.rounds.specs.Table.{table}
 use Rattle.admit.specs.Admit.{given, posted}
-use Rattle.admit.specs.AdmitLaws.{Admitted, received, letters-are, parts-posted, fault-posted, alive-total, reason-zero}
+use Rattle.admit.proofs.AdmitLaws.{Admitted, received, letters-are, parts-posted, fault-posted, alive-total, reason-zero}
 use Rattle.session.specs.CallLaws.{call-refused, call-faulted, call-accepted}
 use Rattle.session.proofs.round.Goals as goal
 use Rattle.session.proofs.round.Goals.{After-fault-e, After-mail_of-mail, Else-code-ne0}
@@ -51,11 +51,11 @@ fault-e-requires c =
 
 -- ---- what is found by the mail is what the definition says
 found : (c : After-fault-e) → Finds c.fault-e.result.code c.fault-e.result.party
-    (fault_of (ruleOf table c.args.k) c.args.s.party (given c.args.incoming.now c.args.starts.now c.args.lens.now c.args.missing.now c.args.r.now
+    (fault_of (rule_of table c.args.k) c.args.s.party (given c.args.incoming.now c.args.starts.now c.args.lens.now c.args.missing.now c.args.r.now
     c.args.out.now) c.args.work.now)
 found c =
     subst (Finds c.fault-e.result.code c.fault-e.result.party)
-    (ap (λ (m : Mail). fault_of (ruleOf table c.args.k) c.args.s.party (posted c.args.incoming.now m c.args.missing.now) c.args.work.now) c.mail_of-mail.ensures
+    (ap (λ (m : Mail). fault_of (rule_of table c.args.k) c.args.s.party (posted c.args.incoming.now m c.args.missing.now) c.args.work.now) c.mail_of-mail.ensures
     ∙ fault-posted c.args.s.party c.args.incoming.now c.args.starts.now c.args.lens.now c.args.missing.now c.args.r.now c.args.out.now
     c.args.k c.args.work.now)
     c.fault-e.ensures

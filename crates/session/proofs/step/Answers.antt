@@ -6,7 +6,7 @@ use Rattle.rounds.specs.Mail.{letter}
 use Rattle.rounds.specs.Echo.{echo_msg}
 use Rattle.rounds.specs.Table as Table
 use Rattle.admit.specs.Admit.{loan}
-use Rattle.admit.specs.AdmitLaws.{round-low}
+use Rattle.admit.proofs.AdmitLaws.{round-low}
 use Rattle.plain.specs.Plain.{plain}
 use Rattle.plain.specs.SendLaws.{plain-round}
 use Rattle.session.specs.Given.{Let}

@@ -1,7 +1,7 @@
 use Rattle.lists.specs.Kit.{◌-◌, arith, rules}
 use borrow.Author.Tests.{ltb-true, ltb-false}
 use Rattle.shuffle.specs.Turns.{Taken}
-use Rattle.shuffle.specs.TurnLaws.{taken-zero, taken-turn, taken-all, taken-end}
+use Rattle.shuffle.proofs.TurnLaws.{taken-zero, taken-turn, taken-all, taken-end}
 use Rattle.shuffle.proofs.block.Goals as goal
 
 pub loop-q-init : goal.loop-q-init

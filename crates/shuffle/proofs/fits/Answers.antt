@@ -1,6 +1,6 @@
 use native.Mathlib.Nat.{mod-le}
 use Rattle.lists.specs.Kit.{rules}
-use Rattle.shuffle.specs.TurnLaws.{fits-is}
+use Rattle.shuffle.proofs.TurnLaws.{fits-is}
 use Rattle.shuffle.proofs.fits.Goals as goal
 
 pub overflow_sub-result : goal.overflow_sub-result

@@ -2,7 +2,7 @@ use Rattle.lists.specs.Kit.{ap, ◌∙◌, ◌+◌, ◌-◌, ◌*◌, ◌≤◌,
 use Rattle.lists.specs.Over.{Written, written-zero, written-turn, written-end, length-take-drop}
 use Rattle.word.specs.Word.{le4}
 use Rattle.word.specs.WordLaws.{length-le4}
-use Rattle.shuffle.specs.TurnLaws.{started}
+use Rattle.shuffle.proofs.TurnLaws.{started}
 use Rattle.shuffle.proofs.start.Goals as goal
 
 pub loop-t-init : goal.loop-t-init

@@ -1,6 +1,6 @@
 use Rattle.lists.specs.Kit.{ap, ◌∙◌, rules}
 use Rattle.word.specs.Word.{le4}
-use Rattle.shuffle.specs.TurnLaws.{kept-swap}
+use Rattle.shuffle.proofs.TurnLaws.{kept-swap}
 use Rattle.shuffle.proofs.swap.Goals as goal
 
 pub returns : goal.returns

@@ -1,7 +1,7 @@
 use Rattle.lists.specs.Kit.{◌≡◌, subst, [], get_or, ◌-◌, ◌≤◌, arith, rules}
 use Rattle.chacha20_lanes.specs.declared.Lane.{Lane}
 use Rattle.shuffle.specs.Turns.{Blocks}
-use Rattle.shuffle.specs.TurnLaws.{blocks-zero, lane-at, lane-turn}
+use Rattle.shuffle.proofs.TurnLaws.{blocks-zero, lane-at, lane-turn}
 use Rattle.shuffle.proofs.window.Goals as goal
 
 pub loop-k-init : goal.loop-k-init

@@ -12,7 +12,7 @@ use Rattle.area.specs.GivenLaws.{lent_length}
 use Rattle.area.specs.Sizes.{size-pairs}
 use Rattle.area.specs.Filled.{Filled, filled_none, filled-work, filled-other, filled-end, row_in, filled_put}
 use Rattle.toss_recv.proofs.keep_pairwise.Goals as goal
-use Rattle.toss_recv.proofs.keep_pairwise.Invariants.{seedOf, row}
+use Rattle.toss_recv.proofs.keep_pairwise.Invariants.{seed_of, row}
 use Rattle.toss_recv.proofs.keep_pairwise.Goals.{After-pair_seed-row, After-section, In-loop-k, Start}
 
 -- ---- of a call
@@ -67,7 +67,7 @@ row_is c =
     filled-other c.requires.work PAIRWISE 32 (omega arith) (row (c.args.f) c.args.work.now (letter c.args.incoming.now c.args.mail)) (c.args.f).n (full-here) (c.loop-k.k) (c.loop-k.work) c.loop-k.invariant.1 PAIRS
     (λ e. omega arith) in
     c.section.ensures ∙ same-seeds-here in
-    c.pair_seed-row.ensures ∙ ap (λ (x : List ℕ). row_of (c.args.f).i 32 (seedOf x (letter c.args.incoming.now c.args.mail)) (c.loop-k.k)) (seeds-here)
+    c.pair_seed-row.ensures ∙ ap (λ (x : List ℕ). row_of (c.args.f).i 32 (seed_of x (letter c.args.incoming.now c.args.mail)) (c.loop-k.k)) (seeds-here)
 
 row-long : (c : After-pair_seed-row) → length c.pair_seed-row.result ≡ 32
 row-long c = search rules
@@ -98,4 +98,4 @@ pub returns : goal.returns
 unfolding pairwise_seeds
 returns c =
     filled-end c.requires.work PAIRWISE 32 (omega arith) (row (c.args.f) c.args.work.now (letter c.args.incoming.now c.args.mail)) (c.args.f).n (full (goal.at.returns c).Start) c.loop-k.k c.loop-k.work c.loop-k.invariant.1 (omega arith)
-    ∙ ap (λ (x : List ℕ). keep (c.args.f) PAIRWISE x c.args.work.now) (rows_of (c.args.f) 32 (seedOf (at (c.args.f) PAIRS c.args.work.now) (letter c.args.incoming.now c.args.mail)))
+    ∙ ap (λ (x : List ℕ). keep (c.args.f) PAIRWISE x c.args.work.now) (rows_of (c.args.f) 32 (seed_of (at (c.args.f) PAIRS c.args.work.now) (letter c.args.incoming.now c.args.mail)))

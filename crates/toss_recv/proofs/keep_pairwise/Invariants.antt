@@ -15,11 +15,11 @@ use Rattle.area.specs.Filled.{Filled, filled_none, filled-work, filled-other, fi
 use Rattle.toss_recv.proofs.keep_pairwise.Given as goal
 
 -- the seed with party k, and its row
-abbrev pub seedOf : List ℕ → (ℕ → List ℕ) → ℕ → List ℕ
-seedOf pairs m k = xor_inplace (chunk 32 k pairs) (told (m k))
+abbrev pub seed_of : List ℕ → (ℕ → List ℕ) → ℕ → List ℕ
+seed_of pairs m k = xor_inplace (chunk 32 k pairs) (told (m k))
 
 abbrev pub row : Frame → List ℕ → (ℕ → List ℕ) → ℕ → List ℕ
-row f work m = row_of f.i 32 (seedOf (at f PAIRS work) m)
+row f work m = row_of f.i 32 (seed_of (at f PAIRS work) m)
 
 abbrev pub invariant-loop-k : goal.invariant-loop-k
 invariant-loop-k l = (l.k ≤ l.n) × Filled l.f PAIRWISE 32 (row l.f l.initial.work (letter l.incoming l.mail)) l.k l.initial.work l.work

@@ -3,7 +3,7 @@ use native.Mathlib.Nat.{mul-le-mul_right}
 use native.Mathlib.Numerals.{add-one}
 use Rattle.algebra.specs.Group.{XorGroup, bits, odd}
 use Rattle.algebra.specs.Sum.{sum}
-use Rattle.algebra.specs.Bucket.{bucketX, bucketZ}
+use Rattle.algebra.specs.Bucket.{bucket_x, bucket_z}
 use Rattle.block.specs.Group.{blocks}
 use Rattle.share.specs.Record.{record_len}
 use Rattle.share.specs.Share.{Share, shares}
@@ -59,8 +59,8 @@ returns c zs =
     let count : length ts ≡ suc n = c.requires.bucketed.count ∙ add-one n in
     let told : c.e_sum-told.result ≡ sum bits (suc n) (λ e. odd (get_or es (c.args.k * leaky c.args.f.l + get_or ts e 0) 0)) =
     c.e_sum-told.ensures ∙ (λ q. sum bits (count q) (λ e. odd (get_or es (c.args.k * is (goal.at.returns c).After-leaky-count q + get_or ts e 0) 0))) in
-    let X : (len : ℕ) → Share = λ len. bucketX shares (x_among len recs ts) n in
-    let Z : (len m : ℕ) → Share = λ len m. bucketZ shares (x_among len recs ts) (z_among len recs ts (2 * m)) d n in
+    let X : (len : ℕ) → Share = λ len. bucket_x shares (x_among len recs ts) n in
+    let Z : (len m : ℕ) → Share = λ len m. bucket_z shares (x_among len recs ts) (z_among len recs ts (2 * m)) d n in
     let z : (m : ℕ) → Share = Z (record_len c.args.f.n) in
     let v : Summed c.args.k (X (record_len c.args.f.n)) (z c.leaky-count.result) c.sum_entries-s.result =
     subst (λ m. Summed c.args.k (X m) (Z m c.leaky-count.result) c.sum_entries-s.result)

@@ -1,6 +1,6 @@
 use Rattle.lists.specs.Kit.{◌≡◌, refl, sym, ap, subst, ◌∙◌, List, ℕ, ◌+◌, ◌*◌, arith, length, get_or, rules}
 use Rattle.algebra.specs.Group.{bits, odd}
-use Rattle.algebra.specs.Bucket.{bucketX, bucketZ}
+use Rattle.algebra.specs.Bucket.{bucket_x, bucket_z}
 use Rattle.share.specs.Layout.{record-some}
 use Rattle.engine.specs.declared.Frame.{Frame}
 use Rattle.rounds.specs.Area.{BITS, ZS, ES, at}
@@ -43,10 +43,10 @@ returns c delta =
     let ht = number-entry (c.args.f) c.args.work.now c.args.j c.args.ts.now c.requires.numbered in (
       bit-x (c.args.f) delta c.args.work.now c.args.j c.args.ts.now c.ds-d.result.now ht c.ds-d.ensures (long (goal.at.returns c).After-ds-d)
           recs (recs-are (goal.at.returns c).After-ds-d) c.sum_bits.result.x
-          (c.sum_bits.ensures.0 ∙ ap (λ m. bucketX bits (λ e. (x_among m recs c.args.ts.now e).bit) (length c.ds-d.result.now)) c.record_len.ensures),
+          (c.sum_bits.ensures.0 ∙ ap (λ m. bucket_x bits (λ e. (x_among m recs c.args.ts.now e).bit) (length c.ds-d.result.now)) c.record_len.ensures),
       bit-z (c.args.f) delta c.args.work.now c.args.j c.args.ts.now c.ds-d.result.now ht c.ds-d.ensures (long (goal.at.returns c).After-ds-d)
           recs (recs-are (goal.at.returns c).After-ds-d) c.lent-zs.result.now c.sum_bits.result.z (zs-are (goal.at.returns c).After-ds-d)
-          (c.sum_bits.ensures.1 ∙ ap (λ m. bucketZ bits (λ e. (x_among m recs c.args.ts.now e).bit)
+          (c.sum_bits.ensures.1 ∙ ap (λ m. bucket_z bits (λ e. (x_among m recs c.args.ts.now e).bit)
           (λ e. odd (get_or c.lent-zs.result.now ((get_or c.args.ts.now e 0 + 0) * 17) 0))
           (λ e. odd (get_or c.ds-d.result.now e 0)) (length c.ds-d.result.now)) c.record_len.ensures),
     )

@@ -5,7 +5,7 @@ use Rattle.lists.specs.Over.{Written, written-zero, written-end}
 use Rattle.rbits.specs.Chosen.{words_of}
 use Rattle.rbits.specs.Tables.{window_of}
 use Rattle.rbits.specs.LoopLaws.{pair_of}
-use Rattle.window.specs.WindowLaws.{ofString, block_within, whole-within, strings-turn}
+use Rattle.window.specs.WindowLaws.{of_string, block_within, whole-within, strings-turn}
 use Rattle.window.proofs.window.Goals as goal
 use Rattle.window.proofs.window.Goals.{After-b-1, In-loop-j}
 

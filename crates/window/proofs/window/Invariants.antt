@@ -6,11 +6,11 @@ use Rattle.lists.specs.Over.{Written, written-zero, written-end}
 use Rattle.rbits.specs.Chosen.{words_of}
 use Rattle.rbits.specs.Tables.{window_of}
 use Rattle.rbits.specs.LoopLaws.{pair_of}
-use Rattle.window.specs.WindowLaws.{ofString, block_within, whole-within, strings-turn}
+use Rattle.window.specs.WindowLaws.{of_string, block_within, whole-within, strings-turn}
 use Rattle.window.proofs.window.Given as goal
 
 abbrev pub invariant-loop-j : goal.invariant-loop-j
-invariant-loop-j l = (l.j % 2 ≡ 0) × (l.j ≤ 120) × Written (pair_of (ofString l.r l.blocks l.q)) l.j (l.j * 2) l.initial.out l.out
+invariant-loop-j l = (l.j % 2 ≡ 0) × (l.j ≤ 120) × Written (pair_of (of_string l.r l.blocks l.q)) l.j (l.j * 2) l.initial.out l.out
 
 abbrev pub decreases-loop-j : goal.decreases-loop-j
 decreases-loop-j l = 120 - l.j

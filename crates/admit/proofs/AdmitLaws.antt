@@ -27,8 +27,8 @@ use Rattle.engine.specs.Step.{Lent, Loan, frame, other, mask, gone, part, inside
 use Rattle.engine.specs.Step.{fault_of}
 use Rattle.engine.specs.StepLaws.{other-neq, other-is, mask-ext, by-ext, by-clean}
 use Rattle.engine.specs.Area.{mem}
-use Rattle.engine.specs.Order.{echoIn, roundIn}
-use Rattle.engine.specs.Plain.{len_of, outLenOf, lent_of, formAt, checkOf, ruleOf, protocolOf}
+use Rattle.engine.specs.Order.{echo_in, round_in}
+use Rattle.engine.specs.Plain.{len_of, out_len_of, lent_of, form_at, check_of, rule_of, protocol_of}
 use Rattle.rounds.specs.Area as Area
 use Rattle.rounds.specs.Area.{work_len, size_of}
 use Rattle.rounds.specs.declared.Mail.{Mail}
@@ -49,7 +49,7 @@ module _ (k : ℕ) (e : echo? k ≡ true) where
   not_plain a h q = true-false (sym e ∙ ap echo? q ∙ h)
 
   pub echo-rest : Rest k
-  unfolding echoIn mem
+  unfolding echo_in mem
   echo-rest = record {
     not1 = not_plain 1 refl;
     not3 = not_plain 3 refl;
@@ -87,15 +87,15 @@ len_is n l k = go (echo? k) refl
     go false e = refl
 
 pub round-low : (n k : ℕ) → is_round n k ≡ true → k ≤ 22
-unfolding roundIn
+unfolding round_in
 round-low n k h = leb-true k 22 (and_second (leb 1 k) (leb k 22) (and_first (leb 1 k && leb k 22) (not (eqb n 2 && echo? k)) h))
 
 pub round-one : (n k : ℕ) → is_round n k ≡ true → 1 ≤ k
-unfolding roundIn
+unfolding round_in
 round-one n k h = leb-true 1 k (and_first (leb 1 k) (leb k 22) (and_first (leb 1 k && leb k 22) (not (eqb n 2 && echo? k)) h))
 
-pub out-len-is : (n l i k : ℕ) → InRange n l → is_round n k ≡ true → outLenOf table k (frame n l i) ≡ out_len n l k
-unfolding outLenOf
+pub out-len-is : (n l i k : ℕ) → InRange n l → is_round n k ≡ true → out_len_of table k (frame n l i) ≡ out_len n l k
+unfolding out_len_of
 out-len-is n l i k r h = by-eq _ k 22
     (λ e. rw (e) (sym (out-len-last n l r)))
     (λ e. rw (ne_eqb k 22 e) (ap (λ m. (n - 1) * m) (len_is n l (next_round n k))
@@ -124,8 +124,8 @@ unfolding lent_of
 lent_of_lem k n l j x q e h = h ∙ ap (λ m. lent m n l q) e
 
 -- ---- the form of one message
-pub form-is : (k n l i : ℕ) (m : List ℕ) → formAt table k (frame n l i) m ≡ Format.form_of (kind_of l k) (count_due n l k) m
-unfolding formAt echo
+pub form-is : (k n l i : ℕ) (m : List ℕ) → form_at table k (frame n l i) m ≡ Format.form_of (kind_of l k) (count_due n l k) m
+unfolding form_at echo
 form-is k n l i m = go (echo? k) refl
   where
     go : (b : Bool) → echo? k ≡ b
@@ -133,7 +133,7 @@ form-is k n l i m = go (echo? k) refl
     go true e = sym (ap₂ (λ K c. Format.form_of K c m) (echo-kind k e l) (echo-count k e n l))
     go false e = refl
 
-pub fault-is : (k n l i : ℕ) (q : Lent) (j : ℕ) → form_fault (ruleOf table k) (frame n l i) q j ≡ kind_fault (kind_of l k) (count_due n l k) q j
+pub fault-is : (k n l i : ℕ) (q : Lent) (j : ℕ) → form_fault (rule_of table k) (frame n l i) q j ≡ kind_fault (kind_of l k) (count_due n l k) q j
 unfolding form_fault kind_fault
 fault-is k n l i q j = ap (pick (gone q j) 14) (form-is k n l i (part q j))
 
@@ -217,21 +217,21 @@ module _ (g : ℕ → ℕ) where
 -- ---- the messages by a mail
 -- what the loop looks at is what the table says
 pub form-found : (n i l k : ℕ) (q : Lent) (K : Kind) (c : ℕ) → K ≡ kind_of l k → c ≡ count_due n l k → (x p : ℕ)
-    → Finds x p (by_party (frame n l i) (kind_fault K c q)) → Finds x p (by_party (frame n l i) (form_fault (ruleOf table k) (frame n l i) q))
+    → Finds x p (by_party (frame n l i) (kind_fault K c q)) → Finds x p (by_party (frame n l i) (form_fault (rule_of table k) (frame n l i) q))
 form-found n i l k q K c eK ec x p h =
     subst (λ (g : ℕ → ℕ). Finds x p (by_party (frame n l i) g))
     (fun_ext (λ j. ap₂ (λ X y. kind_fault X y q j) eK ec ∙ sym (fault-is k n l i q j))) h
 
 -- where no message has a fault of form, a round is lent this
 module _ (f : Frame) (k : ℕ) (incoming : List ℕ) (mail : Mail) (missing : List ℕ)
-    (z : (by_party f (form_fault (ruleOf table k) f (posted incoming mail missing))).code ≡ 0) where
+    (z : (by_party f (form_fault (rule_of table k) f (posted incoming mail missing))).code ≡ 0) where
   abbrev q : Lent
   q = posted incoming mail missing
 
-  clean : (j : ℕ) → j < f.n → f.i ≢ j → (gone q j ≡ false) × (formAt table k f (part q j) ≡ 0)
+  clean : (j : ℕ) → j < f.n → f.i ≢ j → (gone q j ≡ false) × (form_at table k f (part q j) ≡ 0)
   unfolding form_fault
   clean j h ne =
-      pick-else (gone q j) 14 (formAt table k f (part q j)) 0 (λ e. omega arith) (by-clean f (form_fault (ruleOf table k) f q) z j h ne)
+      pick-else (gone q j) 14 (form_at table k f (part q j)) 0 (λ e. omega arith) (by-clean f (form_fault (rule_of table k) f q) z j h ne)
 
   inside_is : parts_in f q ≡ true → (j : ℕ) → j < f.n → f.i ≢ j → get_or mail.starts j 0 + get_or mail.lens j 0 ≤ length incoming
   unfolding parts_in inside
@@ -276,12 +276,12 @@ module _ (f : Frame) (incoming starts lens missing r out : List ℕ) where
       (start_is j h) (long-is j h)) ∙ p
 
   pub fault-posted : (k : ℕ) (w : List ℕ)
-      → fault_of (ruleOf table k) f (posted incoming mail missing) w ≡ fault_of (ruleOf table k) f there w
+      → fault_of (rule_of table k) f (posted incoming mail missing) w ≡ fault_of (rule_of table k) f there w
   unfolding fault_of form_fault gone letter part
   fault-posted k w =
       ap₂ or_else
-      (by-ext f _ _ (λ j h ne. ap (λ (x : List ℕ). pick (gone there j) 14 (formAt table k f x)) (letter-is j h)))
-      (ap (checkOf table k f w) letters-are)
+      (by-ext f _ _ (λ j h ne. ap (λ (x : List ℕ). pick (gone there j) 14 (form_at table k f x)) (letter-is j h)))
+      (ap (check_of table k f w) letters-are)
 
 -- ---- a call that is not refused
 fine-ranges : (f : Frame) → fine f ≡ true → Ranged f
@@ -304,7 +304,7 @@ fine-ranges f h =
       };
     }
 
-module _ (s : Session) (h : (protocolOf table).alive s ≡ true) where
+module _ (s : Session) (h : (protocol_of table).alive s ≡ true) where
   pub alive-ranges : Ranged s.party
   alive-ranges = fine-ranges s.party (and_first (fine s.party) _ (and_first (fine s.party && whole s.party.l s.counts) _ h))
 
@@ -323,25 +323,25 @@ unfolding work_len size_of Area.sizes
 work-any f = refl
 
 -- the whole work area
-pub work-is : (f : Frame) → (protocolOf table).work_len f ≡ work_len f
+pub work-is : (f : Frame) → (protocol_of table).work_len f ≡ work_len f
 unfolding work_len
 work-is f = refl
 
 -- all that a call without a reason is sure of
 pub record Admitted (s : Session) (k : ℕ) (q : Lent) (w : List ℕ) : Type 0 where
-  pub alive-is : (protocolOf table).alive s ≡ true
+  pub alive-is : (protocol_of table).alive s ≡ true
   pub ranges : Ranged s.party
   pub due-is : k ≡ s.due
   pub round-holds : is_round s.party.n k ≡ true
   pub work-whole : length w ≡ work_len s.party
-  pub out-whole : length q.out ≡ outLenOf table k s.party
+  pub out-whole : length q.out ≡ out_len_of table k s.party
   pub starts-n : length q.starts ≡ s.party.n
   pub lens-n : length q.lens ≡ s.party.n
   pub missing-n : length q.missing ≡ s.party.n
   pub parts-in : parts_in s.party q ≡ true
   pub lent_fits : lent_of table k s.party.n s.party.l q.loan ≡ 0
 
-pub reason-zero : (s : Session) (k : ℕ) (q : Lent) (w : List ℕ) → reason_of (protocolOf table) s k q w ≡ 0 → Admitted s k q w
+pub reason-zero : (s : Session) (k : ℕ) (q : Lent) (w : List ℕ) → reason_of (protocol_of table) s k q w ≡ 0 → Admitted s k q w
 unfolding reason_of lengths_due
 reason-zero s k q w h = record {
   alive-is = al;
@@ -358,10 +358,10 @@ reason-zero s k q w h = record {
 }
   where
     a : Bool
-    a = eqb (length w) ((protocolOf table).work_len s.party)
+    a = eqb (length w) ((protocol_of table).work_len s.party)
 
     b : Bool
-    b = eqb (length q.out) (outLenOf table k s.party)
+    b = eqb (length q.out) (out_len_of table k s.party)
 
     c : Bool
     c = eqb (length q.starts) s.party.n
@@ -381,8 +381,8 @@ reason-zero s k q w h = record {
     second : ℕ
     second = pick (not all) 17 third
 
-    e1 : (not ((protocolOf table).alive s) ≡ false) × (pick (not (eqb k s.due)) 19 second ≡ 0)
-    e1 = pick-else (not ((protocolOf table).alive s)) 20 (pick (not (eqb k s.due)) 19 second) 0 (λ x. omega arith) h
+    e1 : (not ((protocol_of table).alive s) ≡ false) × (pick (not (eqb k s.due)) 19 second ≡ 0)
+    e1 = pick-else (not ((protocol_of table).alive s)) 20 (pick (not (eqb k s.due)) 19 second) 0 (λ x. omega arith) h
 
     e2 : (not (eqb k s.due) ≡ false) × (second ≡ 0)
     e2 = pick-else (not (eqb k s.due)) 19 second 0 (λ x. omega arith) e1.1
@@ -390,7 +390,7 @@ reason-zero s k q w h = record {
     e3 : (not all ≡ false) × (third ≡ 0)
     e3 = pick-else (not all) 17 third 0 (λ x. omega arith) e2.1
 
-    al : (protocolOf table).alive s ≡ true
+    al : (protocol_of table).alive s ≡ true
     al = not-false _ e1.0
 
     du : k ≡ s.due
@@ -413,12 +413,12 @@ reason-zero s k q w h = record {
 
 -- ---- the tests, one by one
 module _ (s : Session) (k : ℕ) (q : Lent) (w : List ℕ) where
-  pub reason-over : (protocolOf table).alive s ≡ false → 20 ≡ reason_of (protocolOf table) s k q w
+  pub reason-over : (protocol_of table).alive s ≡ false → 20 ≡ reason_of (protocol_of table) s k q w
   unfolding reason_of
   reason-over h = rw (h) refl
 
-  module _ (al : (protocolOf table).alive s ≡ true) where
-    pub reason-turn : k ≢ s.due → 19 ≡ reason_of (protocolOf table) s k q w
+  module _ (al : (protocol_of table).alive s ≡ true) where
+    pub reason-turn : k ≢ s.due → 19 ≡ reason_of (protocol_of table) s k q w
     unfolding reason_of
     reason-turn ne = rw (al, ne_eqb k s.due ne) refl
 
@@ -428,7 +428,7 @@ module _ (s : Session) (k : ℕ) (q : Lent) (w : List ℕ) where
           lengths_fit s.party.n s.party.l k (length w) (length q.out) (length q.starts) (length q.lens)
           (length q.missing)
 
-      lengths-are : lengths_due ((protocolOf table).work_len s.party) (outLenOf table k s.party) s.party q w
+      lengths-are : lengths_due ((protocol_of table).work_len s.party) (out_len_of table k s.party) s.party q w
           ≡ (fit && parts_in s.party q)
       unfolding lengths_due lengths_fit
       lengths-are =
@@ -439,18 +439,18 @@ module _ (s : Session) (k : ℕ) (q : Lent) (w : List ℕ) where
           (ap (is_round s.party.n) du ∙ alive-round s al))
 
       left : (b : Bool) → (fit && parts_in s.party q) ≡ b
-          → reason_of (protocolOf table) s k q w ≡ pick (not b) 17 (lent_of table k s.party.n s.party.l q.loan)
+          → reason_of (protocol_of table) s k q w ≡ pick (not b) 17 (lent_of table k s.party.n s.party.l q.loan)
       unfolding reason_of
       left b e = rw (al, eq-eqb k s.due du, lengths-are, e) refl
 
-      pub reason-lengths : fit ≡ false → 17 ≡ reason_of (protocolOf table) s k q w
+      pub reason-lengths : fit ≡ false → 17 ≡ reason_of (protocol_of table) s k q w
       reason-lengths h = sym (left false (ap (λ b. b && parts_in s.party q) h))
 
-      pub reason-parts : parts_in s.party q ≡ false → 17 ≡ reason_of (protocolOf table) s k q w
+      pub reason-parts : parts_in s.party q ≡ false → 17 ≡ reason_of (protocol_of table) s k q w
       reason-parts h = sym (left false (ap (λ b. fit && b) h ∙ and-false fit))
 
       pub reason-lent : fit ≡ true → parts_in s.party q ≡ true → (x : ℕ) → x ≡ lent_of table k s.party.n s.party.l q.loan
-          → x ≡ reason_of (protocolOf table) s k q w
+          → x ≡ reason_of (protocol_of table) s k q w
       reason-lent h p x e = e ∙ sym (left true (ap₂ ◌&&◌ h p))
 
 -- what `parts_in` asks for

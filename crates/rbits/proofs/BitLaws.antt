@@ -21,7 +21,7 @@ use Rattle.rbits.specs.Chosen.{chosen, bit_sum}
 use Rattle.rbits.specs.Tables.{r_word, window_of, half_at, record_bit, packed, masked_at}
 use Rattle.rbits.specs.SumLaws.{sum-groups, sum_past}
 use Rattle.rbits.specs.DigitLaws.{mod-digit, and-digit, sum-digit, parity}
-use Rattle.rbits.specs.ChosenLaws.{half-group, chosen-digit}
+use Rattle.rbits.proofs.ChosenLaws.{half-group, chosen-digit}
 
 -- ---- packed bits
 pub packed_lt : (n : ℕ) (f : ℕ → Bool) → packed n f < 2 ^ n
@@ -64,8 +64,8 @@ packed-turn n f d w h hd hw =
 
 -- ---- groups of 64 records
 module _ (s : List ℕ) (stride : ℕ) (r : List ℕ) (row count : ℕ) where
-  abbrev pub bitTerm : ℕ → ℕ → Bool
-  bitTerm j t = sel bits (chosen r row j t) (record_bit s stride count t)
+  abbrev pub bit_term : ℕ → ℕ → Bool
+  bit_term j t = sel bits (chosen r row j t) (record_bit s stride count t)
 
   -- the bits of group g
   abbrev pub packed_at : ℕ → ℕ
@@ -91,7 +91,7 @@ module _ (s : List ℕ) (stride : ℕ) (r : List ℕ) (row count : ℕ) where
 
   -- the digits of the word that string j keeps for group h
   masked-digit : (h j e : ℕ) → Bytes r → j * row + h * 8 + 8 ≤ length r → e < 64
-      → odd (bit_and (r_word r row h j) (packed_at h) / 2 ^ e) ≡ bitTerm j (h * 64 + e)
+      → odd (bit_and (r_word r row h j) (packed_at h) / 2 ^ e) ≡ bit_term j (h * 64 + e)
   masked-digit h j e hr hl l =
       and-digit (r_word r row h j) (packed_at h) e
       ∙ ap₂ (λ (a b : Bool). sel bits a b) (chosen-digit r row j h e hr hl l)
@@ -105,11 +105,11 @@ module _ (s : List ℕ) (stride : ℕ) (r : List ℕ) (row count : ℕ) where
       ∙ sum-ext bits 64 (λ e. odd (masked g j / 2 ^ e)) (λ e. sum bits g (λ k. F e k))
       (λ e v. sum-digit g (λ k. bit_and (r_word r row k j) (packed_at k)) e)
       ∙ sum-swap bits 64 g F
-      ∙ sum-ext bits g (λ k. sum bits 64 (λ e. F e k)) (λ k. sum bits 64 (λ e. bitTerm j (k * 64 + e)))
-      (λ k v. sum-ext bits 64 (λ e. F e k) (λ e. bitTerm j (k * 64 + e)) (λ e u. masked-digit k j e hr (in-record j 120 row (k * 8) 8 (length r) l (omega arith) hl) u))
-      ∙ sum-groups bits g 64 (bitTerm j)
-      ∙ sum_past bits count (g * 64) (bitTerm j) h (λ t v. ap (sel bits (chosen r row j t)) (bit-out t v) ∙ sel-nil bits (chosen r row j t))
-      ∙ sum-ext bits count (bitTerm j) _ (λ t v. ap (sel bits (chosen r row j t)) (bit_in t v))
+      ∙ sum-ext bits g (λ k. sum bits 64 (λ e. F e k)) (λ k. sum bits 64 (λ e. bit_term j (k * 64 + e)))
+      (λ k v. sum-ext bits 64 (λ e. F e k) (λ e. bit_term j (k * 64 + e)) (λ e u. masked-digit k j e hr (in-record j 120 row (k * 8) 8 (length r) l (omega arith) hl) u))
+      ∙ sum-groups bits g 64 (bit_term j)
+      ∙ sum_past bits count (g * 64) (bit_term j) h (λ t v. ap (sel bits (chosen r row j t)) (bit-out t v) ∙ sel-nil bits (chosen r row j t))
+      ∙ sum-ext bits count (bit_term j) _ (λ t v. ap (sel bits (chosen r row j t)) (bit_in t v))
     where
       F : ℕ → ℕ → Bool
       F e k = odd (bit_and (r_word r row k j) (packed_at k) / 2 ^ e)

@@ -19,8 +19,10 @@ use Rattle.block.specs.Trip.{le8-word}
 use Rattle.message.specs.declared.Kind.{Kind}
 use Rattle.message.specs.declared.Kind.TheVariants.{Items, Dms, Dvalues, Options}
 use Rattle.message.specs.Format.{vec_len, item_len, item_at, count_of, decodes, Absent, Present, bits, item_of, value_of, form_of}
-use Rattle.message.specs.FormatLaws.{of-bools, vec-held, items-held, Bucket, bucket-held, bucket-bytes, word_at_lem, Decoded, decoded, value-count}
-use Rattle.message.specs.FormatLaws.{value-item, entry-held, formed}
+use Rattle.message.specs.FormatLaws.{of-bools, vec-held, items-held, Bucket, bucket-held, bucket-bytes, Decoded, decoded, value-count}
+use Rattle.message.proofs.FormLaws.{word_at_lem}
+use Rattle.message.specs.FormatLaws.{value-item}
+use Rattle.message.proofs.FormLaws.{entry-held, formed}
 use Rattle.encode.specs.Encode.{encode, dm_item, none_item, some_item, item_bytes, message_of}
 use Rattle.encode.specs.Fields.{cat-tab}
 

@@ -12,7 +12,7 @@ use Rattle.algebra.specs.Sum.{sum}
 use Rattle.fips197.specs.Field.{times, mod_m, product}
 use Rattle.fips197.specs.Key.{word_byte, power, rcon, sub_rot, temp, next, words, key_expansion}
 use Rattle.fips197.specs.Cipher.{sub_bytes, shift_rows, add_round_key, rounds, cipher}
-use Rattle.fips197.specs.SboxLaws.{sbox-byte}
+use Rattle.fips197.proofs.SboxLaws.{sbox-byte}
 
 byte-xor : (a b : ℕ) → a < 256 → b < 256 → bit_xor a b < 256
 byte-xor a b h k = xor_lt 8 a b h k

@@ -7,13 +7,14 @@ use Rattle.lists.specs.Pick.{pick}
 use Rattle.batches.specs.Batches.{whole}
 use Rattle.engine.specs.Step.{frame, Loan, Accepted, Refused, outcome}
 use Rattle.engine.specs.World.{Opening, Box, Call, Scene, session_of, session_at, start, runs, FairList, Done}
-use Rattle.engine.specs.Engine.{Joint, Alike, Duty, ideal, every-result}
+use Rattle.engine.specs.Engine.{Joint, Alike, Duty}
+use Rattle.engine.proofs.EngineLaws.{ideal, every-result}
 use Rattle.engine.specs.Live.{Cast}
 use Rattle.engine.specs.Area.{to_others}
 use Rattle.engine.specs.Sheet.{Known, Holds}
-use Rattle.engine.specs.Plain.{Send, Table, next_of, number_of, steps_of, toEcho, lent_of, digests, made, keepOf, writeOf, protocolOf}
-use Rattle.engine.specs.Honest.{Lawful, due, Script, store_of, Honest, sheetOf, loansOf}
-use Rattle.engine.specs.PlainLaws.{courseOf, known-first, number-end, honest-rounds}
+use Rattle.engine.specs.Plain.{Send, Table, next_of, number_of, steps_of, to_echo, lent_of, digests, made, keep_of, write_of, protocol_of}
+use Rattle.engine.specs.Honest.{Lawful, due, Script, store_of, Honest, sheet_of, loans_of}
+use Rattle.engine.proofs.PlainLaws.{course_of, known-first, number-end, honest-rounds}
 
 -- ---- what is lent
 -- two loans are alike to how a round's messages are made
@@ -29,13 +30,13 @@ alike_same S n l q q' e = record {
 
 -- and so they are to the call
 alike-call : (T : Table) (n l k : ℕ) (q q' : Loan) → AlikeSend (T.send (next_of T (eqb n 2) k)) n l q q'
-    → Alike ((protocolOf T).rule k) n l q q'
-unfolding keepOf writeOf made
+    → Alike ((protocol_of T).rule k) n l q q'
+unfolding keep_of write_of made
 alike-call T n l k q q' A = record {
   check = λ i w m. refl;
   keep = λ i w m. rw A.keep refl;
   write = λ i w m. ap (λ (x : ℕ → List ℕ). pick (eqb k T.order.last) (T.result (frame n l i) w m) (to_others n i
-      (pick (toEcho T (eqb n 2) k) (T.echo.write n i (digests T k (frame n l i) m)) x))) (λ e r. same i w m r e);
+      (pick (to_echo T (eqb n 2) k) (T.echo.write n i (digests T k (frame n l i) m)) x))) (λ e r. same i w m r e);
 }
   where
     same : (i : ℕ) (w : List ℕ) (m : ℕ → List ℕ) (r : ℕ)
@@ -50,12 +51,12 @@ module _ (T : Table) (n l : ℕ) {Args : Type 0} (O : Opening Args) (Agree : ℕ
     (W : Lawful T n l) (counts : ℕ → List ℕ) (make : (b : ℕ) → b < n → whole l (counts b) ≡ true) where
   abbrev pub scene_of : Scene Args
   scene_of = record {
-    protocol = protocolOf T;
+    protocol = protocol_of T;
     opens = O;
     n = n;
     l = l;
     counts = counts;
-    course = courseOf T n l W counts make;
+    course = course_of T n l W counts make;
     Agrees = λ k q. Agree (next_of T (eqb n 2) k) q;
     Given = Given;
   }
@@ -102,8 +103,8 @@ module _ (T : Table) (U : Script) (n l : ℕ) {Args : Type 0} (O : Opening Args)
 
   module _ (H : Honest T U n l) (B : HonestOpening) where
     pub agreed-by : (k : ℕ) (q : Loan) → lent_of T k n l q ≡ 0 → Agree (next_of T (eqb n 2) k) q
-        → Alike ((protocolOf T).rule k) n l q (loansOf T U n l k)
-    unfolding lent_of loansOf
+        → Alike ((protocol_of T).rule k) n l q (loans_of T U n l k)
+    unfolding lent_of loans_of
     agreed-by k q v a = alike-call T n l k q _ (B.agrees (next_of T (eqb n 2) k) q v a)
 
     pub takes-by : (b : ℕ) (a : Args) → b < n → Given b a
@@ -111,11 +112,11 @@ module _ (T : Table) (U : Script) (n l : ℕ) {Args : Type 0} (O : Opening Args)
     unfolding number_of
     takes-by = B.takes
 
-    abbrev pub dutyOf : Duty scene
-    dutyOf = record {
-      loans = loansOf T U n l;
+    abbrev pub duty_of : Duty scene
+    duty_of = record {
+      loans = loans_of T U n l;
       first = B.first;
-      Holds = Holds (protocolOf T) n l (loansOf T U n l) (sheetOf T U n l);
+      Holds = Holds (protocol_of T) n l (loans_of T U n l) (sheet_of T U n l);
       agreed = agreed-by;
       refuses = B.refuses;
       takes = takes-by;
@@ -126,9 +127,9 @@ module _ (T : Table) (U : Script) (n l : ℕ) {Args : Type 0} (O : Opening Args)
     -- ---- what follows, beside `every_call` and `every-done`
     -- what a done box wrote last is its result
     pub every-written : (cs : List (Call Args)) → FairList scene start cs → (b : ℕ) (x : Box) → (runs scene cs).box b ≡ some x
-        → Done (protocolOf T) x.session → (b < n) × (x.wrote ≡ U.result b)
+        → Done (protocol_of T) x.session → (b < n) × (x.wrote ≡ U.result b)
     every-written cs fair b x e done =
-        let G : Joint = ideal scene dutyOf (steps_of T (eqb n 2)) in
-        let r = every-result scene dutyOf cs fair b x e done in
-        let h : dutyOf.Holds 0 G = subst (λ k. dutyOf.Holds k G) (number-end T n l W) r.2 in
+        let G : Joint = ideal scene duty_of (steps_of T (eqb n 2)) in
+        let r = every-result scene duty_of cs fair b x e done in
+        let h : duty_of.Holds 0 G = subst (λ k. duty_of.Holds k G) (number-end T n l W) r.2 in
         (r.0, r.1 ∙ h b r.0)

@@ -70,11 +70,11 @@ module _ (s : List ℕ) (stride at : ℕ) (r : List ℕ) (row count : ℕ) where
       ∙ sum-ext blocks count (term j) _ (λ t l. ap (sel blocks (chosen r row j t)) (block_in t l))
 
   -- the tables of group g, and what word g of string j chooses in them
-  abbrev pub groupTables : ℕ → List ℕ
-  groupTables g = tables (λ e. record_block s stride at count (g * 64 + e))
+  abbrev pub group_tables : ℕ → List ℕ
+  group_tables g = tables (λ e. record_block s stride at count (g * 64 + e))
 
   chosen-group : (g j : ℕ) → Bytes r → j * row + g * 8 + 8 ≤ length r
-      → lookup (groupTables g) (r_word r row g j) ≡ sum blocks 64 (λ e. term j (g * 64 + e))
+      → lookup (group_tables g) (r_word r row g j) ≡ sum blocks 64 (λ e. term j (g * 64 + e))
   chosen-group g j hr h =
       lookup-tables (λ e. record_block s stride at count (g * 64 + e)) (r_word r row g j)
       ∙ sum-ext blocks 64 _ (λ e. term j (g * 64 + e))
@@ -82,7 +82,7 @@ module _ (s : List ℕ) (stride at : ℕ) (r : List ℕ) (row count : ℕ) where
 
   -- one group more
   pub groups-more : (g j : ℕ) → Bytes r → 120 * row ≤ length r → g * 8 + 8 ≤ row → j < 120
-      → blocks.op (groups g j) (lookup (groupTables g) (r_word r row g j)) ≡ groups (g + 1) j
+      → blocks.op (groups g j) (lookup (group_tables g) (r_word r row g j)) ≡ groups (g + 1) j
   unfolding groups
   groups-more g j hr hl hg l =
       ap (blocks.op (groups g j)) (chosen-group g j hr (in-record j 120 row (g * 8) 8 (length r) l hg hl))

@@ -7,7 +7,7 @@ use Rattle.lists.specs.Pick.{pick, by-eq}
 use Rattle.algebra.specs.Group.{bits, numbers, sel, odd}
 use Rattle.algebra.specs.Sum.{sum}
 use Rattle.fips197.specs.Field.{times, mod_m, product}
-use Rattle.fips197.specs.FieldLaws.{product-one, product-byte, product-comm, product-assoc}
+use Rattle.fips197.proofs.FieldLaws.{product-one, product-byte, product-comm, product-assoc}
 use Rattle.fips197.specs.Sbox.{Inverse, digit, affine_at, affine, sbox, SBox}
 
 -- ---- entries are bytes
@@ -47,9 +47,9 @@ all_made : all_of 256 (λ b. made b (undone (SBox b)) (SBox b)) ≡ true
 unfolding all_of odd sum times mod_m product affine_at affine sbox undone_at undone made
 all_made = refl
 
-rule-of : (b c s : ℕ) → made b c s ≡ true → Inverse b c × (s ≡ affine c)
+rule_of_lem : (b c s : ℕ) → made b c s ≡ true → Inverse b c × (s ≡ affine c)
 unfolding made
-rule-of b c s h =
+rule_of_lem b c s h =
     let p = and_both (ltb c 256 && pick (eqb b 0) (eqb c 0) (eqb (product b c) 1)) (eqb s (affine c)) h in
     let q = and_both (ltb c 256) (pick (eqb b 0) (eqb c 0) (eqb (product b c) 1)) p.0 in
     let of : (t : Bool) → eqb b 0 ≡ t → pick t (eqb c 0) (eqb (product b c) 1) ≡ true =
@@ -65,7 +65,7 @@ rule-of b c s h =
 pub sbox-rule : (b : ℕ) → b < 256 → (c : ℕ) × Inverse b c × (SBox b ≡ affine c)
 sbox-rule b h =
     let c : ℕ = undone (SBox b) in
-    let r = rule-of b c (SBox b) (of-all 256 (λ b. made b (undone (SBox b)) (SBox b)) all_made b h) in
+    let r = rule_of_lem b c (SBox b) (of-all 256 (λ b. made b (undone (SBox b)) (SBox b)) all_made b h) in
     (c, r.0, r.1)
 
 -- the inverse is one only, so the rule makes one table: c = c • (b • d) = (c • b) • d = d

@@ -1,0 +1,3 @@
+pub mod CipherLaws
+pub mod FieldLaws
+pub mod SboxLaws
