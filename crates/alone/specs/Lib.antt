@@ -2,15 +2,6 @@ pub mod Formula
 pub mod Holds
 pub mod Base
 pub mod Cells
-pub mod HaandLaws
 pub mod Given
-pub mod FlaandLaws
-pub mod FashareLaws
-pub mod BucketsLaws
-pub mod BeaverLaws
 pub mod Echo
-pub mod Opening
-pub mod Rounds
-pub mod Theorem
 pub mod Reserved
-pub mod Batches

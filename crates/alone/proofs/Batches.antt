@@ -23,8 +23,8 @@ use Rattle.rounds.specs.Area.{SECTIONS}
 use Rattle.rounds.specs.Opening.{Args, party, buffers_due, masks_fault, bytes_fault, reason, section, area, spec}
 use Rattle.rounds.specs.OpeningLaws.{passed}
 use Rattle.rounds.specs.Table.{fine, table}
-use Rattle.alone.specs.Opening.{spec-takes}
-use Rattle.alone.specs.Theorem.{opened_box}
+use Rattle.alone.proofs.Opening.{spec-takes}
+use Rattle.alone.proofs.Theorem.{opened_box}
 
 -- the same opening with the single count of the sum
 abbrev pub single : Args → Args

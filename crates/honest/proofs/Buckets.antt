@@ -45,12 +45,12 @@ use Rattle.rounds.specs.Buckets.{triple_rows}
 use Rattle.rounds.specs.Buckets as B
 use Rattle.rounds.specs.Beaver as Beaver
 use Rattle.alone.specs.Cells.{row-byte, row_block}
-use Rattle.alone.specs.BucketsLaws.{length-perm, first-in, later-in, all_in, place-below, entry_read, combine-ext, SmallTriple}
-use Rattle.alone.specs.BucketsLaws as A
+use Rattle.alone.proofs.BucketsLaws.{length-perm, first-in, later-in, all_in, place-below, entry_read, combine-ext, SmallTriple}
+use Rattle.alone.proofs.BucketsLaws as A
 use Rattle.honest.specs.Script as S
 use Rattle.honest.specs.Inputs.{Run, box, Boxes, joint_of, order_of, deltas, small-bits}
 use Rattle.honest.specs.Base.{Receives, Sends, list-form, Fit, delta-is, joint-at, bits_at, perm_at, keep_one}
-use Rattle.honest.specs.Toss.{one-joint}
+use Rattle.honest.proofs.Toss.{one-joint}
 use Rattle.honest.specs.Values.{x_of, y_of, z_of, share-x, share-y, share-z, small-z, LeakyTriples}
 use Rattle.honest.specs.Combining.{triple_of, combined, small-bucket-x, small-bucket-z}
 

@@ -25,7 +25,8 @@ use Rattle.engine.proofs.PlainLaws.{chunk-rows}
 use Rattle.engine.specs.Honest.{due, plain_after}
 use Rattle.engine.specs.Alone.{Tale}
 use Rattle.engine.proofs.AloneLaws.{wrote_for, sure_at, Lives, State, lives, over, Told, Duties, AsTold, first, all_told}
-use Rattle.engine.specs.OneBox.{Turn, turn_box, turns, AllRead, taken, answer, received, lent_with, all-received}
+use Rattle.engine.specs.OneBox.{Turn, turn_box, turns, AllRead, taken, answer, received, lent_with}
+use Rattle.engine.proofs.OneBoxLaws.{all-received}
 use Rattle.rounds.specs.Area.{ROUNDS_OWN, at}
 use Rattle.rounds.specs.Echo.{hash_vec, echo_msg, echo}
 use Rattle.rounds.specs.Opening.{Args, party, reason, kept, spec}
@@ -38,8 +39,8 @@ use Rattle.alone.specs.Given.{Admissible}
 use Rattle.rounds.specs.EchoLaws.{length-hash_vec}
 use Rattle.rounds.specs.JudgeLaws.{Found, judge-found}
 use Rattle.alone.specs.Echo.{lawful}
-use Rattle.alone.specs.Opening.{given, opened, spec-takes}
-use Rattle.alone.specs.Rounds as R
+use Rattle.alone.proofs.Opening.{given, opened, spec-takes}
+use Rattle.alone.proofs.Rounds as R
 
 -- the box that opening leaves
 abbrev pub opened_box : Args → Box

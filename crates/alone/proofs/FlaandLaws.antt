@@ -30,7 +30,7 @@ use Rattle.alone.specs.Holds.{h_rows}
 use Rattle.alone.specs.Given.{Admissible, small-delta, small_r}
 use Rattle.alone.specs.Base.{chunk-rows, length-rows}
 use Rattle.alone.specs.Cells.{row_block, encode-ext}
-use Rattle.alone.specs.HaandLaws.{small-G, small-phi, phi-read, key-hash-read, u-read, z-read, mac-hash-read}
+use Rattle.alone.proofs.HaandLaws.{small-G, small-phi, phi-read, key-hash-read, u-read, z-read, mac-hash-read}
 
 -- ---- h, as it is computed and as document 01 has it
 h-sort : {A : Type 0} (G : XorGroup A) (a b c d p q : A)

@@ -23,7 +23,7 @@ use Rattle.engine.specs.Sheet.{stays_test}
 use Rattle.engine.specs.Order.{echo_in}
 use Rattle.engine.specs.Honest.{before, due, plain_after}
 use Rattle.engine.specs.Alone.{Tale}
-use Rattle.engine.specs.Alone as Alone
+use Rattle.engine.proofs.AloneLaws as Alone
 use Rattle.rounds.specs.Area.{DELTA, SEED, PAIRS, MASKS, BITS, ALPHA, BETA, COMMS, JOINT, PAIR_COMMS, PAIRWISE, KEY_SUMS, SHARE_COMMS, DMS}
 use Rattle.rounds.specs.Area.{LEAKY, ZS, ES, HS, H_COMMS, PERM, DS, TRIPLES, ROUNDS_OWN, SECTIONS, sizes, size_of, at, keep}
 use Rattle.rounds.specs.Opening.{Args, party}
@@ -42,11 +42,11 @@ use Rattle.alone.specs.Holds.{since, store_of, h_rows, d_rows, triple_rows, hold
 use Rattle.alone.specs.Given.{Admissible}
 use Rattle.alone.specs.Base.{length-rows, has-at, Fit, keep-none, keep-free, keep_one, keep_two}
 use Rattle.alone.specs.Cells.{length-cells}
-use Rattle.alone.specs.HaandLaws.{length-leaky_rows, length-z_rows}
-use Rattle.alone.specs.FashareLaws.{length-dms, msg-12}
-use Rattle.alone.specs.FlaandLaws.{length-es, length-hs, hs-read, msg-15, msg-17, msg-19}
-use Rattle.alone.specs.BucketsLaws.{length-perm, length-ds, length-triples, ds-is, triples-are, msg-21}
-use Rattle.alone.specs.BeaverLaws.{msg-22, results-are}
+use Rattle.alone.proofs.HaandLaws.{length-leaky_rows, length-z_rows}
+use Rattle.alone.proofs.FashareLaws.{length-dms, msg-12}
+use Rattle.alone.proofs.FlaandLaws.{length-es, length-hs, hs-read, msg-15, msg-17, msg-19}
+use Rattle.alone.proofs.BucketsLaws.{length-perm, length-ds, length-triples, ds-is, triples-are, msg-21}
+use Rattle.alone.proofs.BeaverLaws.{msg-22, results-are}
 
 -- ---- what is kept of a message of due form is as long as its row
 row-long : (c s : ℕ) (m : List ℕ) → 8 + c * s ≤ length m → length (take (c * s) (drop 8 m)) ≡ c * s

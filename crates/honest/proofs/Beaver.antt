@@ -37,15 +37,15 @@ use Rattle.rounds.specs.Table.{judge, held, written}
 use Rattle.rounds.specs.Haand.{y}
 use Rattle.rounds.specs.Buckets.{triple_rows}
 use Rattle.rounds.specs.Beaver as B
-use Rattle.alone.specs.BucketsLaws.{first-in}
-use Rattle.alone.specs.BeaverLaws.{agree-finish}
+use Rattle.alone.proofs.BucketsLaws.{first-in}
+use Rattle.alone.proofs.BeaverLaws.{agree-finish}
 use Rattle.honest.specs.Script as S
 use Rattle.honest.specs.Inputs.{Run, box, Boxes, deltas, alphas_of, betas_of, small-bits, small-alpha, small-beta}
 use Rattle.honest.specs.Base.{Sends, Ends, list-form, list_len_lem, Fit, delta-is, bits_at, alpha-at, beta-at, zs-at, es-at, perm_at}
 use Rattle.honest.specs.Base.{ds-at, triples-at, keep_one}
 use Rattle.honest.specs.Values.{share-y, LeakyTriples}
-use Rattle.honest.specs.Buckets.{item-byte, item-block, open_all_lem, passes, a_of, b_of, c_of, place, entry-is, good-y, l-small}
-use Rattle.honest.specs.Buckets.{length-triples, bytes-triples, a_read, c_read, small-a, small-c, abc-triple}
+use Rattle.honest.proofs.Buckets.{item-byte, item-block, open_all_lem, passes, a_of, b_of, c_of, place, entry-is, good-y, l-small}
+use Rattle.honest.proofs.Buckets.{length-triples, bytes-triples, a_read, c_read, small-a, small-c, abc-triple}
 
 -- ---- a message of two bits and two Blocks each
 module _ (c : ℕ) (p q : ℕ → Bool) (x y : ℕ → Block) (small : c < 2 ^ 64) (t : ℕ) (lt : t < c) where

@@ -13,8 +13,8 @@ use Rattle.share.specs.Parties.{lent_shared, share_of, good-lent, total-lent, le
 use Rattle.honest.specs.Script as S
 use Rattle.honest.specs.Inputs.{Run, Boxes, deltas, alphas_of, betas_of}
 use Rattle.honest.specs.Values.{LeakyTriples}
-use Rattle.honest.specs.Buckets.{a_of, b_of, c_of, abc-triple}
-use Rattle.honest.specs.Beaver.{out_of, small-out, result-is}
+use Rattle.honest.proofs.Buckets.{a_of, b_of, c_of, abc-triple}
+use Rattle.honest.proofs.Beaver.{out_of, small-out, result-is}
 
 module _ (R : Run) (X : Boxes R) where
   open R use {n, l}

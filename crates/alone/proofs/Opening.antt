@@ -27,7 +27,7 @@ use Rattle.rounds.specs.Toss as Toss
 use Rattle.alone.specs.Holds.{since, store_of, holds}
 use Rattle.alone.specs.Formula.{Seen}
 use Rattle.alone.specs.Given.{Admissible}
-use Rattle.alone.specs.Rounds.{seen_by}
+use Rattle.alone.proofs.Rounds.{seen_by}
 
 -- ---- what is accepted
 -- the inputs are as long as they should; the lists of shares are so as they are kept, whatever was lent

@@ -29,7 +29,7 @@ use Rattle.engine.specs.Honest.{before, due, plain_after}
 use Rattle.rounds.specs.Area.{LEAKY, ZS, sizes, size_of}
 use Rattle.rounds.specs.Table.{judge, kept, held, written}
 use Rattle.rounds.specs.Haand.{x, y, H, G, mask, h0, h1, haand_msg, leaky_rows, v, z, z_row, z_rows, z_at}
-use Rattle.alone.specs.HaandLaws.{length-leaky_rows, length-z_rows, z-read}
+use Rattle.alone.proofs.HaandLaws.{length-leaky_rows, length-z_rows, z-read}
 use Rattle.honest.specs.Script as S
 use Rattle.honest.specs.Inputs.{Run, box, Boxes, deltas}
 use Rattle.honest.specs.Base.{Receives, Sends, list-form, list_len_lem, Fit, delta-is, masks-at, bits_at, keep_one}

@@ -32,7 +32,7 @@ use Rattle.honest.specs.Script as S
 use Rattle.honest.specs.Inputs.{Run, box, Boxes, deltas, bits_of}
 use Rattle.honest.specs.Base.{Receives, Sends, Hashes, list_len_lem, Fit, delta-is, bits_at, key-sums-at, keep-none, keep_one}
 use Rattle.alone.specs.Cells.{length-cells, cell}
-use Rattle.honest.specs.Firsts.{pairs-trip, bit-read, block_read, hash-bits}
+use Rattle.honest.proofs.Firsts.{pairs-trip, bit-read, block_read, hash-bits}
 
 module _ (R : Run) (X : Boxes R) where
   open R use {n, l, inputs, strings}

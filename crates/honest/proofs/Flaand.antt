@@ -42,8 +42,8 @@ use Rattle.rounds.specs.Flaand.{e, flaand_msg, e_told, u_told, e_rows, z_key, h,
 use Rattle.rounds.specs.Flaand.{zero_sum, h_faults}
 use Rattle.rounds.specs.FlaandLaws.{length-own_comms}
 use Rattle.alone.specs.Base.{rows_ext}
-use Rattle.alone.specs.HaandLaws.{small-G, small-phi, small-u, phi-read, key-hash-read, u-read, mac-hash-read}
-use Rattle.alone.specs.FlaandLaws.{h-alg, block_row, length-es, e-read}
+use Rattle.alone.proofs.HaandLaws.{small-G, small-phi, small-u, phi-read, key-hash-read, u-read, mac-hash-read}
+use Rattle.alone.proofs.FlaandLaws.{h-alg, block_row, length-es, e-read}
 use Rattle.blake3.specs.ByteLaws.{length-hash}
 use Rattle.rounds.specs.EchoLaws.{length-hash_vec}
 use Rattle.honest.specs.Script as S
@@ -51,8 +51,8 @@ use Rattle.honest.specs.Inputs.{Run, box, Boxes, deltas, small-delta}
 use Rattle.honest.specs.Base.{stored, Receives, Sends, Hashes, list-form, list_len_lem, Fit, delta-is, bits_at, leaky-at, zs-at, hs-at}
 use Rattle.honest.specs.Base.{h-comms-at, keep-none, keep-free, keep_one, keep_two}
 use Rattle.alone.specs.Cells.{items-row, length-cells, cell}
-use Rattle.honest.specs.Firsts.{pairs-trip, bit-read, block_read, hash-bits}
-use Rattle.honest.specs.Haand.{leaky-small, and-z}
+use Rattle.honest.proofs.Firsts.{pairs-trip, bit-read, block_read, hash-bits}
+use Rattle.honest.proofs.Haand.{leaky-small, and-z}
 use Rattle.honest.specs.Values.{x_of, y_of, r_of, z_of, small-z, LeakyTriples}
 
 -- ---- what is kept depends on the others' messages alone

@@ -19,7 +19,7 @@ use Rattle.encode.specs.Encode.{encode, bit_block}
 use Rattle.encode.specs.Coded.{length-encode, length-bit_block, coded-bit_block}
 use Rattle.encode.specs.RoundTrip.{Trip, trip, even-item}
 use Rattle.rounds.specs.Echo.{hash_vec}
-use Rattle.honest.specs.Toss.{cat-tab}
+use Rattle.honest.proofs.Toss.{cat-tab}
 use Rattle.alone.specs.Cells.{head-part}
 
 module _ (c : ℕ) (b : ℕ → Bool) (x : ℕ → Block) (small : c < 2 ^ 64) where

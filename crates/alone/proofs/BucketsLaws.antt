@@ -36,7 +36,7 @@ use Rattle.alone.specs.Formula.{Seen}
 use Rattle.alone.specs.Holds.{d_rows, triple_rows}
 use Rattle.alone.specs.Given.{Admissible, small-x}
 use Rattle.alone.specs.Cells.{row-byte, part_in, encode-ext}
-use Rattle.alone.specs.FlaandLaws.{z-share-read, small-z}
+use Rattle.alone.proofs.FlaandLaws.{z-share-read, small-z}
 
 -- ---- the permutation in bytes
 pub length-perm : (f : Frame) (joint : List ℕ) → length (perm_bytes f joint) ≡ leaky f.l * 4

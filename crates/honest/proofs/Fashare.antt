@@ -46,7 +46,7 @@ use Rattle.rounds.specs.Fashare.{own, d0, d1, dm, dm_mac, comm_msg, comm_rows, c
 use Rattle.rounds.specs.Fashare.{whole_dm, third_fault, third_faults, dm_fault, dm_faults, ver_faults, dibi_msg, macs_for, dibi_fault, dibi_faults}
 use Rattle.rounds.specs.FaultLaws.{first-none}
 use Rattle.alone.specs.Base.{rows_ext}
-use Rattle.alone.specs.FashareLaws.{dm-some}
+use Rattle.alone.proofs.FashareLaws.{dm-some}
 use Rattle.blake3.specs.ByteLaws.{length-hash}
 use Rattle.rounds.specs.EchoLaws.{length-hash_vec}
 use Rattle.honest.specs.Script as S

@@ -19,7 +19,7 @@ use Rattle.alone.specs.Formula.{Seen}
 use Rattle.alone.specs.Holds.{triple_rows}
 use Rattle.alone.specs.Cells.{encode-ext}
 use Rattle.alone.specs.Given.{Admissible}
-use Rattle.alone.specs.BucketsLaws.{a_read, c_read, small-abc, b-is}
+use Rattle.alone.proofs.BucketsLaws.{a_read, c_read, small-abc, b-is}
 
 pub agree-finish : (n i : ℕ) (c β a c' β' a' : Share) (p q : Bool) → Agree n i c c' → Agree n i β β' → Agree n i a a'
     → Agree n i (B.finish c β a p q) (B.finish c' β' a' p q)

@@ -1,0 +1,9 @@
+pub mod Batches
+pub mod BeaverLaws
+pub mod BucketsLaws
+pub mod FashareLaws
+pub mod FlaandLaws
+pub mod HaandLaws
+pub mod Opening
+pub mod Rounds
+pub mod Theorem

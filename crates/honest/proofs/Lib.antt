@@ -1,0 +1,13 @@
+pub mod Beaver
+pub mod Buckets
+pub mod Fabitn
+pub mod Fashare
+pub mod Firsts
+pub mod Flaand
+pub mod Haand
+pub mod OpeningLaws
+pub mod PremisesLaws
+pub mod Results
+pub mod Supply
+pub mod Theorem
+pub mod Toss
