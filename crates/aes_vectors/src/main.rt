@@ -11,7 +11,7 @@ ghost use Rattle.window.specs.Ready.{Ready};
 use aes_key::WORDS;
 use aes_tables::ENTRIES;
 use block::Block;
-use libc::STDOUT_FILENO;
+use std::io;
 use window::Cipher;
 
 const SEEDS: usize = 1000;
@@ -41,32 +41,32 @@ fn digit(n: u8) -> u8 {
 }
 
 // Writes a byte in hexadecimal.
-fn show_byte(b: u8) {
+fn show_byte(rt: &impl Print, b: u8) -> io::Result<()> {
     let two = [digit(b >> 4), digit(b)];
-    io::write_all(STDOUT_FILENO, &two);
+    rt.write_all(&two)
 }
 
 // Writes the bytes in hexadecimal, and a line end.
-fn show(s: &[u8]) {
+fn show(rt: &impl Print, s: &[u8]) -> io::Result<()> {
     let mut i = 0;
     while i < s.len() {
-        show_byte(s[i]);
+        show_byte(rt, s[i])?;
         i += 1;
     }
-    io::write_all(STDOUT_FILENO, b"\n");
+    rt.write_all(b"\n")
 }
 
 // Writes n in decimal.
-fn decimal(n: usize) {
+fn decimal(rt: &impl Print, n: usize) -> io::Result<()> {
     if 9 < n {
-        decimal(n / 10);
+        decimal(rt, n / 10)?;
     }
     let d = [48 + (n % 10) as u8];
-    io::write_all(STDOUT_FILENO, &d);
+    rt.write_all(&d)
 }
 
 // Writes a key's words, a line for each.
-fn show_words(key: &[u8; 16]) {
+fn show_words(rt: &impl Print, key: &[u8; 16]) -> io::Result<()> {
     let t = aes_tables::tables();
     let w = aes_key::expand(&t, &key[..]);
     let mut i = 0;
@@ -77,18 +77,19 @@ fn show_words(key: &[u8; 16]) {
             (w[i] / 0x1_0000 % 256) as u8,
             (w[i] / 0x100_0000 % 256) as u8,
         ];
-        show(&b);
+        show(rt, &b)?;
         i += 1;
     }
+    Ok(())
 }
 
 // Writes a Block under a key.
-fn show_cipher(key: &[u8; 16], input: &[u8; 16]) {
+fn show_cipher(rt: &impl Print, key: &[u8; 16], input: &[u8; 16]) -> io::Result<()> {
     let t = aes_tables::tables();
     let w = aes_key::expand(&t, &key[..]);
     let mut out = [0u8; 16];
     block::store(&mut out, aes::encrypt(&t, &w, block::load(&input[..], 0)));
-    show(&out);
+    show(rt, &out)
 }
 
 // Seed k of oracle/aes-blocks: byte i is (2i + 1)k + (i + 7)(k div 256) + (2k + 29)i^2 modulo 256, each summand made from the one before.
@@ -174,7 +175,7 @@ fn draw_all(out: &mut [u8], k: usize)
 }
 
 // Writes the Blocks of one seed, each behind its number.
-fn show_drawn(s: &[u8])
+fn show_drawn(rt: &impl Print, s: &[u8]) -> io::Result<()>
     requires { length s.now ≡ 176 }
 {
     let numbers = NUMBERS;
@@ -182,28 +183,29 @@ fn show_drawn(s: &[u8])
     while i < 11 {
         let a = i * 16;
         let e = a + 16;
-        decimal(numbers[i]);
-        io::write_all(STDOUT_FILENO, b" ");
-        show(&s[a..e]);
+        decimal(rt, numbers[i])?;
+        rt.write_all(b" ")?;
+        show(rt, &s[a..e])?;
         i += 1;
     }
+    Ok(())
 }
 
 // Writes the BLAKE3 of s.
-fn show_hash(s: &[u8]) {
+fn show_hash(rt: &impl Print, s: &[u8]) -> io::Result<()> {
     let mut hash = [0u8; 32];
     blake3::hash(s, &mut hash);
     let mut i = 0;
     while i < 32 {
-        show_byte(hash[i]);
+        show_byte(rt, hash[i])?;
         i += 1;
     }
-    io::write_all(STDOUT_FILENO, b"\n");
+    rt.write_all(b"\n")
 }
 
-fn main() {
-    show_words(&KEY);
-    show_cipher(&KEY, &INPUT);
+fn main(rt: HostRuntime) -> io::Result<()> {
+    show_words(&rt, &KEY)?;
+    show_cipher(&rt, &KEY, &INPUT)?;
     let mut key = [0u8; 16];
     let mut input = [0u8; 16];
     let mut i = 0;
@@ -212,7 +214,7 @@ fn main() {
         input[i] = (i * 17) as u8;
         i += 1;
     }
-    show_cipher(&key, &input);
+    show_cipher(&rt, &key, &input)?;
     let mut all = [0u8; ALL];
     let mut k = 0;
     while k < SEEDS {
@@ -221,6 +223,6 @@ fn main() {
         draw_all(&mut all[a..e], k);
         k += 1;
     }
-    show_drawn(&all[EACH..2 * EACH]);
-    show_hash(&all);
+    show_drawn(&rt, &all[EACH..2 * EACH])?;
+    show_hash(&rt, &all)
 }

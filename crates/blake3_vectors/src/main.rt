@@ -2,7 +2,7 @@
 // A line for each: the length, a space, the hash. The file stdout beside src/ was made by Debian's b3sum: make-stdout makes it again.
 #![tactic(auto)]
 
-use libc::STDOUT_FILENO;
+use std::io;
 
 const LENGTHS: [usize; 35] = [
     0, 1, 2, 3, 4, 5, 6, 7, 8, 63, 64, 65, 127, 128, 129, 1023, 1024, 1025, 2048, 2049, 3072, 3073,
@@ -10,12 +10,12 @@ const LENGTHS: [usize; 35] = [
 ];
 
 // Writes n in decimal.
-fn decimal(n: usize) {
+fn decimal(rt: &impl Print, n: usize) -> io::Result<()> {
     if 9 < n {
-        decimal(n / 10);
+        decimal(rt, n / 10)?;
     }
     let d = [48 + (n % 10) as u8];
-    io::write_all(STDOUT_FILENO, &d);
+    rt.write_all(&d)
 }
 
 // The hexadecimal digit of n's low half.
@@ -25,7 +25,7 @@ fn digit(n: u8) -> u8 {
 }
 
 // Writes the hash of the first n bytes of s, behind n.
-fn show(s: &[u8; 102400], n: usize) {
+fn show(rt: &impl Print, s: &[u8; 102400], n: usize) -> io::Result<()> {
     let mut hash = [0u8; 32];
     let t = &s[..];
     if n <= t.len() {
@@ -38,9 +38,9 @@ fn show(s: &[u8; 102400], n: usize) {
         line[2 * i + 1] = digit(hash[i]);
         i += 1;
     }
-    decimal(n);
-    io::write_all(STDOUT_FILENO, b" ");
-    io::write_all(STDOUT_FILENO, &line);
+    decimal(rt, n)?;
+    rt.write_all(b" ")?;
+    rt.write_all(&line)
 }
 
 fn fill(s: &mut [u8; 102400]) {
@@ -53,13 +53,14 @@ fn fill(s: &mut [u8; 102400]) {
     }
 }
 
-fn main() {
+fn main(rt: HostRuntime) -> io::Result<()> {
     let mut s = [0u8; 102400];
     fill(&mut s);
     let lengths = LENGTHS;
     let mut i: usize = 0;
     while i < 35 {
-        show(&s, lengths[i]);
+        show(&rt, &s, lengths[i])?;
         i += 1;
     }
+    Ok(())
 }

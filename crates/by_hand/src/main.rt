@@ -5,17 +5,15 @@
 #![tactic(auto)]
 
 use engine::{Answer, Session, Verdict};
-use libc::STDOUT_FILENO;
+use std::io;
 
 // The bytes of a work area of 8 boxes for one AND.
 const WORK_LEN: usize = 131906;
 
 // What was asked, and the number that came: 0 for accepted.
-fn line(what: &[u8], number: u8) {
-    io::write_all(STDOUT_FILENO, what);
-    io::write_all(STDOUT_FILENO, b": ");
-    io::print_decimal(STDOUT_FILENO, number as u64);
-    io::write_all(STDOUT_FILENO, b"\n");
+fn line(rt: &impl Print, what: &[u8], number: u8) -> io::Result<()> {
+    rt.write_all(what)?;
+    println!(rt; ": {number}")
 }
 
 fn number(v: Verdict) -> u8 {
@@ -99,7 +97,14 @@ fn echo(s: Session, work: &mut [u8; WORK_LEN], out: &mut [u8]) -> u8 {
 }
 
 // The call for round 1, with an outgoing buffer as it is due, of the same session with other counts.
-fn forged(what: &[u8], s: Session, first: u32, second: u32, work: &mut [u8; WORK_LEN]) {
+fn forged(
+    rt: &impl Print,
+    what: &[u8],
+    s: Session,
+    first: u32,
+    second: u32,
+    work: &mut [u8; WORK_LEN],
+) -> io::Result<()> {
     let party = s.party;
     let other = Session {
         party: party,
@@ -107,82 +112,87 @@ fn forged(what: &[u8], s: Session, first: u32, second: u32, work: &mut [u8; WORK
         counts: [first, second, 0, 0, 0, 0, 0, 0, 0, 0, 0, 0, 0, 0, 0, 0],
     };
     let mut out = [0u8; 784];
-    line(what, echo(other, work, &mut out));
+    line(rt, what, echo(other, work, &mut out))
 }
 
-fn eight() {
+fn eight(rt: &impl Print) -> io::Result<()> {
     let mut work = [0u8; WORK_LEN];
     let a = open_eight(&mut work);
     let s = a.session;
     let v = a.verdict;
-    line(b"8 boxes, 1 result", number(v));
+    line(rt, b"8 boxes, 1 result", number(v))?;
     let mut long = [0u8; 791];
     line(
+        rt,
         b"echoes of 113 bytes among 8",
         echo(s, &mut work, &mut long),
-    );
-    forged(b"no batch in the session", s, 0, 0, &mut work);
-    forged(b"batches of 2 for 1 result", s, 2, 0, &mut work);
-    forged(b"batches of 1 and 1 for 1 result", s, 1, 1, &mut work);
-    forged(b"batches of 0 and 1 for 1 result", s, 0, 1, &mut work);
+    )?;
+    forged(rt, b"no batch in the session", s, 0, 0, &mut work)?;
+    forged(rt, b"batches of 2 for 1 result", s, 2, 0, &mut work)?;
+    forged(rt, b"batches of 1 and 1 for 1 result", s, 1, 1, &mut work)?;
+    forged(rt, b"batches of 0 and 1 for 1 result", s, 0, 1, &mut work)?;
     let mut out = [0u8; 784];
-    line(b"echoes of 112 bytes among 8", echo(s, &mut work, &mut out));
+    line(
+        rt,
+        b"echoes of 112 bytes among 8",
+        echo(s, &mut work, &mut out),
+    )
 }
 
 // One batch, and two.
-fn one(what: &[u8], n: usize, count: u32) {
-    line(what, bare(n, &[count]));
+fn one(rt: &impl Print, what: &[u8], n: usize, count: u32) -> io::Result<()> {
+    line(rt, what, bare(n, &[count]))
 }
 
-fn two(what: &[u8], n: usize, first: u32, second: u32) {
-    line(what, bare(n, &[first, second]));
+fn two(rt: &impl Print, what: &[u8], n: usize, first: u32, second: u32) -> io::Result<()> {
+    line(rt, what, bare(n, &[first, second]))
 }
 
 // None, 16 and 17 of `count` each.
-fn none(what: &[u8], n: usize) {
+fn none(rt: &impl Print, what: &[u8], n: usize) -> io::Result<()> {
     let counts = [1u32];
-    line(what, bare(n, &counts[..0]));
+    line(rt, what, bare(n, &counts[..0]))
 }
 
-fn sixteen(what: &[u8], n: usize, count: u32) {
+fn sixteen(rt: &impl Print, what: &[u8], n: usize, count: u32) -> io::Result<()> {
     let counts = [count; 16];
-    line(what, bare(n, &counts));
+    line(rt, what, bare(n, &counts))
 }
 
-fn seventeen(what: &[u8], n: usize, count: u32) {
+fn seventeen(rt: &impl Print, what: &[u8], n: usize, count: u32) -> io::Result<()> {
     let counts = [count; 17];
-    line(what, bare(n, &counts));
+    line(rt, what, bare(n, &counts))
 }
 
 // How many batches there may be, and that 15 comes before it.
-fn batches() {
-    none(b"no batch", 2);
-    sixteen(b"16 batches, no share lists", 2, 18750);
-    seventeen(b"17 batches", 2, 1);
-    seventeen(b"17 batches of 300000", 2, 300000);
-    none(b"9 boxes, no batch", 9);
-    seventeen(b"9 boxes, 17 batches", 9, 1);
+fn batches(rt: &impl Print) -> io::Result<()> {
+    none(rt, b"no batch", 2)?;
+    sixteen(rt, b"16 batches, no share lists", 2, 18750)?;
+    seventeen(rt, b"17 batches", 2, 1)?;
+    seventeen(rt, b"17 batches of 300000", 2, 300000)?;
+    none(rt, b"9 boxes, no batch", 9)?;
+    seventeen(rt, b"9 boxes, 17 batches", 9, 1)
 }
 
 // Their sum, and batches of 0.
-fn sums() {
-    two(b"299999 and 1, no share lists", 2, 299999, 1);
-    two(b"299999 and 2", 2, 299999, 2);
-    two(b"4294967295 and 2", 2, 4294967295, 2);
-    sixteen(b"16 of 4294967295", 2, 4294967295);
-    one(b"0", 2, 0);
-    two(b"0 and 1", 2, 0, 1);
-    two(b"300000 and 0", 2, 300000, 0);
-    two(b"300001 and 0", 2, 300001, 0);
-    two(b"9 boxes, 300001 and 0", 9, 300001, 0);
+fn sums(rt: &impl Print) -> io::Result<()> {
+    two(rt, b"299999 and 1, no share lists", 2, 299999, 1)?;
+    two(rt, b"299999 and 2", 2, 299999, 2)?;
+    two(rt, b"4294967295 and 2", 2, 4294967295, 2)?;
+    sixteen(rt, b"16 of 4294967295", 2, 4294967295)?;
+    one(rt, b"0", 2, 0)?;
+    two(rt, b"0 and 1", 2, 0, 1)?;
+    two(rt, b"300000 and 0", 2, 300000, 0)?;
+    two(rt, b"300001 and 0", 2, 300001, 0)?;
+    two(rt, b"9 boxes, 300001 and 0", 9, 300001, 0)
 }
 
-fn main() {
-    one(b"300000 results, no share lists", 2, 300000);
-    one(b"300001 results", 2, 300001);
-    one(b"8 boxes, no share lists", 8, 1);
-    one(b"9 boxes", 9, 1);
-    batches();
-    sums();
-    eight();
+fn main(rt: HostRuntime) -> io::Result<()> {
+    one(&rt, b"300000 results, no share lists", 2, 300000)?;
+    one(&rt, b"300001 results", 2, 300001)?;
+    one(&rt, b"8 boxes, no share lists", 8, 1)?;
+    one(&rt, b"9 boxes", 9, 1)?;
+    batches(&rt)?;
+    sums(&rt)?;
+    eight(&rt)
 }

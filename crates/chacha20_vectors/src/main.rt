@@ -6,7 +6,7 @@
 
 ghost use Rattle.std.specs.Prelude.{◌≡◌, ◌*◌, ◌≤◌, length};
 
-use libc::STDOUT_FILENO;
+use std::io;
 
 // 2.2.1: the state before QUARTERROUND(2, 7, 8, 13).
 const STATE: [u32; 16] = [
@@ -33,77 +33,78 @@ fn digit(n: u8) -> u8 {
 }
 
 // Writes a byte in hexadecimal.
-fn show_byte(b: u8) {
+fn show_byte(rt: &impl Print, b: u8) -> io::Result<()> {
     let two = [digit(b >> 4), digit(b)];
-    io::write_all(STDOUT_FILENO, &two);
+    rt.write_all(&two)
 }
 
 // Writes the bytes in hexadecimal, and a line end.
-fn show(s: &[u8]) {
+fn show(rt: &impl Print, s: &[u8]) -> io::Result<()> {
     let mut i = 0;
     while i < s.len() {
-        show_byte(s[i]);
+        show_byte(rt, s[i])?;
         i += 1;
     }
-    io::write_all(STDOUT_FILENO, b"\n");
+    rt.write_all(b"\n")
 }
 
 // Writes n in decimal.
-fn decimal(n: usize) {
+fn decimal(rt: &impl Print, n: usize) -> io::Result<()> {
     if 9 < n {
-        decimal(n / 10);
+        decimal(rt, n / 10)?;
     }
     let d = [48 + (n % 10) as u8];
-    io::write_all(STDOUT_FILENO, &d);
+    rt.write_all(&d)
 }
 
 // Writes a word as the RFC does, its high byte first.
-fn show_word(w: u32) {
-    show_byte((w / 0x100_0000 % 256) as u8);
-    show_byte((w / 0x1_0000 % 256) as u8);
-    show_byte((w / 0x100 % 256) as u8);
-    show_byte((w % 256) as u8);
-    io::write_all(STDOUT_FILENO, b"\n");
+fn show_word(rt: &impl Print, w: u32) -> io::Result<()> {
+    show_byte(rt, (w / 0x100_0000 % 256) as u8)?;
+    show_byte(rt, (w / 0x1_0000 % 256) as u8)?;
+    show_byte(rt, (w / 0x100 % 256) as u8)?;
+    show_byte(rt, (w % 256) as u8)?;
+    rt.write_all(b"\n")
 }
 
 // Writes the first n words of a state.
-fn show_words(v: &[u32; 16], n: usize)
+fn show_words(rt: &impl Print, v: &[u32; 16], n: usize) -> io::Result<()>
     requires { n ≤ 16 }
 {
     let mut i = 0;
     while i < n {
-        show_word(v[i]);
+        show_word(rt, v[i])?;
         i += 1;
     }
+    Ok(())
 }
 
 // 2.1.1
-fn show_quarter() {
+fn show_quarter(rt: &impl Print) -> io::Result<()> {
     let mut v = [0u32; 16];
     v[0] = 0x11111111;
     v[1] = 0x01020304;
     v[2] = 0x9b8d6f43;
     v[3] = 0x01234567;
     chacha20::qround(&mut v, 0, 1, 2, 3);
-    show_words(&v, 4);
+    show_words(rt, &v, 4)
 }
 
 // 2.2.1
-fn show_state() {
+fn show_state(rt: &impl Print) -> io::Result<()> {
     let mut v = STATE;
     chacha20::qround(&mut v, 2, 7, 8, 13);
-    show_words(&v, 16);
+    show_words(rt, &v, 16)
 }
 
 // Writes a block.
-fn show_block(key: &[u8; 32], counter: u32, nonce: &[u8; 12]) {
+fn show_block(rt: &impl Print, key: &[u8; 32], counter: u32, nonce: &[u8; 12]) -> io::Result<()> {
     let mut out = [0u8; 64];
     chacha20::block(&mut out[..], &key[..], counter, &nonce[..]);
-    show(&out);
+    show(rt, &out)
 }
 
 // Appendix A.1
-fn show_blocks() {
+fn show_blocks(rt: &impl Print) -> io::Result<()> {
     let zero = [0u8; 32];
     let mut last = [0u8; 32];
     last[31] = 1;
@@ -112,11 +113,11 @@ fn show_blocks() {
     let none = [0u8; 12];
     let mut two = [0u8; 12];
     two[11] = 2;
-    show_block(&zero, 0, &none);
-    show_block(&zero, 1, &none);
-    show_block(&last, 1, &none);
-    show_block(&second, 2, &none);
-    show_block(&zero, 0, &two);
+    show_block(rt, &zero, 0, &none)?;
+    show_block(rt, &zero, 1, &none)?;
+    show_block(rt, &last, 1, &none)?;
+    show_block(rt, &second, 2, &none)?;
+    show_block(rt, &zero, 0, &two)
 }
 
 // The key 00 .. 1f.
@@ -139,64 +140,64 @@ fn draw(section: &mut [u8], key: &[u8; 32], n: usize)
 }
 
 // Writes the permutation of 17 numbers.
-fn show_list(key: &[u8; 32]) {
+fn show_list(rt: &impl Print, key: &[u8; 32]) -> io::Result<()> {
     let mut list = [0u8; 68];
     draw(&mut list[..], key, 17);
     let mut i = 0;
     while i < 17 {
         if 0 < i {
-            io::write_all(STDOUT_FILENO, b" ");
+            rt.write_all(b" ")?;
         }
-        decimal(word::load(&list[..], i * 4) as usize);
+        decimal(rt, word::load(&list[..], i * 4) as usize)?;
         i += 1;
     }
-    io::write_all(STDOUT_FILENO, b"\n");
+    rt.write_all(b"\n")
 }
 
 // Writes the BLAKE3 of s.
-fn show_hash(s: &[u8]) {
+fn show_hash(rt: &impl Print, s: &[u8]) -> io::Result<()> {
     let mut hash = [0u8; 32];
     blake3::hash(s, &mut hash);
     let mut i = 0;
     while i < 32 {
-        show_byte(hash[i]);
+        show_byte(rt, hash[i])?;
         i += 1;
     }
-    io::write_all(STDOUT_FILENO, b"\n");
+    rt.write_all(b"\n")
 }
 
 // Writes the BLAKE3 of the permutation of n numbers.
-fn show_section(section: &mut [u8], key: &[u8; 32], n: usize)
+fn show_section(rt: &impl Print, section: &mut [u8], key: &[u8; 32], n: usize) -> io::Result<()>
     requires { (length section.old ≡ n * 4) × (1 ≤ n) × (n ≤ 12400) }
 {
     draw(section, key, n);
-    show_hash(section);
+    show_hash(rt, section)
 }
 
 // Writes it behind n.
-fn show_drawn(key: &[u8; 32], n: usize)
+fn show_drawn(rt: &impl Print, key: &[u8; 32], n: usize) -> io::Result<()>
     requires { (1 ≤ n) × (n ≤ 12400) }
 {
     let mut all = [0u8; ALL];
     let e = n * 4;
-    decimal(n);
-    io::write_all(STDOUT_FILENO, b" ");
-    show_section(&mut all[0..e], key, n);
+    decimal(rt, n)?;
+    rt.write_all(b" ")?;
+    show_section(rt, &mut all[0..e], key, n)
 }
 
-fn main() {
-    show_quarter();
-    show_state();
+fn main(rt: HostRuntime) -> io::Result<()> {
+    show_quarter(&rt)?;
+    show_state(&rt)?;
     let key = counted();
-    show_block(&key, 1, &NONCE);
-    show_blocks();
-    show_list(&key);
-    show_drawn(&key, 16);
-    show_drawn(&key, 17);
-    show_drawn(&key, 1023);
-    show_drawn(&key, 1024);
-    show_drawn(&key, 1025);
+    show_block(&rt, &key, 1, &NONCE)?;
+    show_blocks(&rt)?;
+    show_list(&rt, &key)?;
+    show_drawn(&rt, &key, 16)?;
+    show_drawn(&rt, &key, 17)?;
+    show_drawn(&rt, &key, 1023)?;
+    show_drawn(&rt, &key, 1024)?;
+    show_drawn(&rt, &key, 1025)?;
     let mut passing = [0u8; 32];
     passing[0] = NUMBER;
-    show_drawn(&passing, LONG);
+    show_drawn(&rt, &passing, LONG)
 }

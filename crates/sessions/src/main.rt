@@ -5,9 +5,10 @@
 // 11 (it doesn't open the third commitment), and of batches.
 #![tactic(auto)]
 
-ghost use Rattle.std.specs.Prelude.{◌*◌, ◌≤◌};
+ghost use Rattle.std.specs.Prelude.{◌*◌, ◌≤◌, IfOk};
 
 use boxes::{NEVER, Play, Works};
+use std::io;
 use table::{SHARES_LEN, TABLE_LEN, Table};
 
 mod boxes;
@@ -16,106 +17,119 @@ mod report;
 mod table;
 
 // Round k: what the boxes wrote is sent, and each is called. Answers how many bytes a box sent, which had sent `sum` before.
-fn turn(t: &mut Table, works: &mut Works, p: Play, k: usize, sum: usize) -> usize
-    ensures { result ≤ 7696 }
+fn turn(
+    rt: &impl Print,
+    t: &mut Table,
+    works: &mut Works,
+    p: Play,
+    k: usize,
+    sum: usize,
+) -> io::Result<usize>
+    ensures { IfOk result (λ len. len ≤ 7696) }
 {
     let n = p.n;
     if !plan::is_round(n, k) {
-        return 0;
+        return Ok(0);
     }
     let len = boxes::sent_len(n, p.l, k);
     boxes::send_all(t, n, sum, len);
     if p.round == 0 {
-        report::round(t, n, len, k);
+        report::round(rt, t, n, len, k)?;
     }
     boxes::call_all(t, works, p, k);
-    len
+    Ok(len)
 }
 
 // Rounds 1 to 22; what was written last are the results. Answers how many bytes a box sent in all.
-fn rounds(t: &mut Table, works: &mut Works, p: Play) -> usize {
+fn rounds(rt: &impl Print, t: &mut Table, works: &mut Works, p: Play) -> io::Result<usize> {
     let mut sum = 0;
     let mut k = 1;
     while k < 23 {
-        sum += turn(t, works, p, k, sum);
+        sum += turn(rt, t, works, p, k, sum)?;
         k += 1;
     }
-    sum
+    Ok(sum)
 }
 
 // The end of a session: results, what a box sent, the work areas, how the boxes ended, and how they answer a call behind the last.
-fn finish(t: &mut Table, works: &mut Works, p: Play, sum: usize)
+fn finish(rt: &impl Print, t: &mut Table, works: &mut Works, p: Play, sum: usize) -> io::Result<()>
     requires { p.n ≤ 3 }
 {
     let n = p.n;
     let l = p.l;
-    report::results(t, n, table::least(plan::shares_len(n, l), SHARES_LEN));
-    report::left(t, n, sum);
-    report::ends(t, n);
-    report::say(b"a call for round 22 behind it\n", [0, 0, 0, 0]);
+    report::results(rt, t, n, table::least(plan::shares_len(n, l), SHARES_LEN))?;
+    report::left(rt, t, n, sum)?;
+    report::ends(rt, t, n)?;
+    report::say(rt, b"a call for round 22 behind it\n", [0, 0, 0, 0])?;
     boxes::call_all(t, works, p, 22);
-    report::ends(t, n);
+    report::ends(rt, t, n)
 }
 
 // All calls of a session. Answers how many bytes a box sent in all.
-fn play(t: &mut Table, works: &mut Works, p: Play) -> usize
+fn play(rt: &impl Print, t: &mut Table, works: &mut Works, p: Play) -> io::Result<usize>
     requires { (p.n ≤ 3) × (p.l ≤ 16) }
 {
     deal::inputs(t, p.n, p.l);
     boxes::call_all(t, works, p, 0);
-    rounds(t, works, p)
+    rounds(rt, t, works, p)
 }
 
 // A session; of one with a flip only how the boxes ended.
-fn run(p: Play)
+fn run(rt: &impl Print, p: Play) -> io::Result<()>
     requires { (p.n ≤ 3) × (p.l ≤ 16) }
 {
     let mut t = [0u8; TABLE_LEN];
     let mut works = [0xa5u8; 172200];
-    let sum = play(&mut t, &mut works, p);
+    let sum = play(rt, &mut t, &mut works, p)?;
     if p.round == 0 {
-        finish(&mut t, &mut works, p, sum);
+        finish(rt, &mut t, &mut works, p, sum)
     } else {
-        report::ends(&t, p.n);
+        report::ends(rt, &t, p.n)
     }
 }
 
 // The session of 3 with a bit flipped in byte `at` of the message of a round.
-fn flipped(round: usize, from: usize, to: usize, at: usize) {
+fn flipped(rt: &impl Print, round: usize, from: usize, to: usize, at: usize) -> io::Result<()> {
     let xs = [round, at, from, to];
     if to == 3 {
-        report::say(b"round # flipped in byte # from # to both\n", xs);
+        report::say(rt, b"round # flipped in byte # from # to both\n", xs)?;
     } else {
-        report::say(b"round # flipped in byte # from # to #\n", xs);
+        report::say(rt, b"round # flipped in byte # from # to #\n", xs)?;
     }
-    run(Play {
-        n: 3,
-        l: 2,
-        apart: false,
-        round: round,
-        from: from,
-        to: to,
-        at: at,
-    });
+    run(
+        rt,
+        Play {
+            n: 3,
+            l: 2,
+            apart: false,
+            round: round,
+            from: from,
+            to: to,
+            at: at,
+        },
+    )
 }
 
-fn whole(n: usize, l: usize)
+fn whole(rt: &impl Print, n: usize, l: usize) -> io::Result<()>
     requires { (n ≤ 3) × (l ≤ 16) }
 {
-    report::say(b"parties #, results #\n", [n, l, 0, 0]);
-    run(Play {
-        n: n,
-        l: l,
-        apart: false,
-        round: 0,
-        from: 0,
-        to: 0,
-        at: 0,
-    });
+    report::say(rt, b"parties #, results #\n", [n, l, 0, 0])?;
+    run(
+        rt,
+        Play {
+            n: n,
+            l: l,
+            apart: false,
+            round: 0,
+            from: 0,
+            to: 0,
+            at: 0,
+        },
+    )
 }
 
 // A session in batches, against the same in one.
-fn batched(n: usize, l: usize)
+fn batched(rt: &impl Print, n: usize, l: usize) -> io::Result<()>
     requires { (n ≤ 3) × (l ≤ 16) }
 {
     let mut p = Play {
@@ -130,33 +144,33 @@ fn batched(n: usize, l: usize)
     let mut t = [0u8; TABLE_LEN];
     let mut u = [0u8; TABLE_LEN];
     let mut works = [0xa5u8; 172200];
-    play(&mut t, &mut works, p);
+    play(rt, &mut t, &mut works, p)?;
     p.apart = true;
-    let sum = play(&mut u, &mut works, p);
-    report::lists(p);
-    report::batched(&t, &u, n, sum, plan::shares_len(n, l));
-    report::told_all(&u, n);
+    let sum = play(rt, &mut u, &mut works, p)?;
+    report::lists(rt, p)?;
+    report::batched(rt, &t, &u, n, sum, plan::shares_len(n, l))?;
+    report::told_all(rt, &u, n)?;
     boxes::call_all(&mut u, &mut works, p, 22);
-    report::quiet(&u, n);
+    report::quiet(rt, &u, n)
 }
 
-fn main() {
-    whole(2, 1);
-    whole(3, 2);
-    flipped(1, 1, 0, 8);
-    flipped(1, 1, 3, 8);
-    flipped(6, 1, 0, 8);
-    flipped(6, 1, 3, 8);
-    flipped(6, 1, 0, 9);
-    flipped(8, 1, 3, 72);
-    flipped(10, 2, 0, 17);
-    flipped(10, 2, 3, 17);
-    flipped(12, 0, 1, 8);
-    flipped(12, 0, 3, 8);
-    flipped(19, 2, 1, 8);
-    flipped(19, 2, 3, 8);
-    flipped(21, 0, 2, 16);
-    flipped(22, 1, 2, 8);
-    batched(2, 16);
-    batched(3, 6);
+fn main(rt: HostRuntime) -> io::Result<()> {
+    whole(&rt, 2, 1)?;
+    whole(&rt, 3, 2)?;
+    flipped(&rt, 1, 1, 0, 8)?;
+    flipped(&rt, 1, 1, 3, 8)?;
+    flipped(&rt, 6, 1, 0, 8)?;
+    flipped(&rt, 6, 1, 3, 8)?;
+    flipped(&rt, 6, 1, 0, 9)?;
+    flipped(&rt, 8, 1, 3, 72)?;
+    flipped(&rt, 10, 2, 0, 17)?;
+    flipped(&rt, 10, 2, 3, 17)?;
+    flipped(&rt, 12, 0, 1, 8)?;
+    flipped(&rt, 12, 0, 3, 8)?;
+    flipped(&rt, 19, 2, 1, 8)?;
+    flipped(&rt, 19, 2, 3, 8)?;
+    flipped(&rt, 21, 0, 2, 16)?;
+    flipped(&rt, 22, 1, 2, 8)?;
+    batched(&rt, 2, 16)?;
+    batched(&rt, 3, 6)
 }

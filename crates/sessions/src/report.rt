@@ -5,18 +5,20 @@ use crate::boxes::{List, Play};
 use crate::table::{
     ALL, ALPHA, BETA, CLEAN, DUE, LOUD, NUMBER, OUT, PARTY, ROUND, TOLD, Table, ZERO,
 };
-use libc::STDOUT_FILENO;
+use std::io;
 
 // ---- lines
 
-fn number(xs: [usize; 4], q: usize) {
+fn number(rt: &impl Print, xs: [usize; 4], q: usize) -> io::Result<()> {
     if q < 4 {
-        io::print_decimal(STDOUT_FILENO, xs[q] as u64);
+        let x = xs[q];
+        print!(rt; "{x}")?;
     }
+    Ok(())
 }
 
 // Prints a line, with a number in the place of each '#'.
-pub(crate) fn say(line: &[u8], xs: [usize; 4]) {
+pub(crate) fn say(rt: &impl Print, line: &[u8], xs: [usize; 4]) -> io::Result<()> {
     let mut from = 0;
     let mut count = 0;
     let mut q = 0;
@@ -24,21 +26,21 @@ pub(crate) fn say(line: &[u8], xs: [usize; 4]) {
         let end = q;
         q += 1;
         if line[end] == b'#' {
-            io::write_all(STDOUT_FILENO, &line[from..end]);
-            number(xs, count);
+            rt.write_all(&line[from..end])?;
+            number(rt, xs, count)?;
             count += 1;
             from = q;
         }
     }
-    io::write_all(STDOUT_FILENO, &line[from..]);
+    rt.write_all(&line[from..])
 }
 
-fn text(s: &[u8]) {
-    io::write_all(STDOUT_FILENO, s);
+fn text(rt: &impl Print, s: &[u8]) -> io::Result<()> {
+    rt.write_all(s)
 }
 
 // The name of round k, without the zeros behind it.
-fn name(k: usize) {
+fn name(rt: &impl Print, k: usize) -> io::Result<()> {
     let s = plan::round_name(k);
     let t = &s[..];
     let mut j = 0;
@@ -48,44 +50,49 @@ fn name(k: usize) {
         }
         j += 1;
     }
-    io::write_all(STDOUT_FILENO, &t[0..j]);
+    rt.write_all(&t[0..j])
 }
 
 // ---- what boxes wrote
 
-fn hexadecimal(x: u8) {
-    io::print_hex(STDOUT_FILENO, x as u64, 2);
+fn hexadecimal(rt: &impl Print, x: u8) -> io::Result<()> {
+    print!(rt; "{x:02x}")
 }
 
 // The length, and the first eight bytes of the BLAKE3.
-fn digest(s: &[u8]) {
+fn digest(rt: &impl Print, s: &[u8]) -> io::Result<()> {
     let mut hash = [0u8; 32];
     blake3::hash(s, &mut hash);
-    say(b", # ", [s.len(), 0, 0, 0]);
+    say(rt, b", # ", [s.len(), 0, 0, 0])?;
     let mut q: usize = 0;
     while q < 8 {
-        hexadecimal(hash[q]);
+        hexadecimal(rt, hash[q])?;
         q += 1;
     }
+    Ok(())
 }
 
 // The digests of len bytes at `place` of each room.
-fn digests(t: &Table, place: usize, n: usize, len: usize)
+fn digests(rt: &impl Print, t: &Table, place: usize, n: usize, len: usize) -> io::Result<()>
     requires { place ≤ 89222 }
 {
     let mut i = 0;
     while i < n {
-        digest(crate::table::part(t, crate::table::room(i) + place, len));
+        digest(
+            rt,
+            crate::table::part(t, crate::table::room(i) + place, len),
+        )?;
         i += 1;
     }
+    Ok(())
 }
 
 // Round k, and what each box sent for it.
-pub(crate) fn round(t: &Table, n: usize, len: usize, k: usize) {
-    say(b"# ", [k, 0, 0, 0]);
-    name(k);
-    digests(t, crate::table::SENT, n, len);
-    text(b"\n");
+pub(crate) fn round(rt: &impl Print, t: &Table, n: usize, len: usize, k: usize) -> io::Result<()> {
+    say(rt, b"# ", [k, 0, 0, 0])?;
+    name(rt, k)?;
+    digests(rt, t, crate::table::SENT, n, len)?;
+    text(rt, b"\n")
 }
 
 // ---- results
@@ -145,50 +152,52 @@ fn joint(t: &Table, at: usize, n: usize) -> u8
     sum
 }
 
-fn right(good: bool) {
+fn right(rt: &impl Print, good: bool) -> io::Result<()> {
     if good {
-        text(b"holds");
+        text(rt, b"holds")
     } else {
-        text(b"IS BROKEN");
+        text(rt, b"IS BROKEN")
     }
 }
 
 // One position of the results.
-fn result(t: &Table, at: usize, n: usize)
+fn result(rt: &impl Print, t: &Table, at: usize, n: usize) -> io::Result<()>
     requires { (n ≤ 3) × (at ≤ 1536) }
 {
     let alpha = joint(t, ALPHA + at, n);
     let beta = joint(t, BETA + at, n);
     let bit = joint(t, OUT + at, n);
-    text(b"the MAC rule ");
-    right(macs_hold(t, OUT + at, n));
+    text(rt, b"the MAC rule ")?;
+    right(rt, macs_hold(t, OUT + at, n))?;
     say(
+        rt,
         b", alpha # and beta # is #: the AND ",
         [alpha as usize, beta as usize, bit as usize, 0],
-    );
-    right(alpha & beta == bit);
-    text(b"\n");
+    )?;
+    right(rt, alpha & beta == bit)?;
+    text(rt, b"\n")
 }
 
 // All of them, len bytes.
-fn positions(t: &Table, n: usize, len: usize)
+fn positions(rt: &impl Print, t: &Table, n: usize, len: usize) -> io::Result<()>
     requires { (n ≤ 3) × (len ≤ 1536) }
 {
     let size = crate::deal::record_len(n);
     let mut at = 0;
     while at < len {
-        result(t, at, n);
+        result(rt, t, at, n)?;
         at += size;
     }
+    Ok(())
 }
 
-pub(crate) fn results(t: &Table, n: usize, len: usize)
+pub(crate) fn results(rt: &impl Print, t: &Table, n: usize, len: usize) -> io::Result<()>
     requires { (n ≤ 3) × (len ≤ 1536) }
 {
-    text(b"results");
-    digests(t, OUT, n, len);
-    text(b"\n");
-    positions(t, n, len);
+    text(rt, b"results")?;
+    digests(rt, t, OUT, n, len)?;
+    text(rt, b"\n")?;
+    positions(rt, t, n, len)
 }
 
 // ---- ends
@@ -205,22 +214,24 @@ fn zeroed(t: &Table, n: usize) -> bool {
 }
 
 // What a box sent in all, and the work areas.
-pub(crate) fn left(t: &Table, n: usize, sum: usize) {
+pub(crate) fn left(rt: &impl Print, t: &Table, n: usize, sum: usize) -> io::Result<()> {
     if zeroed(t, n) {
         say(
+            rt,
             b"a box sent # bytes; the work areas are zero\n",
             [sum, 0, 0, 0],
-        );
+        )
     } else {
         say(
+            rt,
             b"a box sent # bytes; the work areas are NOT ZERO\n",
             [sum, 0, 0, 0],
-        );
+        )
     }
 }
 
 // How box i ended.
-fn end(t: &Table, i: usize) {
+fn end(rt: &impl Print, t: &Table, i: usize) -> io::Result<()> {
     let code = crate::table::noted(t, i, NUMBER);
     let xs = [
         i,
@@ -229,55 +240,59 @@ fn end(t: &Table, i: usize) {
         crate::table::noted(t, i, ROUND),
     ];
     if code == 0 {
-        say(b"  box #: done\n", xs);
+        say(rt, b"  box #: done\n", xs)
     } else if crate::table::noted(t, i, CLEAN) == 1 {
         say(
+            rt,
             b"  box #: # of # in round #; its work area is zero, its buffer untouched\n",
             xs,
-        );
+        )
     } else {
         say(
+            rt,
             b"  box #: # of # in round #; ITS MEMORY IS NOT AS DUE\n",
             xs,
-        );
+        )
     }
 }
 
-pub(crate) fn ends(t: &Table, n: usize) {
+pub(crate) fn ends(rt: &impl Print, t: &Table, n: usize) -> io::Result<()> {
     let mut i = 0;
     while i < n {
-        end(t, i);
+        end(rt, t, i)?;
         i += 1;
     }
+    Ok(())
 }
 
 // ---- batches
 
-fn list(b: List) {
+fn list(rt: &impl Print, b: List) -> io::Result<()> {
     let counts = b.counts;
     let len = b.len;
     let mut q: usize = 0;
     while q < 16 {
         if q < len {
-            say(b" #", [crate::table::wide(counts[q]), 0, 0, 0]);
+            say(rt, b" #", [crate::table::wide(counts[q]), 0, 0, 0])?;
         }
         q += 1;
     }
+    Ok(())
 }
 
 // The lists that the boxes are lent.
-pub(crate) fn lists(p: Play) {
+pub(crate) fn lists(rt: &impl Print, p: Play) -> io::Result<()> {
     let n = p.n;
-    say(b"parties #, results # in batches of", [n, p.l, 0, 0]);
+    say(rt, b"parties #, results # in batches of", [n, p.l, 0, 0])?;
     let mut i = 0;
     while i < n {
         if i != 0 {
-            text(b",");
+            text(rt, b",")?;
         }
-        list(crate::boxes::batches(p, i));
+        list(rt, crate::boxes::batches(p, i))?;
         i += 1;
     }
-    text(b"\n");
+    text(rt, b"\n")
 }
 
 // Whether the room of box i has the same inputs, messages and results in both.
@@ -290,21 +305,28 @@ fn same(t: &Table, u: &Table, i: usize) -> bool {
 }
 
 // What was written in batches, u, and whether it is what was in one, t.
-pub(crate) fn batched(t: &Table, u: &Table, n: usize, sum: usize, len: usize) {
-    text(b"messages");
-    digests(u, ALL, n, sum);
-    text(b"\nresults");
-    digests(u, OUT, n, len);
+pub(crate) fn batched(
+    rt: &impl Print,
+    t: &Table,
+    u: &Table,
+    n: usize,
+    sum: usize,
+    len: usize,
+) -> io::Result<()> {
+    text(rt, b"messages")?;
+    digests(rt, u, ALL, n, sum)?;
+    text(rt, b"\nresults")?;
+    digests(rt, u, OUT, n, len)?;
     if same(t, u, 0) & same(t, u, 1) & same(t, u, 2) {
-        text(b"\nthe same as in one batch\n");
+        text(rt, b"\nthe same as in one batch\n")
     } else {
-        text(b"\nNOT THE SAME as in one batch\n");
+        text(rt, b"\nNOT THE SAME as in one batch\n")
     }
 }
 
 // What the last call told box i: each batch's count and first record.
-fn told(t: &Table, i: usize) {
-    say(b"  box #: done; told", [i, 0, 0, 0]);
+fn told(rt: &impl Print, t: &Table, i: usize) -> io::Result<()> {
+    say(rt, b"  box #: done; told", [i, 0, 0, 0])?;
     let mut used = true;
     let mut clean = true;
     let mut q: usize = 0;
@@ -313,33 +335,34 @@ fn told(t: &Table, i: usize) {
         let count = crate::table::noted(t, i, TOLD + 2 * q + 1);
         used = used & (count != 0);
         if used {
-            say(b" # from #;", [count, first, 0, 0]);
+            say(rt, b" # from #;", [count, first, 0, 0])?;
         } else {
             clean = clean & (first == 0) & (count == 0);
         }
         q += 1;
     }
     if clean {
-        text(b" zeros else\n");
+        text(rt, b" zeros else\n")
     } else {
-        text(b" NOT ZEROS ELSE\n");
+        text(rt, b" NOT ZEROS ELSE\n")
     }
 }
 
-pub(crate) fn told_all(t: &Table, n: usize) {
+pub(crate) fn told_all(rt: &impl Print, t: &Table, n: usize) -> io::Result<()> {
     let mut i = 0;
     while i < n {
         if crate::table::noted(t, i, NUMBER) == 0 {
-            told(t, i);
+            told(rt, t, i)?;
         } else {
-            end(t, i);
+            end(rt, t, i)?;
         }
         i += 1;
     }
+    Ok(())
 }
 
 // Whether each box was told of batches by one call alone.
-pub(crate) fn quiet(t: &Table, n: usize) {
+pub(crate) fn quiet(rt: &impl Print, t: &Table, n: usize) -> io::Result<()> {
     let mut good = true;
     let mut i = 0;
     while i < n {
@@ -347,8 +370,8 @@ pub(crate) fn quiet(t: &Table, n: usize) {
         i += 1;
     }
     if good {
-        text(b"every other call told zeros\n");
+        text(rt, b"every other call told zeros\n")
     } else {
-        text(b"ANOTHER CALL TOLD OF BATCHES\n");
+        text(rt, b"ANOTHER CALL TOLD OF BATCHES\n")
     }
 }

@@ -3,15 +3,14 @@
 
 ghost use Rattle.plan.specs.Plan.{InRange};
 
-use libc::STDOUT_FILENO;
+use std::io;
 
-fn number(x: usize) {
-    io::print_decimal(STDOUT_FILENO, x as u64);
-    io::write_all(STDOUT_FILENO, b"\n");
+fn number(rt: &impl Print, x: usize) -> io::Result<()> {
+    println!(rt; "{x}")
 }
 
 // The round's name, without the zeros behind it.
-fn name(k: usize) {
+fn name(rt: &impl Print, k: usize) -> io::Result<()> {
     let s = plan::round_name(k);
     let t = &s[..];
     let mut j = 0;
@@ -21,49 +20,49 @@ fn name(k: usize) {
         }
         j += 1;
     }
-    io::write_all(STDOUT_FILENO, &t[..j]);
+    rt.write_all(&t[..j])
 }
 
 // A round's number, name and message length.
-fn row(n: usize, l: usize, k: usize)
+fn row(rt: &impl Print, n: usize, l: usize, k: usize) -> io::Result<()>
     requires { InRange n l }
 {
-    io::print_decimal(STDOUT_FILENO, k as u64);
-    io::write_all(STDOUT_FILENO, b" ");
-    name(k);
-    io::write_all(STDOUT_FILENO, b" ");
-    number(plan::msg_len(n, l, k));
+    print!(rt; "{k} ")?;
+    name(rt, k)?;
+    rt.write_all(b" ")?;
+    number(rt, plan::msg_len(n, l, k))
 }
 
-fn messages(n: usize, l: usize)
+fn messages(rt: &impl Print, n: usize, l: usize) -> io::Result<()>
     requires { InRange n l }
 {
     let mut k = 1;
     while k < 23 {
         if plan::is_round(n, k) {
-            row(n, l, k);
+            row(rt, n, l, k)?;
         }
         k += 1;
     }
+    Ok(())
 }
 
-fn main() {
-    io::write_all(STDOUT_FILENO, b"2 parties, 1 result\n");
-    messages(2, 1);
-    io::write_all(STDOUT_FILENO, b"sum ");
-    number(plan::sent(2, 1));
-    io::write_all(STDOUT_FILENO, b"3 parties, 1 result: sent ");
-    number(plan::sent(3, 1));
-    io::write_all(STDOUT_FILENO, b"echo among 3 ");
-    number(plan::msg_len(3, 1, 2));
-    io::write_all(STDOUT_FILENO, b"echo among 8 ");
-    number(plan::msg_len(8, 1, 2));
-    io::write_all(STDOUT_FILENO, b"bucket 3099 ");
-    number(plan::bucket_size(3099));
-    io::write_all(STDOUT_FILENO, b"bucket 3100 ");
-    number(plan::bucket_size(3100));
-    io::write_all(STDOUT_FILENO, b"bucket 279999 ");
-    number(plan::bucket_size(279999));
-    io::write_all(STDOUT_FILENO, b"bucket 280000 ");
-    number(plan::bucket_size(280000));
+fn main(rt: HostRuntime) -> io::Result<()> {
+    rt.write_all(b"2 parties, 1 result\n")?;
+    messages(&rt, 2, 1)?;
+    rt.write_all(b"sum ")?;
+    number(&rt, plan::sent(2, 1))?;
+    rt.write_all(b"3 parties, 1 result: sent ")?;
+    number(&rt, plan::sent(3, 1))?;
+    rt.write_all(b"echo among 3 ")?;
+    number(&rt, plan::msg_len(3, 1, 2))?;
+    rt.write_all(b"echo among 8 ")?;
+    number(&rt, plan::msg_len(8, 1, 2))?;
+    rt.write_all(b"bucket 3099 ")?;
+    number(&rt, plan::bucket_size(3099))?;
+    rt.write_all(b"bucket 3100 ")?;
+    number(&rt, plan::bucket_size(3100))?;
+    rt.write_all(b"bucket 279999 ")?;
+    number(&rt, plan::bucket_size(279999))?;
+    rt.write_all(b"bucket 280000 ")?;
+    number(&rt, plan::bucket_size(280000))
 }

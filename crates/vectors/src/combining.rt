@@ -4,6 +4,7 @@ ghost use Rattle.std.specs.Prelude.{◌≤◌};
 use crate::boxes::MARK;
 use crate::report::{NUMBER, PARTY};
 use crate::table::{COMBINED, INPUTS, Table, UNCOMBINED};
+use std::io;
 
 // Where the d bytes lie; the triples lie where a box's inputs do.
 const DS: usize = 80000;
@@ -42,7 +43,7 @@ fn differs(t: &Table, w: u64, at: usize, out: &mut [u8]) -> u64 {
 }
 
 // The combining recorded at `at`.
-pub(crate) fn replay(t: &mut Table, at: usize)
+pub(crate) fn replay(rt: &impl Print, t: &mut Table, at: usize) -> io::Result<()>
     requires { at ≤ 2000000000 }
 {
     let w = crate::table::word(t, at);
@@ -64,5 +65,5 @@ pub(crate) fn replay(t: &mut Table, at: usize)
         RESULT_LEN,
     );
     let bad = differs(t, w, at + 16, &mut out[0..size]);
-    crate::report::note(t, i, 0, bad);
+    crate::report::note(rt, t, i, 0, bad)
 }

@@ -4,18 +4,20 @@ ghost use Rattle.std.specs.Prelude.{◌<◌};
 use crate::table::{
     COMBINED, CURRENT, DAMAGED, DIFFERENCES, ENDS, HONEST, MESSAGES, Table, UNCOMBINED,
 };
-use libc::STDOUT_FILENO;
+use std::io;
 
 // ---- lines
 
-fn number(xs: [usize; 4], q: usize) {
+fn number(rt: &impl Print, xs: [usize; 4], q: usize) -> io::Result<()> {
     if q < 4 {
-        io::print_decimal(STDOUT_FILENO, xs[q] as u64);
+        let x = xs[q];
+        print!(rt; "{x}")?;
     }
+    Ok(())
 }
 
 // Prints a line, with a number in the place of each '#'.
-fn say(line: &[u8], xs: [usize; 4]) {
+fn say(rt: &impl Print, line: &[u8], xs: [usize; 4]) -> io::Result<()> {
     let mut from = 0;
     let mut count = 0;
     let mut q = 0;
@@ -23,13 +25,13 @@ fn say(line: &[u8], xs: [usize; 4]) {
         let end = q;
         q += 1;
         if line[end] == b'#' {
-            io::write_all(STDOUT_FILENO, &line[from..end]);
-            number(xs, count);
+            rt.write_all(&line[from..end])?;
+            number(rt, xs, count)?;
             count += 1;
             from = q;
         }
     }
-    io::write_all(STDOUT_FILENO, &line[from..]);
+    rt.write_all(&line[from..])
 }
 
 // ---- differences
@@ -74,7 +76,7 @@ pub(crate) fn unless(good: bool, bit: u64, bad: u64) -> u64 {
 }
 
 // Line q of what the bits mean.
-fn meaning(q: usize) {
+fn meaning(rt: &impl Print, q: usize) -> io::Result<()> {
     let all =
         b"record\nlength of the list\nmark of the list\nrounds left\nsession\nround due\nwhat was written\nsomething written\nnumber\n\
         round\nparty\na refused call wrote\nwork area not zero\nnot 20 after the end\n20 names another\nsession after the end\n\
@@ -88,44 +90,46 @@ fn meaning(q: usize) {
         at += 1;
         if s[end] == b'\n' {
             if left == 0 {
-                io::write_all(STDOUT_FILENO, &s[from..at]);
-                return;
+                return rt.write_all(&s[from..at]);
             }
             left -= 1;
             from = at;
         }
     }
+    Ok(())
 }
 
 // Counts the differences, and says which: box i, by the call for round k.
-pub(crate) fn note(t: &mut Table, i: usize, k: usize, bad: u64) {
+pub(crate) fn note(rt: &impl Print, t: &mut Table, i: usize, k: usize, bad: u64) -> io::Result<()> {
     let mut q: usize = 0;
     while q < 17 {
         if (bad >> q) % 2 == 1 {
             crate::table::count(t, DIFFERENCES, 1);
             let xs = [crate::table::length(t, CURRENT), i, k, 0];
-            say(b"difference in #, party #, round #: ", xs);
-            meaning(q);
+            say(rt, b"difference in #, party #, round #: ", xs)?;
+            meaning(rt, q)?;
         }
         q += 1;
     }
+    Ok(())
 }
 
 // ---- the end
 
 // How many boxes ended by each number.
-fn refusals(t: &Table) {
+fn refusals(rt: &impl Print, t: &Table) -> io::Result<()> {
     let mut k: usize = 1;
     while k < 256 {
         let x = crate::table::length(t, ENDS + 16 * k);
         if x != 0 {
-            say(b"refused by #: #\n", [k, x, 0, 0]);
+            say(rt, b"refused by #: #\n", [k, x, 0, 0])?;
         }
         k += 1;
     }
+    Ok(())
 }
 
-pub(crate) fn report(t: &Table) {
+pub(crate) fn report(rt: &impl Print, t: &Table) -> io::Result<()> {
     let of = [
         crate::table::length(t, HONEST),
         crate::table::length(t, DAMAGED),
@@ -133,15 +137,16 @@ pub(crate) fn report(t: &Table) {
         crate::table::length(t, ENDS),
     ];
     say(
+        rt,
         b"honest sessions #\ndamaged sessions #\nmessages #\nresults #\n",
         of,
-    );
-    refusals(t);
+    )?;
+    refusals(rt, t)?;
     let last = [
         crate::table::length(t, COMBINED),
         crate::table::length(t, UNCOMBINED),
         crate::table::length(t, DIFFERENCES),
         0,
     ];
-    say(b"combined #\nnot combined #\ndifferences #\n", last);
+    say(rt, b"combined #\nnot combined #\ndifferences #\n", last)
 }

@@ -8,6 +8,7 @@ use crate::report::{
     ROUND, ROUND_DUE, ROUNDS_LEFT, SESSION, WORK_AREA, WRITTEN,
 };
 use crate::table::{DUE, ENDS, MESSAGES, OTHER_OUT, OUT, OUT_LEN, REFUSED, Table};
+use std::io;
 
 // The work areas, WORK_LEN bytes for each box.
 pub type Works = [u8; 1500000];
@@ -111,29 +112,42 @@ fn at_work(t: &mut Table, works: &mut [u8], p: Play, r: Turn, i: usize) -> u64
 }
 
 // Box i's turn, unless it refused before.
-fn one(t: &mut Table, works: &mut [u8], p: Play, r: Turn, i: usize)
+fn one(
+    rt: &impl Print,
+    t: &mut Table,
+    works: &mut [u8],
+    p: Play,
+    r: Turn,
+    i: usize,
+) -> io::Result<()>
     requires { (i < 8) × (i < p.n) }
 {
     let k = r.k;
     if crate::table::get(t, REFUSED + i) != 0 {
         let good = crate::table::none(t, crate::table::sum(r.hashes, 32 * i));
-        crate::report::note(t, i, k, crate::report::unless(good, NOTHING_WRITTEN, 0));
-        return;
+        return crate::report::note(rt, t, i, k, crate::report::unless(good, NOTHING_WRITTEN, 0));
     }
     if k == 0 {
         crate::record::inputs(t, p, i);
     }
     let bad = at_work(t, works, p, r, i);
-    crate::report::note(t, i, k, bad);
+    crate::report::note(rt, t, i, k, bad)
 }
 
-fn take_turn(t: &mut Table, works: &mut Works, p: Play, r: Turn) {
+fn take_turn(
+    rt: &impl Print,
+    t: &mut Table,
+    works: &mut Works,
+    p: Play,
+    r: Turn,
+) -> io::Result<()> {
     let n = crate::table::least(p.n, 8);
     let mut i = 0;
     while i < n {
-        one(t, works, p, r, i);
+        one(rt, t, works, p, r, i)?;
         i += 1;
     }
+    Ok(())
 }
 
 // The turn behind r.
@@ -152,7 +166,7 @@ fn following(p: Play, r: Turn) -> Turn {
 }
 
 // All turns in order, and what is left of the rounds in the end.
-pub(crate) fn all(t: &mut Table, works: &mut Works, p: Play) {
+pub(crate) fn all(rt: &impl Print, t: &mut Table, works: &mut Works, p: Play) -> io::Result<()> {
     let mut r = Turn {
         k: 0,
         next: 1,
@@ -164,11 +178,11 @@ pub(crate) fn all(t: &mut Table, works: &mut Works, p: Play) {
     let mut q: usize = 0;
     while q < 23 {
         if r.hashes < p.ends {
-            take_turn(t, works, p, r);
+            take_turn(rt, t, works, p, r)?;
             r = following(p, r);
         }
         q += 1;
     }
     let good = (r.k == 0) & (r.hashes == p.ends);
-    crate::report::note(t, 0, 0, crate::report::unless(good, ROUNDS_LEFT, 0));
+    crate::report::note(rt, t, 0, 0, crate::report::unless(good, ROUNDS_LEFT, 0))
 }
