@@ -178,7 +178,7 @@ module _ (T : Table) (n l : ℕ) (W : Lawful T n l) where
   -- a session of them is alive until the last round, where its counts make l
   pub number-live : (counts : List ℕ) → whole l counts ≡ true → (d b : ℕ) → d < steps_of T (eqb n 2) → b < n
       → (protocol_of T).alive (session_of n l counts b (number_of T (eqb n 2) d)) ≡ true
-  number-live counts w d b h lb = ap₂ ◌&&◌ (ap₂ ◌&&◌ (W.fine b lb) w) (round-at d h)
+  number-live cs w d b h lb = ap₂ ◌&&◌ (ap₂ ◌&&◌ (W.fine b lb) w) (round-at d h)
 
   pub number-end : number_of T (eqb n 2) (steps_of T (eqb n 2)) ≡ 0
   number-end = eqb-true _ _ course-is.1
