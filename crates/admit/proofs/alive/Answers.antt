@@ -1,5 +1,5 @@
 -- `admit::alive` meets its contract.
-use Rattle.lists.specs.Kit.{ap₂, ◌&&◌, rules}
+use Rattle.lists.specs.Kit.{ap₂, ◌&&◌}
 use Rattle.admit.proofs.alive.Goals as goal
 
 pub returns : goal.returns

@@ -1,4 +1,4 @@
-use Rattle.lists.specs.Kit.{◌+◌, arith, rules}
+use Rattle.lists.specs.Kit.{◌+◌, arith}
 use Rattle.aes_key.specs.Words.{word_at}
 use Rattle.aes_key.proofs.load.Goals as goal
 

@@ -1,4 +1,4 @@
-use Rattle.lists.specs.Kit.{◌-◌, arith, rules}
+use Rattle.lists.specs.Kit.{◌-◌, arith}
 use Rattle.aes_key.specs.WordsLaws.{constant-at}
 use Rattle.aes_key.proofs.round_constant.Goals as goal
 

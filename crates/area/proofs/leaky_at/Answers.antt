@@ -1,4 +1,4 @@
-use Rattle.lists.specs.Kit.{ap, ◌*◌, arith, rules}
+use Rattle.lists.specs.Kit.{ap, ◌*◌, arith}
 use Rattle.area.specs.Positions.{row-most}
 use Rattle.area.proofs.leaky_at.Goals as goal
 

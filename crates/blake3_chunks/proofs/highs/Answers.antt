@@ -1,4 +1,4 @@
-use Rattle.lists.specs.Kit.{refl, sym, ap, ap₂, ◌∙◌, ◌∷◌, ℕ, rules}
+use Rattle.lists.specs.Kit.{refl, sym, ap, ap₂, ◌∙◌, ◌∷◌, ℕ}
 use Prim.Native.Nat.{◌/◌, ◌^◌}
 use native.Mathlib.Nat.{add-zero}
 use Rattle.lists.specs.Over.{tab}

@@ -1,4 +1,4 @@
-use Rattle.lists.specs.Kit.{refl, ap₂, ◌∷◌, rules}
+use Rattle.lists.specs.Kit.{refl, ap₂, ◌∷◌}
 use Rattle.blake3_core.proofs.fold.Goals as goal
 
 pub returns : goal.returns

@@ -1,4 +1,4 @@
-use Rattle.lists.specs.Kit.{◌≡◌, List, ℕ, rules}
+use Rattle.lists.specs.Kit.{◌≡◌, List, ℕ}
 use Rattle.blake3_core.specs.Compress as S
 use Rattle.blake3_core.proofs.start.Goals as goal
 

@@ -1,4 +1,4 @@
-use Rattle.lists.specs.Kit.{refl, ap₂, ◌∷◌, rules}
+use Rattle.lists.specs.Kit.{refl, ap₂, ◌∷◌}
 use Rattle.blake3_node.proofs.whole.Goals as goal
 
 pub returns : goal.returns

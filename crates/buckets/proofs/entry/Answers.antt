@@ -1,4 +1,4 @@
-use Rattle.lists.specs.Kit.{◌≡◌, ap, ap₂, ◌∙◌, ◌+◌, ◌*◌, ◌≤◌, arith, length, rules}
+use Rattle.lists.specs.Kit.{◌≡◌, ap, ap₂, ◌∙◌, ◌+◌, ◌*◌, ◌≤◌, arith, length}
 use Prim.Native.Nat.{◌%◌}
 use Rattle.plan.specs.Plan.{bucket_size, leaky}
 use Rattle.plan.specs.PlanLaws.{leaky-most}

@@ -1,4 +1,4 @@
-use Rattle.lists.specs.Kit.{sym, ap, ◌∙◌, List, ℕ, ◌+◌, ◌*◌, arith, length, get_or, rules}
+use Rattle.lists.specs.Kit.{sym, ap, ◌∙◌, List, ℕ, ◌+◌, ◌*◌, arith, length, get_or}
 use Rattle.lists.specs.Over.{tab}
 use Rattle.algebra.specs.Group.{odd, num}
 use Rattle.rounds.specs.Mail.{letter}

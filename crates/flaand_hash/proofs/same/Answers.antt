@@ -1,5 +1,4 @@
-use Rattle.lists.specs.Kit.{◌≡◌, refl, ap₂, ◌∙◌, ◌-◌, ◌≤◌, arith, length, take, rules}
-use Prim.Native.Nat.{◌%◌}
+use Rattle.lists.specs.Kit.{refl, ap₂, ◌∙◌, ◌-◌, arith}
 use lib.Seq.{take_all}
 use Rattle.lists.specs.Same.{same?}
 use Rattle.block.specs.Block.{eq_block}

@@ -1,4 +1,4 @@
-use Rattle.lists.specs.Kit.{ap, ap₂, ◌∙◌, Bool, not, ℕ, ◌+◌, ◌≤◌, arith, length, get_or, rules}
+use Rattle.lists.specs.Kit.{ap, ap₂, ◌∙◌, Bool, not, ℕ, ◌+◌, ◌≤◌, arith, length, get_or}
 use mathlib.Core.Bool.{beq}
 use Rattle.algebra.specs.Group.{addb, odd, xor-addb}
 use Rattle.share.specs.Layout.{record-some}

@@ -1,4 +1,4 @@
-use Rattle.lists.specs.Kit.{◌-◌, rules}
+use Rattle.lists.specs.Kit.{◌-◌}
 use borrow.Author.Tests.{lt-ltb, le-ltb}
 use Rattle.haand_hash.proofs.place.Goals as goal
 

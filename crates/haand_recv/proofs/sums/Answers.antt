@@ -1,4 +1,4 @@
-use Rattle.lists.specs.Kit.{◌≡◌, ap, ◌∙◌, ◌-◌, ◌≤◌, arith, rules}
+use Rattle.lists.specs.Kit.{◌≡◌, ap, ◌∙◌, ◌-◌, arith}
 use Rattle.algebra.specs.Group.{bits, xor-addb}
 use Rattle.algebra.specs.Sum.{others}
 use Rattle.block.specs.Group.{blocks}

@@ -5,7 +5,7 @@ use Rattle.share.specs.Share.{entry_bytes, entry_of, record_of}
 use Rattle.share.specs.Lent.{LABEL, lent_at}
 use Rattle.share.specs.LentLaws.{lent_longer}
 use Rattle.share.specs.ShareLaws.{length-entry_of}
-use Rattle.share.specs.Entered.{Entered, entered-none, entered-turn, entered-head, entered-long, headed}
+use Rattle.share.specs.Entered.{entered-none, entered-turn, entered-head, entered-long, headed}
 use Rattle.share.proofs.keep_record.Goals as goal
 use Rattle.share.proofs.keep_record.Goals.{After-mac_off-a, After-put_entry_of-arg-1}
 

@@ -1,4 +1,4 @@
-use Rattle.lists.specs.Kit.{sym, ap, ◌∙◌, ◌≤◌, length, replicate, rules}
+use Rattle.lists.specs.Kit.{sym, ap, ◌∙◌, ◌≤◌, length, replicate}
 use Rattle.fill.specs.Copied.{copied}
 use Rattle.rounds.specs.Mail.{letter}
 use Rattle.rounds.specs.Toss.{told}

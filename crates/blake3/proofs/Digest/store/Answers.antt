@@ -1,4 +1,4 @@
-use Rattle.lists.specs.Kit.{ap, ◌∙◌, ◌++◌, arith, rules}
+use Rattle.lists.specs.Kit.{ap, ◌∙◌, ◌++◌, arith}
 use Rattle.lists.specs.Over.{over-put, over-full}
 use Rattle.block.specs.Block.{block_at, bytes_of}
 use Rattle.block.specs.Trip.{length-bytes_of}
