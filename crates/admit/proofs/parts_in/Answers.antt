@@ -1,4 +1,5 @@
-use Rattle.lists.specs.Kit.{sym, ◌∙◌, [], true, ◌-◌, arith, rules}
+use Rattle.std.specs.Prelude.{◌-◌}
+use Rattle.lists.specs.Kit.{sym, ◌∙◌, [], true, arith, rules}
 use Rattle.lists.specs.All.{all-zero}
 use Rattle.admit.specs.Admit.{given, fits}
 use Rattle.admit.proofs.AdmitLaws.{fits-turn, parts-bad, parts-end}

@@ -1,5 +1,6 @@
 -- `admit::parts_in` meets its contract: the parts of the first k parties lie inside.
-use Rattle.lists.specs.Kit.{◌≡◌, [], true, ◌-◌, ◌≤◌}
+use Rattle.std.specs.Prelude.{◌≡◌, ◌-◌, ◌≤◌}
+use Rattle.lists.specs.Kit.{[], true}
 use Rattle.lists.specs.All.{all_of}
 use Rattle.admit.specs.Admit.{given, fits}
 use Rattle.admit.proofs.parts_in.Given as goal

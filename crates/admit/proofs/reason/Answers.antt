@@ -1,5 +1,6 @@
 -- `admit::reason` meets its contract.
-use Rattle.lists.specs.Kit.{◌≡◌, sym, ◌∙◌, true, length}
+use Rattle.std.specs.Prelude.{◌≡◌}
+use Rattle.lists.specs.Kit.{sym, ◌∙◌, true, length}
 use Rattle.plan.specs.Plan.{InRange}
 use Rattle.engine.specs.Step.{parts_in}
 use Rattle.engine.specs.Plain.{protocol_of}

@@ -1,4 +1,5 @@
-use Rattle.lists.specs.Kit.{◌≡◌, refl, ap, ◌∙◌, List, ℕ, ◌-◌, arith}
+use Rattle.std.specs.Prelude.{◌≡◌, ◌-◌}
+use Rattle.lists.specs.Kit.{refl, ap, ◌∙◌, List, ℕ, arith}
 use Rattle.block.specs.Block.{bytes_of}
 use Rattle.fips197.specs.Cipher as C
 use Rattle.aes_key.specs.Words.{words_bytes}

@@ -1,5 +1,6 @@
 -- The loop's invariant: the State is that after k - 1 rounds, for each y whose first AddRoundKey gave what the loop began with.
-use Rattle.lists.specs.Kit.{◌≡◌, List, ℕ, ◌-◌, ◌≤◌}
+use Rattle.std.specs.Prelude.{◌≡◌, ◌-◌, ◌≤◌}
+use Rattle.lists.specs.Kit.{List, ℕ}
 use Rattle.fips197.specs.Cipher as C
 use Rattle.aes_key.specs.Words.{words_bytes}
 use Rattle.aes.specs.Columns.{state_of}

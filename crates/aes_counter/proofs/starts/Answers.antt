@@ -1,4 +1,5 @@
-use Rattle.lists.specs.Kit.{refl, ◌∙◌, ◌+◌, ◌-◌, ◌*◌, set, arith}
+use Rattle.std.specs.Prelude.{◌+◌, ◌-◌, ◌*◌}
+use Rattle.lists.specs.Kit.{refl, ◌∙◌, set, arith}
 use lib.ListN.{length-set}
 use Rattle.lists.specs.Over.{tab-zero}
 use Rattle.aes_counter.specs.Starts.{start_at}

@@ -1,5 +1,6 @@
 -- The loop's invariant: the first i parts are written.
-use Rattle.lists.specs.Kit.{◌≡◌, ◌++◌, ◌+◌, ◌-◌, ◌*◌, ◌≤◌, length, drop}
+use Rattle.std.specs.Prelude.{◌≡◌, ◌++◌, ◌+◌, ◌-◌, ◌*◌, ◌≤◌}
+use Rattle.lists.specs.Kit.{length, drop}
 use Rattle.lists.specs.Over.{tab}
 use Rattle.aes_counter.specs.Starts.{start_at}
 use Rattle.aes_counter.proofs.starts.Given as goal

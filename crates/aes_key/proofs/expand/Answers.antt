@@ -1,4 +1,5 @@
-use Rattle.lists.specs.Kit.{refl, ◌∙◌, ◌-◌, arith}
+use Rattle.std.specs.Prelude.{◌-◌}
+use Rattle.lists.specs.Kit.{refl, ◌∙◌, arith}
 use lib.ListN.{length-set}
 use Rattle.aes_key.specs.WordsLaws.{words-none, words-load, words-own, words-next, words-end}
 use Rattle.aes_key.proofs.expand.Goals as goal

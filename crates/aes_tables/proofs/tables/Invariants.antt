@@ -1,5 +1,6 @@
 -- The loop's invariant: the first i entries are written.
-use Rattle.lists.specs.Kit.{◌≡◌, ◌++◌, ℕ, ◌-◌, ◌≤◌, length, drop}
+use Rattle.std.specs.Prelude.{◌≡◌, ◌++◌, ◌-◌, ◌≤◌}
+use Rattle.lists.specs.Kit.{ℕ, length, drop}
 use Prim.Native.Nat.{◌/◌, ◌%◌}
 use Rattle.lists.specs.Over.{tab}
 use Rattle.fips197.specs.Sbox.{SBox}

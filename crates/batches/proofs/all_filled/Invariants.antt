@@ -1,5 +1,6 @@
 -- `batches::all_filled` meets its contract: the first j counts are looked at.
-use Rattle.lists.specs.Kit.{◌≡◌, ◌-◌, ◌≤◌, not, get_or}
+use Rattle.std.specs.Prelude.{◌≡◌, ◌-◌, ◌≤◌}
+use Rattle.lists.specs.Kit.{not, get_or}
 use lib.Dec.{eqb}
 use Rattle.lists.specs.All.{all_of}
 use Rattle.batches.proofs.all_filled.Given as goal

@@ -1,5 +1,5 @@
 -- `batches::all_joined` meets its contract: the first j places are looked at.
-use Rattle.lists.specs.Kit.{◌≡◌, ◌-◌, ◌≤◌}
+use Rattle.std.specs.Prelude.{◌≡◌, ◌-◌, ◌≤◌}
 use Rattle.lists.specs.All.{all_of}
 use Rattle.batches.specs.Turns.{follows}
 use Rattle.batches.proofs.all_joined.Given as goal

@@ -1,5 +1,5 @@
 -- `batches::kept` meets its contract: the first j counts are in place.
-use Rattle.lists.specs.Kit.{◌≡◌, ◌-◌, ◌≤◌}
+use Rattle.std.specs.Prelude.{◌≡◌, ◌-◌, ◌≤◌}
 use Rattle.batches.specs.Turns.{keeping}
 use Rattle.batches.proofs.kept.Given as goal
 

@@ -1,5 +1,5 @@
 -- `batches::pairs` meets its contract: the first j pairs are in place, and `at` is behind them.
-use Rattle.lists.specs.Kit.{◌≡◌, ◌-◌, ◌≤◌}
+use Rattle.std.specs.Prelude.{◌≡◌, ◌-◌, ◌≤◌}
 use Rattle.batches.specs.Batches.{first}
 use Rattle.batches.specs.Turns.{telling}
 use Rattle.batches.proofs.pairs.Given as goal

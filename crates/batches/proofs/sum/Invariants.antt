@@ -1,5 +1,5 @@
 -- `batches::sum` meets its contract: the sum so far is of the first j counts, and below j times 2^32.
-use Rattle.lists.specs.Kit.{◌≡◌, ◌-◌, ◌*◌, ◌≤◌}
+use Rattle.std.specs.Prelude.{◌≡◌, ◌-◌, ◌*◌, ◌≤◌}
 use Rattle.batches.specs.Batches.{first}
 use Rattle.batches.proofs.sum.Given as goal
 

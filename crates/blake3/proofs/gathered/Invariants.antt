@@ -1,4 +1,5 @@
-use Rattle.lists.specs.Kit.{◌≡◌, ◌++◌, ◌+◌, ◌-◌, ◌≤◌, length, get_or, drop, replicate}
+use Rattle.std.specs.Prelude.{◌≡◌, ◌++◌, ◌+◌, ◌-◌, ◌≤◌}
+use Rattle.lists.specs.Kit.{length, get_or, drop, replicate}
 use Rattle.lists.specs.Over.{tab}
 use Rattle.blake3.specs.Firsts.{firsts}
 use Rattle.blake3.proofs.gathered.Given as goal

@@ -1,4 +1,5 @@
-use Rattle.lists.specs.Kit.{◌-◌, arith}
+use Rattle.std.specs.Prelude.{◌-◌}
+use Rattle.lists.specs.Kit.{arith}
 use Rattle.blake3.specs.TreeLaws.{power-one, power-double, power_pos}
 use Rattle.blake3.proofs.left_chunks.Goals as goal
 

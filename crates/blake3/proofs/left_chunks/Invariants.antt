@@ -1,4 +1,4 @@
-use Rattle.lists.specs.Kit.{◌-◌, ◌<◌}
+use Rattle.std.specs.Prelude.{◌-◌, ◌<◌}
 use Rattle.blake3.specs.TreeLaws.{Power}
 use Rattle.blake3.proofs.left_chunks.Given as goal
 

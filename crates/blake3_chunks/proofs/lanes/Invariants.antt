@@ -1,5 +1,6 @@
 -- The loop's invariant: what the first j lanes give stands in front.
-use Rattle.lists.specs.Kit.{◌≡◌, ◌++◌, ◌+◌, ◌-◌, ◌≤◌, get_or, drop}
+use Rattle.std.specs.Prelude.{◌≡◌, ◌++◌, ◌+◌, ◌-◌, ◌≤◌}
+use Rattle.lists.specs.Kit.{get_or, drop}
 use Rattle.lists.specs.Over.{tab}
 use Rattle.blake3_chunks.specs.Chunks.{no_node, chunk_of, pressed}
 use Rattle.blake3_chunks.proofs.lanes.Given as goal

@@ -1,4 +1,5 @@
-use Rattle.lists.specs.Kit.{◌≡◌, refl, ap, ◌∙◌, ◌-◌, arith}
+use Rattle.std.specs.Prelude.{◌≡◌, ◌-◌}
+use Rattle.lists.specs.Kit.{refl, ap, ◌∙◌, arith}
 use native.Mathlib.Numerals.{add-one}
 use Rattle.lists.specs.Over.{tab}
 use Rattle.blake3_node.specs.Node.{after}

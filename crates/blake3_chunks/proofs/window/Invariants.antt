@@ -1,5 +1,5 @@
 -- The loop's invariant: each lane has taken the first k blocks of its chunk.
-use Rattle.lists.specs.Kit.{◌≡◌, ◌-◌, ◌≤◌}
+use Rattle.std.specs.Prelude.{◌≡◌, ◌-◌, ◌≤◌}
 use Rattle.lists.specs.Over.{tab}
 use Rattle.blake3_node.specs.Node.{start_flag}
 use Rattle.blake3_chunks.specs.ChunkLaws.{before}

@@ -1,4 +1,5 @@
-use Rattle.lists.specs.Kit.{refl, ap, ◌∙◌, List, ℕ, ◌-◌, arith, get_or, replicate, set}
+use Rattle.std.specs.Prelude.{◌-◌}
+use Rattle.lists.specs.Kit.{refl, ap, ◌∙◌, List, ℕ, arith, get_or, replicate, set}
 use lib.ListN.{length-set}
 use Rattle.lists.specs.Over.{tab-zero, tab-step}
 use Rattle.blake3_core.specs.Compress.{MSG_PERMUTATION}

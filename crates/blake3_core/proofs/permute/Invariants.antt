@@ -1,4 +1,5 @@
-use Rattle.lists.specs.Kit.{◌≡◌, ◌++◌, ◌-◌, ◌≤◌, length, get_or, drop, replicate}
+use Rattle.std.specs.Prelude.{◌≡◌, ◌++◌, ◌-◌, ◌≤◌}
+use Rattle.lists.specs.Kit.{length, get_or, drop, replicate}
 use Rattle.lists.specs.Over.{tab}
 use Rattle.blake3_core.specs.Compress.{MSG_PERMUTATION}
 use Rattle.blake3_core.proofs.permute.Given as goal

@@ -1,5 +1,6 @@
 -- The loop's invariant: the words of the first t Blocks stand in front.
-use Rattle.lists.specs.Kit.{◌≡◌, ◌++◌, ◌+◌, ◌-◌, ◌≤◌, drop}
+use Rattle.std.specs.Prelude.{◌≡◌, ◌++◌, ◌+◌, ◌-◌, ◌≤◌}
+use Rattle.lists.specs.Kit.{drop}
 use Rattle.lists.specs.Over.{tab}
 use Rattle.blake3_lanes.specs.Lanes.{words_at}
 use Rattle.blake3_lanes.proofs.gather.Given as goal

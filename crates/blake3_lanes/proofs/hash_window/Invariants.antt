@@ -1,5 +1,5 @@
 -- The loop's invariant: the hashes of the first t Blocks stand in front.
-use Rattle.lists.specs.Kit.{◌-◌, ◌*◌, ◌≤◌}
+use Rattle.std.specs.Prelude.{◌-◌, ◌*◌, ◌≤◌}
 use Rattle.lists.specs.Over.{Written}
 use Rattle.blake3_lanes.specs.Lanes.{hash_at}
 use Rattle.blake3_lanes.proofs.hash_window.Given as goal

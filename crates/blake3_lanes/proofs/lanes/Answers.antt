@@ -1,4 +1,5 @@
-use Rattle.lists.specs.Kit.{refl, ◌-◌, arith}
+use Rattle.std.specs.Prelude.{◌-◌}
+use Rattle.lists.specs.Kit.{refl, arith}
 use Rattle.lists.specs.Over.{tab-zero, tab-turn, tab-end}
 use Rattle.blake3_lanes.proofs.lanes.Goals as goal
 

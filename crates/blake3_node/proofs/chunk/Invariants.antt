@@ -1,4 +1,5 @@
-use Rattle.lists.specs.Kit.{◌≡◌, ◌-◌, ◌*◌, ◌≤◌, length}
+use Rattle.std.specs.Prelude.{◌≡◌, ◌-◌, ◌*◌, ◌≤◌}
+use Rattle.lists.specs.Kit.{length}
 use Rattle.blake3_node.specs.Node as N
 use Rattle.blake3_node.proofs.chunk.Given as goal
 

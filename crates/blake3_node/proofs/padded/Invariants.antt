@@ -1,4 +1,5 @@
-use Rattle.lists.specs.Kit.{◌≡◌, ◌++◌, ◌-◌, ◌≤◌, length, take, drop, replicate}
+use Rattle.std.specs.Prelude.{◌≡◌, ◌++◌, ◌-◌, ◌≤◌}
+use Rattle.lists.specs.Kit.{length, take, drop, replicate}
 use Rattle.blake3_node.proofs.padded.Given as goal
 
 abbrev pub invariant-loop-i : goal.invariant-loop-i

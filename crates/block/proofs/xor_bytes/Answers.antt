@@ -1,4 +1,5 @@
-use Rattle.lists.specs.Kit.{◌-◌, arith, rules}
+use Rattle.std.specs.Prelude.{◌-◌}
+use Rattle.lists.specs.Kit.{arith, rules}
 use Rattle.block.proofs.Laws.{added_none, added-byte, added-all}
 use Rattle.block.proofs.xor_bytes.Goals as goal
 

@@ -1,5 +1,6 @@
 -- The loop's invariant: a has b added to its first i bytes.
-use Rattle.lists.specs.Kit.{◌-◌, ◌≤◌, length}
+use Rattle.std.specs.Prelude.{◌-◌, ◌≤◌}
+use Rattle.lists.specs.Kit.{length}
 use Rattle.block.proofs.Laws.{Added}
 use Rattle.block.proofs.xor_bytes.Given as goal
 

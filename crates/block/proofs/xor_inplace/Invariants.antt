@@ -1,5 +1,6 @@
 -- The loop's invariant: a has b added to its first i bytes. A turn adds eight more, in the part that `xor8` is lent.
-use Rattle.lists.specs.Kit.{◌≡◌, ◌-◌, ◌≤◌, length}
+use Rattle.std.specs.Prelude.{◌≡◌, ◌-◌, ◌≤◌}
+use Rattle.lists.specs.Kit.{length}
 use Prim.Native.Nat.{min}
 use Rattle.block.proofs.Laws.{Added}
 use Rattle.block.proofs.xor_inplace.Given as goal

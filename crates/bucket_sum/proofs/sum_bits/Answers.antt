@@ -1,4 +1,5 @@
-use Rattle.lists.specs.Kit.{◌≡◌, sym, ap, ◌∙◌, Bool, ℕ, suc, ◌+◌, ◌-◌, ◌*◌, ◌<◌, ◌≤◌, arith, length, get_or}
+use Rattle.std.specs.Prelude.{◌≡◌, ◌+◌, ◌-◌, ◌*◌, ◌<◌, ◌≤◌}
+use Rattle.lists.specs.Kit.{sym, ap, ◌∙◌, Bool, ℕ, suc, arith, length, get_or}
 use native.Mathlib.Nat.{add-zero}
 use Rattle.algebra.specs.Group.{bits}
 use Rattle.algebra.specs.Bucket.{bucket_x, bucket_z, first-x, first-z}

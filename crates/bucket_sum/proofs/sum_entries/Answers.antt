@@ -1,4 +1,5 @@
-use Rattle.lists.specs.Kit.{◌≡◌, ap₂, subst, ◌∙◌, ℕ, suc, ◌+◌, ◌-◌, ◌*◌, ◌<◌, ◌≤◌, arith, length, get_or}
+use Rattle.std.specs.Prelude.{◌≡◌, ◌+◌, ◌-◌, ◌*◌, ◌<◌, ◌≤◌}
+use Rattle.lists.specs.Kit.{ap₂, subst, ◌∙◌, ℕ, suc, arith, length, get_or}
 use Rattle.algebra.specs.Group.{odd}
 use Rattle.block.specs.Group.{blocks}
 use Rattle.share.specs.Layout.{record-within}

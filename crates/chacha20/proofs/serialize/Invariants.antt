@@ -1,5 +1,6 @@
 -- The loop's invariant: the bytes of the first i words stand in front.
-use Rattle.lists.specs.Kit.{List, ℕ, ◌-◌, ◌*◌, ◌≤◌, get_or}
+use Rattle.std.specs.Prelude.{◌-◌, ◌*◌, ◌≤◌}
+use Rattle.lists.specs.Kit.{List, ℕ, get_or}
 use Rattle.lists.specs.Over.{Written}
 use Rattle.word.specs.Word.{le4}
 use Rattle.chacha20.proofs.serialize.Given as goal

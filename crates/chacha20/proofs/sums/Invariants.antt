@@ -1,5 +1,6 @@
 -- The loop's invariant: the sums of the first i words stand in front.
-use Rattle.lists.specs.Kit.{◌≡◌, ◌++◌, ◌-◌, ◌≤◌, get_or, drop}
+use Rattle.std.specs.Prelude.{◌≡◌, ◌++◌, ◌-◌, ◌≤◌}
+use Rattle.lists.specs.Kit.{get_or, drop}
 use Rattle.lists.specs.Over.{tab}
 use Rattle.word.specs.Word.{plus}
 use Rattle.chacha20.proofs.sums.Given as goal

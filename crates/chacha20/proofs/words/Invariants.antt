@@ -1,5 +1,5 @@
 -- The loop's invariant: v is the state after i double rounds.
-use Rattle.lists.specs.Kit.{◌≡◌, ◌-◌, ◌≤◌}
+use Rattle.std.specs.Prelude.{◌≡◌, ◌-◌, ◌≤◌}
 use Rattle.chacha20.specs.ChaCha20 as C
 use Rattle.chacha20.proofs.words.Given as goal
 

@@ -1,5 +1,6 @@
 -- The loop's invariant: the blocks of the first t lanes stand in front.
-use Rattle.lists.specs.Kit.{◌≡◌, ◌++◌, ◌+◌, ◌-◌, ◌≤◌, drop}
+use Rattle.std.specs.Prelude.{◌≡◌, ◌++◌, ◌+◌, ◌-◌, ◌≤◌}
+use Rattle.lists.specs.Kit.{drop}
 use Rattle.lists.specs.Over.{tab}
 use Rattle.chacha20_lanes.specs.Lanes.{lane_of}
 use Rattle.chacha20_lanes.proofs.four.Given as goal

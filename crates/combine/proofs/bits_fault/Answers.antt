@@ -1,4 +1,5 @@
-use Rattle.lists.specs.Kit.{true, ◌-◌, rules}
+use Rattle.std.specs.Prelude.{◌-◌}
+use Rattle.lists.specs.Kit.{true, rules}
 use borrow.Author.Tests.{le-leb, lt-leb}
 use Rattle.lists.specs.All.{all-zero}
 use Rattle.combine.specs.Stops.{stop-at, stop-none, all-on}

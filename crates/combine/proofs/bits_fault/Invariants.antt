@@ -1,4 +1,5 @@
-use Rattle.lists.specs.Kit.{◌≡◌, true, ◌-◌, ◌≤◌, length, get_or}
+use Rattle.std.specs.Prelude.{◌≡◌, ◌-◌, ◌≤◌}
+use Rattle.lists.specs.Kit.{true, length, get_or}
 use lib.Dec.{leb}
 use Rattle.lists.specs.All.{all_of}
 use Rattle.combine.proofs.bits_fault.Given as goal

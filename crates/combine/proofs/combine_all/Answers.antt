@@ -1,4 +1,5 @@
-use Rattle.lists.specs.Kit.{◌≡◌, refl, sym, ap, subst, ◌∙◌, List, ◌++◌, ℕ, ◌+◌, ◌-◌, ◌*◌, ◌≤◌}
+use Rattle.std.specs.Prelude.{◌≡◌, ◌++◌, ◌+◌, ◌-◌, ◌*◌, ◌≤◌}
+use Rattle.lists.specs.Kit.{refl, sym, ap, subst, ◌∙◌, List, ℕ}
 use Rattle.lists.specs.Kit.{arith, length, get_or, take, drop}
 use lib.ListN.{length-append, length-drop}
 use lib.Seq.{length-take-le}

@@ -1,4 +1,5 @@
-use Rattle.lists.specs.Kit.{◌≡◌, ap, ap₂, subst, ◌∙◌, Bool, ◌+◌, ◌-◌, ◌<◌, ◌≤◌, arith, length, rules}
+use Rattle.std.specs.Prelude.{◌≡◌, ◌+◌, ◌-◌, ◌<◌, ◌≤◌}
+use Rattle.lists.specs.Kit.{ap, ap₂, subst, ◌∙◌, Bool, arith, length, rules}
 use Rattle.block.specs.declared.Block.{Block}
 use Rattle.share.specs.Layout.{record_len, record-some, record-within}
 use Rattle.share.specs.Share.{Share}

@@ -1,4 +1,5 @@
-use Rattle.lists.specs.Kit.{List, Bool, ℕ, ◌-◌, ◌≤◌}
+use Rattle.std.specs.Prelude.{◌-◌, ◌≤◌}
+use Rattle.lists.specs.Kit.{List, Bool, ℕ}
 use Rattle.block.specs.declared.Block.{Block}
 use Rattle.encode.specs.Bucket.{Filled}
 use Rattle.engine.specs.declared.Frame.{Frame}

@@ -1,4 +1,5 @@
-use Rattle.lists.specs.Kit.{List, ℕ, ◌+◌, ◌-◌, ◌*◌, ◌≤◌}
+use Rattle.std.specs.Prelude.{◌+◌, ◌-◌, ◌*◌, ◌≤◌}
+use Rattle.lists.specs.Kit.{List, ℕ}
 use Rattle.encode.specs.Encode.{dvalue_item}
 use Rattle.encode.specs.Stretch.{Stretch}
 use Rattle.engine.specs.declared.Frame.{Frame}

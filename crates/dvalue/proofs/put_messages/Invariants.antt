@@ -1,5 +1,5 @@
 -- The loop's invariant: the messages to the first q parties but i are written.
-use Rattle.lists.specs.Kit.{◌-◌, ◌≤◌}
+use Rattle.std.specs.Prelude.{◌-◌, ◌≤◌}
 use Rattle.rounds.specs.Loops.{Sent}
 use Rattle.rounds.specs.Buckets.{dvalue_msg}
 use Rattle.dvalue.proofs.put_messages.Given as goal

@@ -1,5 +1,5 @@
 -- The loop's invariant: ok says whether the first e MACs are right.
-use Rattle.lists.specs.Kit.{◌≡◌, ◌-◌, ◌≤◌}
+use Rattle.std.specs.Prelude.{◌≡◌, ◌-◌, ◌≤◌}
 use Rattle.lists.specs.All.{all_of}
 use Rattle.dvalue_recv.specs.Checks.{d_holds}
 use Rattle.dvalue_recv.proofs.bucket_holds.Given as goal

@@ -1,4 +1,5 @@
-use Rattle.lists.specs.Kit.{◌≡◌, sym, ap, ap₂, ◌∙◌, ◌≢◌, List, ◌++◌, ℕ, ◌+◌, ◌-◌, ◌*◌, ◌≤◌, arith, length, replicate}
+use Rattle.std.specs.Prelude.{◌≡◌, ◌≢◌, ◌++◌, ◌+◌, ◌-◌, ◌*◌, ◌≤◌}
+use Rattle.lists.specs.Kit.{sym, ap, ap₂, ◌∙◌, List, ℕ, arith, length, replicate}
 use Rattle.rounds.specs.Area.{BITS, PERM, DS, at, keep, size_of}
 use Rattle.rounds.specs.Mail.{letter}
 use Rattle.rounds.specs.Buckets.{later}

@@ -1,5 +1,5 @@
 -- The loop's invariant: the rows of the first j buckets are kept. The other sections are as they were.
-use Rattle.lists.specs.Kit.{◌-◌, ◌≤◌}
+use Rattle.std.specs.Prelude.{◌-◌, ◌≤◌}
 use Rattle.rounds.specs.Area.{BITS, PERM, DS, at}
 use Rattle.rounds.specs.Mail.{letter}
 use Rattle.rounds.specs.Buckets.{later}

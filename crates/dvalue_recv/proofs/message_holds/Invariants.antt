@@ -1,5 +1,5 @@
 -- The loop's invariant: ok says whether the first j buckets are right.
-use Rattle.lists.specs.Kit.{◌≡◌, ◌-◌, ◌≤◌}
+use Rattle.std.specs.Prelude.{◌≡◌, ◌-◌, ◌≤◌}
 use Rattle.lists.specs.All.{all_of}
 use Rattle.dvalue_recv.specs.Checks.{bucket_holds}
 use Rattle.dvalue_recv.proofs.message_holds.Given as goal

@@ -1,5 +1,6 @@
 -- The loop's invariant: the first e bits are written.
-use Rattle.lists.specs.Kit.{◌≡◌, List, ◌++◌, ℕ, ◌+◌, ◌-◌, ◌≤◌, length, drop}
+use Rattle.std.specs.Prelude.{◌≡◌, ◌++◌, ◌+◌, ◌-◌, ◌≤◌}
+use Rattle.lists.specs.Kit.{List, ℕ, length, drop}
 use Rattle.lists.specs.Over.{tab}
 use Rattle.algebra.specs.Group.{num}
 use Rattle.engine.specs.declared.Frame.{Frame}

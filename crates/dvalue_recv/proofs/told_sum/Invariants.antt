@@ -1,5 +1,6 @@
 -- The loop's invariant: the sum has the first k parties.
-use Rattle.lists.specs.Kit.{◌≡◌, List, Bool, ℕ, ◌-◌, ◌≤◌}
+use Rattle.std.specs.Prelude.{◌≡◌, ◌-◌, ◌≤◌}
+use Rattle.lists.specs.Kit.{List, Bool, ℕ}
 use Rattle.algebra.specs.Group.{bits}
 use Rattle.algebra.specs.Sum.{others}
 use Rattle.engine.specs.declared.Frame.{Frame}

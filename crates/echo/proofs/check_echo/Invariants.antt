@@ -1,4 +1,4 @@
-use Rattle.lists.specs.Kit.{◌≡◌, ◌-◌, ◌≤◌}
+use Rattle.std.specs.Prelude.{◌≡◌, ◌-◌, ◌≤◌}
 use Rattle.engine.specs.Step.{scan}
 use Rattle.rounds.specs.EchoLaws.{told_fault}
 use Rattle.echo.proofs.check_echo.Given as goal

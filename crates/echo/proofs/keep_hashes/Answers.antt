@@ -1,4 +1,5 @@
-use Rattle.lists.specs.Kit.{◌∙◌, ◌-◌, arith, rules}
+use Rattle.std.specs.Prelude.{◌-◌}
+use Rattle.lists.specs.Kit.{◌∙◌, arith, rules}
 use Rattle.lists.specs.Rows.{even-zero, even-turn, even-end}
 use Rattle.rounds.specs.Mail.{letter}
 use Rattle.rounds.specs.Echo.{hash_vec}

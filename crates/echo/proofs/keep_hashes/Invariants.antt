@@ -1,4 +1,5 @@
-use Rattle.lists.specs.Kit.{List, ℕ, ◌-◌, ◌*◌, ◌≤◌, replicate}
+use Rattle.std.specs.Prelude.{◌-◌, ◌*◌, ◌≤◌}
+use Rattle.lists.specs.Kit.{List, ℕ, replicate}
 use Rattle.lists.specs.Pick.{pick}
 use Rattle.lists.specs.Over.{Written}
 use Rattle.algebra.specs.Sum.{neq}

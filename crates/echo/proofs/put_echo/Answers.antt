@@ -1,4 +1,5 @@
-use Rattle.lists.specs.Kit.{◌≡◌, refl, sym, ap, ◌∙◌, ◌+◌, ◌-◌, ◌≤◌, arith}
+use Rattle.std.specs.Prelude.{◌≡◌, ◌+◌, ◌-◌, ◌≤◌}
+use Rattle.lists.specs.Kit.{refl, sym, ap, ◌∙◌, arith}
 use Rattle.lists.specs.Over.{length-take-drop}
 use Rattle.encode.specs.Stretch.{stretch-count, stretch-self, stretch-turn, stretch-end}
 use Rattle.plan.specs.Plan.{msg_len}

@@ -1,4 +1,5 @@
-use Rattle.lists.specs.Kit.{◌≡◌, ◌-◌, ◌≤◌, length}
+use Rattle.std.specs.Prelude.{◌≡◌, ◌-◌, ◌≤◌}
+use Rattle.lists.specs.Kit.{length}
 use Rattle.encode.specs.Stretch.{Stretch}
 use Rattle.plan.specs.Plan.{msg_len}
 use Rattle.rounds.specs.EchoLaws.{entry, entry_at}

@@ -1,4 +1,5 @@
-use Rattle.lists.specs.Kit.{◌≡◌, refl, sym, ap, ◌∙◌, ◌+◌, ◌-◌, ◌*◌, ◌<◌, ◌≤◌, arith, length}
+use Rattle.std.specs.Prelude.{◌≡◌, ◌+◌, ◌-◌, ◌*◌, ◌<◌, ◌≤◌}
+use Rattle.lists.specs.Kit.{refl, sym, ap, ◌∙◌, arith, length}
 use Rattle.lists.specs.Rows.{length-row}
 use Rattle.engine.specs.Area.{nth-below, nth-skips}
 use Rattle.rounds.specs.Echo.{echo_msg}

@@ -1,4 +1,4 @@
-use Rattle.lists.specs.Kit.{◌-◌, ◌≤◌}
+use Rattle.std.specs.Prelude.{◌-◌, ◌≤◌}
 use Rattle.rounds.specs.Echo.{echo_msg}
 use Rattle.rounds.specs.Loops.{Sent}
 use Rattle.echo.proofs.write_echoes.Given as goal

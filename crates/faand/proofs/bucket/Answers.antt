@@ -1,4 +1,5 @@
-use Rattle.lists.specs.Kit.{◌≡◌, refl, ap, ◌∙◌, List, ℕ, ◌+◌, ◌*◌, arith, length}
+use Rattle.std.specs.Prelude.{◌≡◌, ◌+◌, ◌*◌}
+use Rattle.lists.specs.Kit.{refl, ap, ◌∙◌, List, ℕ, arith, length}
 use Rattle.share.specs.Layout.{record_len, record-most}
 use Rattle.engine.specs.Area.{off}
 use Rattle.rounds.specs.Area.{BITS, PERM, TRIPLES, ALPHA, BETA, size_of, at}

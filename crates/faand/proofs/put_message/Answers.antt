@@ -1,4 +1,5 @@
-use Rattle.lists.specs.Kit.{◌≡◌, refl, sym, ◌∙◌, ℕ, ◌+◌, ◌-◌, ◌*◌, ◌<◌, ◌≤◌, arith, length}
+use Rattle.std.specs.Prelude.{◌≡◌, ◌+◌, ◌-◌, ◌*◌, ◌<◌, ◌≤◌}
+use Rattle.lists.specs.Kit.{refl, sym, ◌∙◌, ℕ, arith, length}
 use Rattle.encode.specs.Stretch.{stretch-count, stretch-self, even-turn, even-end, in_list}
 use Rattle.rounds.specs.Loops.{lent-part}
 use Rattle.rounds.specs.Beaver as R

@@ -1,5 +1,6 @@
 -- The loop's invariant: the count and the items of the first j buckets are written.
-use Rattle.lists.specs.Kit.{◌≡◌, ◌+◌, ◌-◌, ◌*◌, ◌≤◌, length}
+use Rattle.std.specs.Prelude.{◌≡◌, ◌+◌, ◌-◌, ◌*◌, ◌≤◌}
+use Rattle.lists.specs.Kit.{length}
 use Rattle.encode.specs.Stretch.{Stretch}
 use Rattle.faand.specs.ItemLaws.{told, item}
 use Rattle.faand.proofs.put_message.Given as goal

@@ -1,4 +1,5 @@
-use Rattle.lists.specs.Kit.{◌≡◌, refl, sym, ap, ◌∙◌, ◌+◌, ◌-◌, ◌*◌, ◌<◌, ◌≤◌, arith, length}
+use Rattle.std.specs.Prelude.{◌≡◌, ◌+◌, ◌-◌, ◌*◌, ◌<◌, ◌≤◌}
+use Rattle.lists.specs.Kit.{refl, sym, ap, ◌∙◌, arith, length}
 use Rattle.engine.specs.Area.{nth-below}
 use Rattle.rounds.specs.Loops.{lent-part, sent-none, sent-in, sent_back, sent-end}
 use Rattle.faand.specs.ItemLaws.{message, told_is}

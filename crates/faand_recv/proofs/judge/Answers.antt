@@ -1,4 +1,5 @@
-use Rattle.lists.specs.Kit.{◌≡◌, sym, ap, ◌∙◌, ◌-◌, arith, rules}
+use Rattle.std.specs.Prelude.{◌≡◌, ◌-◌}
+use Rattle.lists.specs.Kit.{sym, ap, ◌∙◌, arith, rules}
 use Rattle.block.specs.declared.Block.{Block}
 use Rattle.engine.specs.Step.{by_party}
 use Rattle.engine.specs.StepLaws.{scan-turn}

@@ -1,5 +1,5 @@
 -- The loop's invariant: ok says whether the MACs of the first j buckets hold.
-use Rattle.lists.specs.Kit.{◌≡◌, ◌-◌, ◌≤◌}
+use Rattle.std.specs.Prelude.{◌≡◌, ◌-◌, ◌≤◌}
 use Rattle.lists.specs.All.{all_of}
 use Rattle.faand_recv.specs.CheckLaws.{holds}
 use Rattle.faand_recv.proofs.message_holds.Given as goal

@@ -1,5 +1,5 @@
 -- The loop's invariant: the rows of the first k parties are kept.
-use Rattle.lists.specs.Kit.{◌-◌, ◌≤◌}
+use Rattle.std.specs.Prelude.{◌-◌, ◌≤◌}
 use Rattle.rounds.specs.Area.{KEY_SUMS}
 use Rattle.rounds.specs.Fabitn.{ROW}
 use Rattle.rounds.specs.Loops.{row_of}

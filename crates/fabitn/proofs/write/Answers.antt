@@ -1,4 +1,5 @@
-use Rattle.lists.specs.Kit.{refl, ◌+◌, ◌-◌, ◌*◌, arith, rules}
+use Rattle.std.specs.Prelude.{◌+◌, ◌-◌, ◌*◌}
+use Rattle.lists.specs.Kit.{refl, arith, rules}
 use Rattle.lists.specs.Over.{length-take-drop}
 use Rattle.lists.specs.Rows.{even-zero, even-put, even-end}
 use Rattle.encode.specs.Coded.{length-encode, length-bit_block}

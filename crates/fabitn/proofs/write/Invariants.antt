@@ -1,5 +1,6 @@
 -- The loop's invariant: the messages of the first q of the others are written.
-use Rattle.lists.specs.Kit.{List, ℕ, ◌+◌, ◌-◌, ◌*◌, ◌≤◌, get_or}
+use Rattle.std.specs.Prelude.{◌+◌, ◌-◌, ◌*◌, ◌≤◌}
+use Rattle.lists.specs.Kit.{List, ℕ, get_or}
 use Rattle.lists.specs.Over.{Written}
 use Rattle.algebra.specs.Group.{odd}
 use Rattle.rbits.specs.Chosen.{pair_at}

@@ -1,5 +1,5 @@
 -- The loop's invariant: the first j Blocks are written.
-use Rattle.lists.specs.Kit.{◌+◌, ◌-◌, ◌*◌, ◌≤◌}
+use Rattle.std.specs.Prelude.{◌+◌, ◌-◌, ◌*◌, ◌≤◌}
 use Rattle.lists.specs.Over.{Written}
 use Rattle.block.specs.Block.{bytes_of}
 use Rattle.rbits.specs.Chosen.{pair_at}

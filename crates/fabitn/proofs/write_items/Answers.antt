@@ -1,4 +1,5 @@
-use Rattle.lists.specs.Kit.{refl, sym, ap, ◌∙◌, ◌+◌, ◌-◌, ◌*◌, arith, rules}
+use Rattle.std.specs.Prelude.{◌+◌, ◌-◌, ◌*◌}
+use Rattle.lists.specs.Kit.{refl, sym, ap, ◌∙◌, arith, rules}
 use Rattle.rbits.specs.Chosen.{pair_at}
 use Rattle.encode.specs.Encode.{bit_block}
 use Rattle.encode.specs.Coded.{length-bit_block}

@@ -1,5 +1,6 @@
 -- The loop's invariant: the count and the first j items are written.
-use Rattle.lists.specs.Kit.{◌≡◌, List, ℕ, ◌+◌, ◌-◌, ◌*◌, ◌≤◌, length, get_or}
+use Rattle.std.specs.Prelude.{◌≡◌, ◌+◌, ◌-◌, ◌*◌, ◌≤◌}
+use Rattle.lists.specs.Kit.{List, ℕ, length, get_or}
 use Rattle.algebra.specs.Group.{odd}
 use Rattle.rbits.specs.Chosen.{pair_at}
 use Rattle.encode.specs.Encode.{bit_block}

@@ -1,5 +1,5 @@
 -- The loop's invariant: the first k parties have no fault.
-use Rattle.lists.specs.Kit.{◌≡◌, ◌-◌, ◌≤◌}
+use Rattle.std.specs.Prelude.{◌≡◌, ◌-◌, ◌≤◌}
 use Rattle.engine.specs.Step.{scan}
 use Rattle.rounds.specs.Mail.{letter}
 use Rattle.rounds.specs.Fabitn as Fabitn

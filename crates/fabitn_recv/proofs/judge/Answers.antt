@@ -1,4 +1,5 @@
-use Rattle.lists.specs.Kit.{ap, ◌∙◌, ◌-◌, arith, length, rules}
+use Rattle.std.specs.Prelude.{◌-◌}
+use Rattle.lists.specs.Kit.{ap, ◌∙◌, arith, length, rules}
 use Rattle.rounds.specs.Area.{KEY_SUMS, sizes, size_of}
 use Rattle.rounds.specs.Fabitn as Fabitn
 use Rattle.rounds.specs.Fabitn.{STRINGS}

@@ -1,5 +1,6 @@
 -- The loop's invariant: the commitments of the first q strings are written.
-use Rattle.lists.specs.Kit.{◌≡◌, ◌-◌, ◌*◌, ◌≤◌, length}
+use Rattle.std.specs.Prelude.{◌≡◌, ◌-◌, ◌*◌, ◌≤◌}
+use Rattle.lists.specs.Kit.{length}
 use Rattle.lists.specs.Over.{Written}
 use Rattle.rounds.specs.Fashare.{STRINGS, COMM}
 use Rattle.fashare_comm.specs.Laws.{comm_item}

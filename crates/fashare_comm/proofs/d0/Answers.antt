@@ -1,4 +1,5 @@
-use Rattle.lists.specs.Kit.{ap, ◌∙◌, ◌-◌, arith, rules}
+use Rattle.std.specs.Prelude.{◌-◌}
+use Rattle.lists.specs.Kit.{ap, ◌∙◌, arith, rules}
 use Rattle.algebra.specs.Group.{sel}
 use Rattle.algebra.specs.Sum.{neq}
 use Rattle.block.specs.Group.{blocks}

@@ -1,4 +1,5 @@
-use Rattle.lists.specs.Kit.{◌≡◌, sym, ap, ◌∙◌, [], ◌∷◌, ◌+◌, ◌-◌, ◌*◌, ◌<◌, arith, length, rules}
+use Rattle.std.specs.Prelude.{◌≡◌, ◌∷◌, ◌+◌, ◌-◌, ◌*◌, ◌<◌}
+use Rattle.lists.specs.Kit.{sym, ap, ◌∙◌, [], arith, length, rules}
 use lib.ListN.{length-set}
 use Rattle.lists.specs.Over.{written-turn, written-end}
 use Rattle.algebra.specs.Group.{num}

@@ -1,5 +1,6 @@
 -- The loop's invariant: the bit and the first p MACs are written.
-use Rattle.lists.specs.Kit.{◌≡◌, ◌+◌, ◌-◌, ◌*◌, ◌≤◌, length}
+use Rattle.std.specs.Prelude.{◌≡◌, ◌+◌, ◌-◌, ◌*◌, ◌≤◌}
+use Rattle.lists.specs.Kit.{length}
 use Rattle.lists.specs.Over.{Written}
 use Rattle.plan.specs.Plan.{dm_len}
 use Rattle.fashare_comm.specs.Laws.{dm_part}

@@ -1,4 +1,5 @@
-use Rattle.lists.specs.Kit.{ap, ◌∙◌, ◌-◌, arith, rules}
+use Rattle.std.specs.Prelude.{◌-◌}
+use Rattle.lists.specs.Kit.{ap, ◌∙◌, arith, rules}
 use Rattle.block.specs.Group.{blocks}
 use Rattle.share.specs.Record.{mac_at}
 use Rattle.rounds.specs.Loops.{others-none, others-turn}

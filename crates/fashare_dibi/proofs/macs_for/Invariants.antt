@@ -1,5 +1,5 @@
 -- The loop's invariant: the MACs for k of the first j parties are added.
-use Rattle.lists.specs.Kit.{◌≡◌, ◌-◌, ◌≤◌}
+use Rattle.std.specs.Prelude.{◌≡◌, ◌-◌, ◌≤◌}
 use Rattle.algebra.specs.Sum.{others}
 use Rattle.block.specs.Group.{blocks}
 use Rattle.fashare_dibi.specs.Laws.{mac_in}

@@ -1,5 +1,6 @@
 -- The loop's invariant: the bits of the first k parties but i are added.
-use Rattle.lists.specs.Kit.{◌≡◌, ◌+◌, ◌-◌, ◌*◌, ◌≤◌, get_or}
+use Rattle.std.specs.Prelude.{◌≡◌, ◌+◌, ◌-◌, ◌*◌, ◌≤◌}
+use Rattle.lists.specs.Kit.{get_or}
 use Rattle.algebra.specs.Group.{bits, odd}
 use Rattle.algebra.specs.Sum.{others}
 use Rattle.plan.specs.Plan.{dm_len}

@@ -1,4 +1,5 @@
-use Rattle.lists.specs.Kit.{refl, ◌+◌, ◌-◌, ◌*◌, ◌<◌, arith, rules}
+use Rattle.std.specs.Prelude.{◌+◌, ◌-◌, ◌*◌, ◌<◌}
+use Rattle.lists.specs.Kit.{refl, arith, rules}
 use Rattle.lists.specs.Over.{length-take-drop}
 use Rattle.plan.specs.Plan.{msg_len, list_len, count_due, kind_of}
 use Rattle.engine.specs.Area.{nth}

@@ -1,5 +1,5 @@
 -- The loop's invariant: the messages to the first t parties but i are written.
-use Rattle.lists.specs.Kit.{◌-◌, ◌≤◌}
+use Rattle.std.specs.Prelude.{◌-◌, ◌≤◌}
 use Rattle.rounds.specs.Fashare.{DIBI_MSG, dibi_msg}
 use Rattle.rounds.specs.Loops.{Sent}
 use Rattle.fashare_dibi.proofs.write.Given as goal

@@ -1,4 +1,5 @@
-use Rattle.lists.specs.Kit.{refl, sym, ap, ◌∙◌, ◌+◌, ◌-◌, ◌*◌, arith, rules}
+use Rattle.std.specs.Prelude.{◌+◌, ◌-◌, ◌*◌}
+use Rattle.lists.specs.Kit.{refl, sym, ap, ◌∙◌, arith, rules}
 use Rattle.block.specs.Block.{bytes_of}
 use Rattle.block.specs.Trip.{length-bytes_of}
 use Rattle.encode.specs.Stretch.{stretch-count, stretch-self, even-turn, even-end}

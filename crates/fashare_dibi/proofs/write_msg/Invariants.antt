@@ -1,5 +1,6 @@
 -- The loop's invariant: the count and the first q Blocks are written.
-use Rattle.lists.specs.Kit.{◌≡◌, List, ℕ, ◌+◌, ◌-◌, ◌*◌, ◌≤◌, length}
+use Rattle.std.specs.Prelude.{◌≡◌, ◌+◌, ◌-◌, ◌*◌, ◌≤◌}
+use Rattle.lists.specs.Kit.{List, ℕ, length}
 use Rattle.algebra.specs.Group.{sel}
 use Rattle.block.specs.declared.Block.{Block}
 use Rattle.block.specs.Block.{bytes_of}

@@ -1,4 +1,5 @@
-use Rattle.lists.specs.Kit.{not, ◌≡◌, refl, ap, ◌∙◌, ◌+◌, ◌-◌, ◌*◌, ◌<◌, ◌≤◌, arith, length, drop, take, rules}
+use Rattle.std.specs.Prelude.{◌≡◌, ◌+◌, ◌-◌, ◌*◌, ◌<◌, ◌≤◌}
+use Rattle.lists.specs.Kit.{not, refl, ap, ◌∙◌, arith, length, drop, take, rules}
 use Rattle.lists.specs.Pick.{pick}
 use Rattle.lists.specs.Same.{same?}
 use Rattle.block.specs.Block.{word_at}

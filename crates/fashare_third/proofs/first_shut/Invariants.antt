@@ -1,5 +1,5 @@
 -- The loop's invariant: the walk stands before dm q, and those before open their commitments.
-use Rattle.lists.specs.Kit.{◌-◌, ◌≤◌}
+use Rattle.std.specs.Prelude.{◌-◌, ◌≤◌}
 use Rattle.fashare_third.specs.Laws.{Opened}
 use Rattle.fashare_third.proofs.first_shut.Given as goal
 

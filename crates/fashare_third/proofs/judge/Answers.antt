@@ -1,4 +1,5 @@
-use Rattle.lists.specs.Kit.{◌-◌, arith, rules}
+use Rattle.std.specs.Prelude.{◌-◌}
+use Rattle.lists.specs.Kit.{arith, rules}
 use Rattle.rounds.specs.Area.{SHARE_COMMS}
 use Rattle.area.specs.GivenLaws.{lent_length}
 use Rattle.area.specs.Sizes.{size-share-comms}

@@ -1,5 +1,5 @@
 -- The loop's invariant: of the first k parties' messages, the lowest string with a fault, and the lowest party in it.
-use Rattle.lists.specs.Kit.{◌-◌, ◌≤◌}
+use Rattle.std.specs.Prelude.{◌-◌, ◌≤◌}
 use Rattle.rounds.specs.Mail.{letter}
 use Rattle.fashare_third.specs.Laws.{third_at, Lowest}
 use Rattle.fashare_third.proofs.judge.Given as goal

@@ -1,4 +1,5 @@
-use Rattle.lists.specs.Kit.{◌≡◌, refl, ap, ◌∙◌, ◌+◌, ◌-◌, ◌*◌, ◌≤◌, arith, length, rules}
+use Rattle.std.specs.Prelude.{◌≡◌, ◌+◌, ◌-◌, ◌*◌, ◌≤◌}
+use Rattle.lists.specs.Kit.{refl, ap, ◌∙◌, arith, length, rules}
 use Rattle.lists.specs.Rows.{length-row}
 use Rattle.engine.specs.Area.{nth}
 use Rattle.rounds.specs.Fashare.{STRINGS, ver_msg}

@@ -1,5 +1,5 @@
 -- The loop's invariant: the messages to the first t parties but i are written.
-use Rattle.lists.specs.Kit.{◌-◌, ◌≤◌}
+use Rattle.std.specs.Prelude.{◌-◌, ◌≤◌}
 use Rattle.rounds.specs.Fashare.{ver_msg}
 use Rattle.rounds.specs.Loops.{Sent}
 use Rattle.fashare_ver.specs.Laws.{ver_len}

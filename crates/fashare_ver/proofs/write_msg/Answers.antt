@@ -1,4 +1,5 @@
-use Rattle.lists.specs.Kit.{◌≡◌, refl, sym, ap, ◌∙◌, List, ℕ, ◌+◌, ◌-◌, ◌*◌, ◌<◌, arith, length, rules}
+use Rattle.std.specs.Prelude.{◌≡◌, ◌+◌, ◌-◌, ◌*◌, ◌<◌}
+use Rattle.lists.specs.Kit.{refl, sym, ap, ◌∙◌, List, ℕ, arith, length, rules}
 use native.Mathlib.Nat.{zero-mul}
 use Rattle.lists.specs.Over.{length-take-drop}
 use Rattle.encode.specs.Stretch.{stretch-count, stretch-self, even-turn, even-end, in_list}

@@ -1,5 +1,6 @@
 -- The loop's invariant: the count and the first q dms are written.
-use Rattle.lists.specs.Kit.{◌≡◌, List, ℕ, ◌+◌, ◌-◌, ◌*◌, ◌≤◌, length}
+use Rattle.std.specs.Prelude.{◌≡◌, ◌+◌, ◌-◌, ◌*◌, ◌≤◌}
+use Rattle.lists.specs.Kit.{List, ℕ, length}
 use Rattle.encode.specs.Encode.{dm_item}
 use Rattle.encode.specs.Stretch.{Stretch}
 use Rattle.engine.specs.declared.Frame.{Frame}

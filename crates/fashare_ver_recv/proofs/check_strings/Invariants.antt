@@ -1,5 +1,5 @@
 -- The loop's invariant: the first q strings have no fault.
-use Rattle.lists.specs.Kit.{◌≡◌, ◌-◌, ◌≤◌}
+use Rattle.std.specs.Prelude.{◌≡◌, ◌-◌, ◌≤◌}
 use Rattle.engine.specs.Step.{by_party}
 use Rattle.rounds.specs.Area.{first_of}
 use Rattle.rounds.specs.Mail.{letter}

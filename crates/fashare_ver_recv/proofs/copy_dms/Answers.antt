@@ -1,4 +1,5 @@
-use Rattle.lists.specs.Kit.{◌≡◌, sym, ap, ◌∙◌, ◌+◌, ◌-◌, ◌*◌, ◌≤◌, arith, length, rules}
+use Rattle.std.specs.Prelude.{◌≡◌, ◌+◌, ◌-◌, ◌*◌, ◌≤◌}
+use Rattle.lists.specs.Kit.{sym, ap, ◌∙◌, arith, length, rules}
 use Rattle.lists.specs.Over.{in-chunks, length-take-drop}
 use Rattle.lists.specs.Rows.{length-row, even-zero, even-turn, even-end}
 use Rattle.rounds.specs.Fashare.{STRINGS}

@@ -1,5 +1,6 @@
 -- The loop's invariant: the first q dms are written.
-use Rattle.lists.specs.Kit.{List, ℕ, ◌-◌, ◌*◌, ◌≤◌, take, drop}
+use Rattle.std.specs.Prelude.{◌-◌, ◌*◌, ◌≤◌}
+use Rattle.lists.specs.Kit.{List, ℕ, take, drop}
 use Rattle.lists.specs.Over.{Written}
 use Rattle.plan.specs.Plan.{dm_len}
 use Rattle.rounds.specs.Fashare.{STRINGS, dm_at}

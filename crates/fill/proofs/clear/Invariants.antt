@@ -1,4 +1,5 @@
-use Rattle.lists.specs.Kit.{◌≡◌, ◌++◌, ◌-◌, ◌≤◌, length, drop, replicate}
+use Rattle.std.specs.Prelude.{◌≡◌, ◌++◌, ◌-◌, ◌≤◌}
+use Rattle.lists.specs.Kit.{length, drop, replicate}
 use Rattle.fill.proofs.clear.Given as goal
 
 abbrev pub invariant-loop-t : goal.invariant-loop-t

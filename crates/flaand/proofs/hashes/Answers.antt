@@ -1,4 +1,5 @@
-use Rattle.lists.specs.Kit.{ap, ap₂, ◌∙◌, ◌+◌, ◌*◌, ◌≤◌, arith, length}
+use Rattle.std.specs.Prelude.{◌+◌, ◌*◌, ◌≤◌}
+use Rattle.lists.specs.Kit.{ap, ap₂, ◌∙◌, arith, length}
 use Rattle.block.specs.Block.{block_at}
 use Rattle.block.specs.Group.{blocks}
 use Rattle.rounds.specs.Area.{leaky_len}

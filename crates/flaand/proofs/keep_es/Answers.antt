@@ -1,4 +1,5 @@
-use Rattle.lists.specs.Kit.{◌≡◌, sym, ap, ◌∙◌, ◌+◌, ◌-◌, ◌*◌, ◌≤◌, arith, length}
+use Rattle.std.specs.Prelude.{◌≡◌, ◌+◌, ◌-◌, ◌*◌, ◌≤◌}
+use Rattle.lists.specs.Kit.{sym, ap, ◌∙◌, arith, length}
 use Rattle.lists.specs.Over.{cat, tab, in-chunks}
 use Rattle.lists.specs.Rows.{length-row, even-zero, even-turn, even-end}
 use Rattle.algebra.specs.Group.{num}

@@ -1,5 +1,6 @@
 -- The loop's invariant: the rows of the first k parties are written.
-use Rattle.lists.specs.Kit.{List, ℕ, ◌-◌, ◌*◌, ◌≤◌}
+use Rattle.std.specs.Prelude.{◌-◌, ◌*◌, ◌≤◌}
+use Rattle.lists.specs.Kit.{List, ℕ}
 use Rattle.lists.specs.Over.{tab, Written}
 use Rattle.algebra.specs.Group.{num}
 use Rattle.rounds.specs.declared.Mail.{Mail}

@@ -1,5 +1,6 @@
 -- The loop's invariant: h of the first t positions is kept. The other sections are as they were.
-use Rattle.lists.specs.Kit.{List, ℕ, ◌-◌, ◌≤◌}
+use Rattle.std.specs.Prelude.{◌-◌, ◌≤◌}
+use Rattle.lists.specs.Kit.{List, ℕ}
 use Rattle.block.specs.declared.Block.{Block}
 use Rattle.block.specs.Block.{bytes_of}
 use Rattle.plan.specs.Plan.{leaky}

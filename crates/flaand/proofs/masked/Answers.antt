@@ -1,4 +1,5 @@
-use Rattle.lists.specs.Kit.{ap, ap₂, ◌∙◌, Bool, ◌+◌, ◌*◌, ◌≤◌, arith, length}
+use Rattle.std.specs.Prelude.{◌+◌, ◌*◌, ◌≤◌}
+use Rattle.lists.specs.Kit.{ap, ap₂, ◌∙◌, Bool, arith, length}
 use Rattle.lists.specs.Over.{in-chunks}
 use Rattle.algebra.specs.Group.{sel}
 use Rattle.block.specs.Block.{block_at}

@@ -1,5 +1,6 @@
 -- The loop's invariant: the first t bits are written.
-use Rattle.lists.specs.Kit.{◌≡◌, List, ◌++◌, ℕ, ◌+◌, ◌-◌, ◌*◌, ◌≤◌, length, get_or, drop}
+use Rattle.std.specs.Prelude.{◌≡◌, ◌++◌, ◌+◌, ◌-◌, ◌*◌, ◌≤◌}
+use Rattle.lists.specs.Kit.{List, ℕ, length, get_or, drop}
 use Rattle.lists.specs.Over.{tab}
 use Rattle.algebra.specs.Group.{odd, num}
 use Rattle.flaand.proofs.put_es.Given as goal

@@ -1,4 +1,5 @@
-use Rattle.lists.specs.Kit.{refl, sym, ap, ◌∙◌, List, ℕ, ◌+◌, ◌-◌, ◌*◌, ◌<◌, ◌≤◌, arith, length}
+use Rattle.std.specs.Prelude.{◌+◌, ◌-◌, ◌*◌, ◌<◌, ◌≤◌}
+use Rattle.lists.specs.Kit.{refl, sym, ap, ◌∙◌, List, ℕ, arith, length}
 use Rattle.block.specs.Block.{le8}
 use Rattle.encode.specs.Stretch.{stretch-count, stretch-self, even-turn, even-end, in_list}
 use Rattle.plan.specs.Plan.{leaky}

@@ -1,4 +1,5 @@
-use Rattle.lists.specs.Kit.{sym, ap, ◌∙◌, List, Bool, ℕ, ◌+◌, ◌*◌, ◌≤◌, arith, length, get_or}
+use Rattle.std.specs.Prelude.{◌+◌, ◌*◌, ◌≤◌}
+use Rattle.lists.specs.Kit.{sym, ap, ◌∙◌, List, Bool, ℕ, arith, length, get_or}
 use Rattle.lists.specs.Over.{in-chunks}
 use Rattle.algebra.specs.Group.{sel, odd}
 use Rattle.algebra.specs.Sum.{neq-true}

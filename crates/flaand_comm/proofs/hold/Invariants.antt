@@ -1,5 +1,6 @@
 -- The loop's invariant: the commitments to the first t h stand in the own row, and nothing else is changed.
-use Rattle.lists.specs.Kit.{◌≡◌, ◌-◌, ◌*◌, ◌≤◌, length}
+use Rattle.std.specs.Prelude.{◌≡◌, ◌-◌, ◌*◌, ◌≤◌}
+use Rattle.lists.specs.Kit.{length}
 use Rattle.rounds.specs.Loops.{Keeping}
 use Rattle.flaand_comm.specs.AreaLaws.{cut, item}
 use Rattle.flaand_comm.proofs.hold.Given as goal

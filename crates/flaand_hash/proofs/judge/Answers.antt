@@ -1,4 +1,5 @@
-use Rattle.lists.specs.Kit.{◌≡◌, sym, ap, ◌∙◌, List, Bool, ℕ, arith}
+use Rattle.std.specs.Prelude.{◌≡◌}
+use Rattle.lists.specs.Kit.{sym, ap, ◌∙◌, List, Bool, ℕ, arith}
 use Rattle.lists.specs.Pick.{pick}
 use Rattle.rounds.specs.Area.{HS, H_COMMS, at}
 use Rattle.rounds.specs.Mail.{letter}

@@ -1,5 +1,5 @@
 -- The loop's invariant: ok says whether the first t open.
-use Rattle.lists.specs.Kit.{◌≡◌, ◌-◌, ◌≤◌}
+use Rattle.std.specs.Prelude.{◌≡◌, ◌-◌, ◌≤◌}
 use Rattle.lists.specs.All.{all_of}
 use Rattle.flaand_hash.specs.Laws.{opens_at}
 use Rattle.flaand_hash.proofs.opens.Given as goal

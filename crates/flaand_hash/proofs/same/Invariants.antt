@@ -1,5 +1,6 @@
 -- The loop's invariant: ok says whether the bytes before `at` are the same.
-use Rattle.lists.specs.Kit.{◌≡◌, ◌-◌, ◌≤◌, length, take}
+use Rattle.std.specs.Prelude.{◌≡◌, ◌-◌, ◌≤◌}
+use Rattle.lists.specs.Kit.{length, take}
 use Prim.Native.Nat.{◌%◌}
 use Rattle.lists.specs.Same.{same?}
 use Rattle.flaand_hash.proofs.same.Given as goal

@@ -1,5 +1,6 @@
 -- The loop's invariant: ok says whether the h of the first t positions sum to zero.
-use Rattle.lists.specs.Kit.{◌≡◌, List, Bool, ℕ, ◌-◌, ◌*◌, ◌≤◌}
+use Rattle.std.specs.Prelude.{◌≡◌, ◌-◌, ◌*◌, ◌≤◌}
+use Rattle.lists.specs.Kit.{List, Bool, ℕ}
 use Rattle.lists.specs.All.{all_of}
 use Rattle.algebra.specs.Sum.{others}
 use Rattle.block.specs.Block.{block_at, eq_block}

@@ -1,5 +1,5 @@
 -- `form::form` meets its contract: the first j parties have no fault of form.
-use Rattle.lists.specs.Kit.{◌≡◌, ◌-◌, ◌≤◌}
+use Rattle.std.specs.Prelude.{◌≡◌, ◌-◌, ◌≤◌}
 use Rattle.engine.specs.Step.{scan}
 use Rattle.rounds.specs.FaultLaws.{fault_at}
 use Rattle.admit.specs.Admit.{kind_fault, posted}

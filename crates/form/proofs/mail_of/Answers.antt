@@ -1,4 +1,5 @@
-use Rattle.lists.specs.Kit.{◌≡◌, refl, ap₂, List, ℕ, ◌-◌, ◌<◌, arith, get_or}
+use Rattle.std.specs.Prelude.{◌≡◌, ◌-◌, ◌<◌}
+use Rattle.lists.specs.Kit.{refl, ap₂, List, ℕ, arith, get_or}
 use Rattle.rounds.specs.declared.Mail.{Mail}
 use Rattle.admit.specs.Admit.{mail_of}
 use Rattle.admit.proofs.AdmitLaws.{eight-none, eight-turn, eight-end}

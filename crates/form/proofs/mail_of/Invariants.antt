@@ -1,5 +1,6 @@
 -- `form::mail_of` meets its contract: the first j starts and lengths are in place.
-use Rattle.lists.specs.Kit.{◌≡◌, ◌-◌, ◌≤◌, get_or}
+use Rattle.std.specs.Prelude.{◌≡◌, ◌-◌, ◌≤◌}
+use Rattle.lists.specs.Kit.{get_or}
 use Rattle.admit.specs.Admit.{eight}
 use Rattle.form.proofs.mail_of.Given as goal
 

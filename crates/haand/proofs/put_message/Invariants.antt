@@ -1,5 +1,6 @@
 -- The loop's invariant: the count and the items of the first t positions are written.
-use Rattle.lists.specs.Kit.{◌≡◌, ◌+◌, ◌-◌, ◌*◌, ◌≤◌, length}
+use Rattle.std.specs.Prelude.{◌≡◌, ◌+◌, ◌-◌, ◌*◌, ◌≤◌}
+use Rattle.lists.specs.Kit.{length}
 use Rattle.encode.specs.Stretch.{Stretch}
 use Rattle.plan.specs.Plan.{leaky}
 use Rattle.haand.specs.Sent.{item}

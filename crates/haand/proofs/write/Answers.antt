@@ -1,4 +1,5 @@
-use Rattle.lists.specs.Kit.{◌≡◌, refl, sym, ap, ap₂, ◌∙◌, ◌+◌, ◌-◌, ◌*◌, ◌≤◌, arith, length}
+use Rattle.std.specs.Prelude.{◌≡◌, ◌+◌, ◌-◌, ◌*◌, ◌≤◌}
+use Rattle.lists.specs.Kit.{refl, sym, ap, ap₂, ◌∙◌, arith, length}
 use Rattle.plan.specs.Plan.{leaky, msg_len, list_len, kind_of, count_due}
 use Rattle.plan.specs.PlanLaws.{leaky-most}
 use Rattle.engine.specs.Area.{to_others, nth-below}

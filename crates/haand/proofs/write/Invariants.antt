@@ -1,5 +1,5 @@
 -- The loop's invariant: the messages to the first q parties but i are written.
-use Rattle.lists.specs.Kit.{◌+◌, ◌-◌, ◌*◌, ◌≤◌}
+use Rattle.std.specs.Prelude.{◌+◌, ◌-◌, ◌*◌, ◌≤◌}
 use Rattle.plan.specs.Plan.{leaky}
 use Rattle.rounds.specs.Loops.{Sent}
 use Rattle.haand.specs.Sent.{message}

@@ -1,5 +1,6 @@
 -- The loop's invariant: the first j Blocks stand in front, each plus d.
-use Rattle.lists.specs.Kit.{List, ℕ, ◌-◌, ◌*◌, ◌≤◌}
+use Rattle.std.specs.Prelude.{◌-◌, ◌*◌, ◌≤◌}
+use Rattle.lists.specs.Kit.{List, ℕ}
 use Rattle.lists.specs.Over.{Written}
 use Rattle.block.specs.declared.Block.{Block}
 use Rattle.block.specs.Block.{block_at, bytes_of}

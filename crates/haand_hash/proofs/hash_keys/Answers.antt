@@ -1,4 +1,5 @@
-use Rattle.lists.specs.Kit.{◌≡◌, sym, ap, ◌∙◌, ◌++◌, true, ℕ, ◌+◌, ◌-◌, ◌*◌, ◌≤◌, arith, length, drop, replicate, rules}
+use Rattle.std.specs.Prelude.{◌≡◌, ◌++◌, ◌+◌, ◌-◌, ◌*◌, ◌≤◌}
+use Rattle.lists.specs.Kit.{sym, ap, ◌∙◌, true, ℕ, arith, length, drop, replicate, rules}
 use lib.Seq.{length-take-le}
 use Rattle.lists.specs.Over.{length-cat}
 use Rattle.lists.specs.Sect.{put, length-get, length-put}

@@ -1,4 +1,5 @@
-use Rattle.lists.specs.Kit.{◌≡◌, sym, ◌++◌, false, ◌+◌, ◌-◌, ◌*◌, ◌≤◌, arith, length, drop, replicate, rules}
+use Rattle.std.specs.Prelude.{◌≡◌, ◌++◌, ◌+◌, ◌-◌, ◌*◌, ◌≤◌}
+use Rattle.lists.specs.Kit.{sym, false, arith, length, drop, replicate, rules}
 use lib.Seq.{length-take-le}
 use Rattle.share.specs.Record.{record_len}
 use Rattle.haand_hash.specs.Window.{part_of}

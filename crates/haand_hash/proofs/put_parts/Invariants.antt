@@ -1,5 +1,5 @@
 -- The loop's invariant: the parts of the first q other parties are written.
-use Rattle.lists.specs.Kit.{◌-◌, ◌≤◌}
+use Rattle.std.specs.Prelude.{◌-◌, ◌≤◌}
 use Rattle.block.specs.Block.{bytes_of}
 use Rattle.rounds.specs.Loops.{Sent}
 use Rattle.haand_hash.specs.Window.{part_of}

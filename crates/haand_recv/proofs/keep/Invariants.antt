@@ -1,5 +1,6 @@
 -- The loop's invariant: the rows of the first t positions are kept. MASKS and BITS are as they were.
-use Rattle.lists.specs.Kit.{◌≡◌, ◌-◌, ◌*◌, ◌≤◌, length}
+use Rattle.std.specs.Prelude.{◌≡◌, ◌-◌, ◌*◌, ◌≤◌}
+use Rattle.lists.specs.Kit.{length}
 use Rattle.plan.specs.Plan.{leaky}
 use Rattle.rounds.specs.Area.{MASKS, BITS, ZS, SECTIONS, size_of, at}
 use Rattle.rounds.specs.Mail.{letter}

@@ -1,4 +1,5 @@
-use Rattle.lists.specs.Kit.{◌≡◌, refl, ap, ap₂, ◌∙◌, ◌+◌, ◌-◌, ◌*◌, ◌≤◌, arith, length, take, drop}
+use Rattle.std.specs.Prelude.{◌≡◌, ◌+◌, ◌-◌, ◌*◌, ◌≤◌}
+use Rattle.lists.specs.Kit.{refl, ap, ap₂, ◌∙◌, arith, length, take, drop}
 use Rattle.lists.specs.Over.{written-zero, written-turn, written-end, in-chunks}
 use Rattle.algebra.specs.Group.{addb, xor-addb}
 use Rattle.share.specs.Record.{record_len, mac_at}

@@ -1,5 +1,5 @@
 -- The loop's invariant: v has the first k parties.
-use Rattle.lists.specs.Kit.{◌≡◌, ◌-◌, ◌≤◌}
+use Rattle.std.specs.Prelude.{◌≡◌, ◌-◌, ◌≤◌}
 use Rattle.algebra.specs.Group.{bits}
 use Rattle.algebra.specs.Sum.{others}
 use Rattle.rounds.specs.Mail.{letter}

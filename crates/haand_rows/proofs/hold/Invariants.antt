@@ -1,5 +1,6 @@
 -- The loop's invariant: the rows of the first t positions are kept. BITS is as it was.
-use Rattle.lists.specs.Kit.{◌≡◌, ◌-◌, ◌*◌, ◌≤◌, length}
+use Rattle.std.specs.Prelude.{◌≡◌, ◌-◌, ◌*◌, ◌≤◌}
+use Rattle.lists.specs.Kit.{length}
 use Rattle.plan.specs.Plan.{leaky}
 use Rattle.rounds.specs.Area.{BITS, LEAKY, SECTIONS, leaky_len, size_of, at}
 use Rattle.rounds.specs.Loops.{Keeping}

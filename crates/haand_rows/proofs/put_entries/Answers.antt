@@ -1,4 +1,5 @@
-use Rattle.lists.specs.Kit.{◌≡◌, ap, ◌∙◌, List, ℕ, ◌+◌, ◌-◌, ◌*◌, arith}
+use Rattle.std.specs.Prelude.{◌≡◌, ◌+◌, ◌-◌, ◌*◌}
+use Rattle.lists.specs.Kit.{ap, ◌∙◌, List, ℕ, arith}
 use Rattle.lists.specs.Over.{written-zero, written-turn, written-end}
 use Rattle.algebra.specs.Sum.{others}
 use Rattle.block.specs.Group.{blocks}

@@ -1,5 +1,5 @@
 -- The loop's invariant: the entries of the first k parties are written, and the sum has them.
-use Rattle.lists.specs.Kit.{◌≡◌, ◌-◌, ◌*◌, ◌≤◌}
+use Rattle.std.specs.Prelude.{◌≡◌, ◌-◌, ◌*◌, ◌≤◌}
 use Rattle.lists.specs.Over.{Written}
 use Rattle.algebra.specs.Sum.{others}
 use Rattle.block.specs.Group.{blocks}

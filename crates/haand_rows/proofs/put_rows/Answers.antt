@@ -1,4 +1,5 @@
-use Rattle.lists.specs.Kit.{◌≡◌, refl, sym, ap, subst, ◌+◌, ◌-◌, ◌*◌, ◌≤◌, arith, length}
+use Rattle.std.specs.Prelude.{◌≡◌, ◌+◌, ◌-◌, ◌*◌, ◌≤◌}
+use Rattle.lists.specs.Kit.{refl, sym, ap, subst, arith, length}
 use borrow.Rule.Slice.PartMut.{put_mid}
 use Rattle.lists.specs.Over.{Written, in-chunks}
 use Rattle.lists.specs.Rows.{even-zero, even-put, even-end}

@@ -1,5 +1,5 @@
 -- The loop's invariant: the rows of the first p positions are written.
-use Rattle.lists.specs.Kit.{◌+◌, ◌-◌, ◌*◌, ◌≤◌}
+use Rattle.std.specs.Prelude.{◌+◌, ◌-◌, ◌*◌, ◌≤◌}
 use Rattle.lists.specs.Over.{Written}
 use Rattle.rounds.specs.Area.{leaky_len}
 use Rattle.rounds.specs.Haand as R

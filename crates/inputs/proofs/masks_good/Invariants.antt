@@ -1,4 +1,4 @@
-use Rattle.lists.specs.Kit.{◌≡◌, ◌-◌, ◌≤◌}
+use Rattle.std.specs.Prelude.{◌≡◌, ◌-◌, ◌≤◌}
 use Rattle.lists.specs.All.{all_of}
 use Rattle.engine.specs.Step.{frame}
 use Rattle.inputs.specs.Given.{row?}

@@ -1,4 +1,5 @@
-use Rattle.lists.specs.Kit.{◌≡◌, sym, ap, ◌∙◌}
+use Rattle.std.specs.Prelude.{◌≡◌}
+use Rattle.lists.specs.Kit.{sym, ap, ◌∙◌}
 use Rattle.rounds.specs.Opening.{lengths_fault}
 use Rattle.inputs.specs.Given.{buffers?, found_at}
 use Rattle.inputs.specs.OpeningLaws.{or_left, or_right, due_of_lem}

@@ -1,4 +1,5 @@
-use Rattle.lists.specs.Kit.{◌≡◌, ◌+◌, ◌-◌, ◌≤◌, get_or}
+use Rattle.std.specs.Prelude.{◌≡◌, ◌+◌, ◌-◌, ◌≤◌}
+use Rattle.lists.specs.Kit.{get_or}
 use lib.Dec.{leb}
 use Rattle.lists.specs.All.{all_of}
 use Rattle.inputs.proofs.row_good.Given as goal

@@ -1,4 +1,5 @@
-use Rattle.lists.specs.Kit.{◌≡◌, sym, true, ◌-◌, arith, rules}
+use Rattle.std.specs.Prelude.{◌≡◌, ◌-◌}
+use Rattle.lists.specs.Kit.{sym, true, arith, rules}
 use Rattle.message.proofs.Laws.{bools-none, bools-turn, bools-stop}
 use Rattle.message.proofs.bools.Goals as goal
 

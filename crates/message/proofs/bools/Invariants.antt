@@ -1,4 +1,5 @@
-use Rattle.lists.specs.Kit.{◌≡◌, true, ◌-◌, ◌≤◌, drop}
+use Rattle.std.specs.Prelude.{◌≡◌, ◌-◌, ◌≤◌}
+use Rattle.lists.specs.Kit.{true, drop}
 use Rattle.message.specs.Format as F
 use Rattle.message.proofs.bools.Given as goal
 

@@ -1,4 +1,4 @@
-use Rattle.lists.specs.Kit.{◌-◌, ◌≤◌}
+use Rattle.std.specs.Prelude.{◌-◌, ◌≤◌}
 use Rattle.message.proofs.Walk.{Walked}
 use Rattle.message.proofs.item_at.Given as goal
 

@@ -1,4 +1,5 @@
-use Rattle.lists.specs.Kit.{◌≡◌, ◌+◌, ◌-◌, ◌≤◌, arith, length, rules}
+use Rattle.std.specs.Prelude.{◌≡◌, ◌+◌, ◌-◌, ◌≤◌}
+use Rattle.lists.specs.Kit.{arith, length, rules}
 use Rattle.message.specs.FormatLaws.{decodes-short}
 use Rattle.message.proofs.Walk.{walked_start, walked-room, walked-turn, walked_stop, inners-none, inners-turn, read-bad}
 use Rattle.message.proofs.Walk.{read-end}

@@ -1,4 +1,5 @@
-use Rattle.lists.specs.Kit.{◌≡◌, ◌-◌, ◌≤◌, length}
+use Rattle.std.specs.Prelude.{◌≡◌, ◌-◌, ◌≤◌}
+use Rattle.lists.specs.Kit.{length}
 use Rattle.message.specs.FormatLaws.{inners_due}
 use Rattle.message.proofs.Walk.{Walked}
 use Rattle.message.proofs.read_each.Given as goal

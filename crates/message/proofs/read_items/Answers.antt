@@ -1,4 +1,5 @@
-use Rattle.lists.specs.Kit.{◌≡◌, refl, sym, ◌∙◌, ◌+◌, ◌-◌, ◌*◌, ◌<◌, ◌≤◌, arith, length, drop}
+use Rattle.std.specs.Prelude.{◌≡◌, ◌+◌, ◌-◌, ◌*◌, ◌<◌, ◌≤◌}
+use Rattle.lists.specs.Kit.{refl, sym, ◌∙◌, arith, length, drop}
 use Rattle.message.specs.declared.Kind.TheVariants.{Items}
 use Rattle.message.specs.Format.{bools, count_of}
 use Rattle.message.specs.FormatLaws.{vec-held}

@@ -1,4 +1,4 @@
-use Rattle.lists.specs.Kit.{◌-◌, ◌≤◌}
+use Rattle.std.specs.Prelude.{◌-◌, ◌≤◌}
 use Rattle.message.specs.declared.Kind.TheVariants.{Items}
 use Rattle.message.proofs.Walk.{Walked}
 use Rattle.message.proofs.read_items.Given as goal

@@ -1,4 +1,5 @@
-use Rattle.lists.specs.Kit.{sym, ap, subst, ◌∙◌, ◌≤◌}
+use Rattle.std.specs.Prelude.{◌≤◌}
+use Rattle.lists.specs.Kit.{sym, ap, subst, ◌∙◌}
 use Rattle.engine.specs.declared.Session.{Session}
 use Rattle.engine.specs.Step.{Reply, reply_of, Outcome, round_spec}
 use Rattle.engine.specs.Plain.{protocol_of}

@@ -1,4 +1,5 @@
-use Rattle.lists.specs.Kit.{List, ℕ, ◌-◌, ◌*◌, ◌≤◌}
+use Rattle.std.specs.Prelude.{◌-◌, ◌*◌, ◌≤◌}
+use Rattle.lists.specs.Kit.{List, ℕ}
 use Rattle.lists.specs.Over.{Written}
 use Rattle.share.specs.Share.{record_of}
 use Rattle.share.specs.Lent.{lent_len, lent_at}

@@ -1,4 +1,5 @@
-use Rattle.lists.specs.Kit.{◌≡◌, sym, ap, subst, ◌∙◌, ◌-◌, ◌*◌, length, rules}
+use Rattle.std.specs.Prelude.{◌≡◌, ◌-◌, ◌*◌}
+use Rattle.lists.specs.Kit.{sym, ap, subst, ◌∙◌, length, rules}
 use Rattle.batches.specs.Batches.{total, counts_fault}
 use Rattle.batches.specs.BatchLaws.{taken, sum-taken}
 use Rattle.plan.specs.Plan.{msg_len}

@@ -1,4 +1,5 @@
-use Rattle.lists.specs.Kit.{refl, sym, ap, ◌∙◌, ◌+◌, ◌-◌, arith, rules}
+use Rattle.std.specs.Prelude.{◌+◌, ◌-◌}
+use Rattle.lists.specs.Kit.{refl, sym, ap, ◌∙◌, arith, rules}
 use Rattle.plan.specs.Plan.{sent_up_to}
 use Rattle.plan.specs.PlanLaws.{sent-with, sent-without, sent-most, msg-most}
 use Rattle.plan.proofs.sent_to_one.Goals as goal

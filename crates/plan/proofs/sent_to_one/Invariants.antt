@@ -1,5 +1,5 @@
 -- `plan::sent_to_one` meets its contract: at turn k the sum is that of rounds 1 to k.
-use Rattle.lists.specs.Kit.{◌≡◌, ◌-◌, ◌≤◌}
+use Rattle.std.specs.Prelude.{◌≡◌, ◌-◌, ◌≤◌}
 use Rattle.plan.specs.Plan.{sent_up_to}
 use Rattle.plan.proofs.sent_to_one.Given as goal
 

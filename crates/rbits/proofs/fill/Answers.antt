@@ -1,4 +1,5 @@
-use Rattle.lists.specs.Kit.{◌≡◌, ◌∙◌, List, ℕ, ◌+◌, ◌-◌, ◌*◌, ◌<◌, arith}
+use Rattle.std.specs.Prelude.{◌≡◌, ◌+◌, ◌-◌, ◌*◌, ◌<◌}
+use Rattle.lists.specs.Kit.{◌∙◌, List, ℕ, arith}
 use Rattle.lists.specs.Over.{written-zero, written-turn, written-end}
 use Rattle.block.specs.declared.Block.{Block}
 use Rattle.rbits.specs.Tables.{record_block, table4, tables}

@@ -1,4 +1,4 @@
-use Rattle.lists.specs.Kit.{◌≡◌, ◌-◌, ◌≤◌}
+use Rattle.std.specs.Prelude.{◌≡◌, ◌-◌, ◌≤◌}
 use Rattle.share.specs.Lent.{records_fault}
 use Rattle.records.proofs.first_fault.Given as goal
 

@@ -1,4 +1,5 @@
-use Rattle.lists.specs.Kit.{◌≡◌, sym, ap, ap₂, ◌∙◌, List, Bool, false, ℕ, ◌+◌, ◌-◌, ◌≤◌, arith, length, get_or}
+use Rattle.std.specs.Prelude.{◌≡◌, ◌+◌, ◌-◌, ◌≤◌}
+use Rattle.lists.specs.Kit.{sym, ap, ap₂, ◌∙◌, List, Bool, false, ℕ, arith, length, get_or}
 use lib.Dec.{eqb}
 use Rattle.lists.specs.All.{all_of, all-zero, all_more}
 use Rattle.share.specs.Lent.{LABEL}

@@ -1,4 +1,5 @@
-use Rattle.lists.specs.Kit.{◌≡◌, List, Bool, ℕ, ◌+◌, ◌-◌, ◌≤◌, get_or}
+use Rattle.std.specs.Prelude.{◌≡◌, ◌+◌, ◌-◌, ◌≤◌}
+use Rattle.lists.specs.Kit.{List, Bool, ℕ, get_or}
 use lib.Dec.{eqb}
 use Rattle.lists.specs.All.{all_of}
 use Rattle.share.specs.Lent.{LABEL, label_of}

@@ -1,4 +1,5 @@
-use Rattle.lists.specs.Kit.{◌≡◌, false, ◌+◌, ◌-◌, ◌≤◌, length}
+use Rattle.std.specs.Prelude.{◌≡◌, ◌+◌, ◌-◌, ◌≤◌}
+use Rattle.lists.specs.Kit.{false, length}
 use Rattle.lists.specs.Kit.{replicate}
 use Rattle.share.specs.Layout.{ENTRY, mac_off}
 use Rattle.share.specs.Lent.{LABEL, lent_head}

@@ -1,4 +1,5 @@
-use Rattle.lists.specs.Kit.{◌≡◌, List, ◌++◌, ℕ, ◌+◌, ◌-◌, ◌≤◌, length, get_or, drop}
+use Rattle.std.specs.Prelude.{◌≡◌, ◌++◌, ◌+◌, ◌-◌, ◌≤◌}
+use Rattle.lists.specs.Kit.{List, ℕ, length, get_or, drop}
 use lib.Bits.{bit_or, bit_xor}
 use Rattle.lists.specs.Over.{tab}
 use Rattle.records.proofs.or_apart.Given as goal

@@ -1,4 +1,5 @@
-use Rattle.lists.specs.Kit.{◌≡◌, refl, ap₂, ◌∙◌, [], ◌+◌, ◌-◌, ◌≤◌, arith, length, rules}
+use Rattle.std.specs.Prelude.{◌≡◌, ◌+◌, ◌-◌, ◌≤◌}
+use Rattle.lists.specs.Kit.{refl, ap₂, ◌∙◌, [], arith, length, rules}
 use Rattle.share.specs.Layout.{ENTRY, entry-within, record-within}
 use Rattle.share.specs.Share.{entry_bytes, entry_of}
 use Rattle.share.specs.ShareLaws.{length-entry_of}

@@ -1,4 +1,5 @@
-use Rattle.lists.specs.Kit.{List, Bool, ℕ, ◌-◌, ◌≤◌}
+use Rattle.std.specs.Prelude.{◌-◌, ◌≤◌}
+use Rattle.lists.specs.Kit.{List, Bool, ℕ}
 use Rattle.share.specs.Share.{Share, share_at, entry_of}
 use Rattle.share.specs.Entered.{Entered}
 use Rattle.rounds.specs.Beaver as R

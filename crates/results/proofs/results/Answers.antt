@@ -1,4 +1,5 @@
-use Rattle.lists.specs.Kit.{◌≡◌, sym, ap, ◌∙◌, ◌+◌, ◌-◌, ◌*◌, ◌≤◌, arith, length}
+use Rattle.std.specs.Prelude.{◌≡◌, ◌+◌, ◌-◌, ◌*◌, ◌≤◌}
+use Rattle.lists.specs.Kit.{sym, ap, ◌∙◌, arith, length}
 use Rattle.lists.specs.Over.{in-chunks}
 use Rattle.lists.specs.Rows.{even-zero, even-turn, even-end}
 use Rattle.share.specs.Lent.{lent_len}

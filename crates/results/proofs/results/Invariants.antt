@@ -1,5 +1,5 @@
 -- The loop's invariant: the results of the first j buckets are written.
-use Rattle.lists.specs.Kit.{◌-◌, ◌*◌, ◌≤◌}
+use Rattle.std.specs.Prelude.{◌-◌, ◌*◌, ◌≤◌}
 use Rattle.lists.specs.Over.{Written}
 use Rattle.rounds.specs.Mail.{letter}
 use Rattle.results.specs.FinishLaws.{result}

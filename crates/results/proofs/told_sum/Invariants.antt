@@ -1,5 +1,6 @@
 -- The loop's invariant: the sum has the first k parties.
-use Rattle.lists.specs.Kit.{◌≡◌, List, Bool, ℕ, ◌-◌, ◌≤◌, get_or}
+use Rattle.std.specs.Prelude.{◌≡◌, ◌-◌, ◌≤◌}
+use Rattle.lists.specs.Kit.{List, Bool, ℕ, get_or}
 use Rattle.algebra.specs.Group.{bits, odd}
 use Rattle.algebra.specs.Sum.{others}
 use Rattle.rounds.specs.declared.Mail.{Mail}

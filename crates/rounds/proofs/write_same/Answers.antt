@@ -1,4 +1,5 @@
-use Rattle.lists.specs.Kit.{◌++◌, ◌+◌, ◌-◌, ◌*◌, ◌≤◌, arith, length}
+use Rattle.std.specs.Prelude.{◌++◌, ◌+◌, ◌-◌, ◌*◌, ◌≤◌}
+use Rattle.lists.specs.Kit.{arith, length}
 use native.Mathlib.Nat.{zero-mul}
 use Rattle.lists.specs.Over.{in-chunks, length-take-drop}
 use Rattle.block.specs.Block.{le8}

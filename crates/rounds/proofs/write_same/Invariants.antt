@@ -1,5 +1,6 @@
 -- The loop's invariant: the stretches of the first q other parties are written.
-use Rattle.lists.specs.Kit.{◌++◌, ◌+◌, ◌-◌, ◌*◌, ◌≤◌, length}
+use Rattle.std.specs.Prelude.{◌++◌, ◌+◌, ◌-◌, ◌*◌, ◌≤◌}
+use Rattle.lists.specs.Kit.{length}
 use Rattle.lists.specs.Over.{Written}
 use Rattle.block.specs.Block.{le8}
 use Rattle.rounds.proofs.write_same.Given as goal

@@ -1,4 +1,5 @@
-use Rattle.lists.specs.Kit.{◌-◌, arith}
+use Rattle.std.specs.Prelude.{◌-◌}
+use Rattle.lists.specs.Kit.{arith}
 use lib.ListN.{length-set}
 use Rattle.rpairs.specs.AddedLaws.{partly-zero, partly-turn, partly-end}
 use Rattle.rpairs.proofs.add_two.Goals as goal

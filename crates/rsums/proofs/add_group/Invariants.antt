@@ -1,5 +1,6 @@
 -- The loop's invariant: both lists have what is chosen for the first q of the other parties.
-use Rattle.lists.specs.Kit.{◌≡◌, ◌-◌, ◌≤◌, length}
+use Rattle.std.specs.Prelude.{◌≡◌, ◌-◌, ◌≤◌}
+use Rattle.lists.specs.Kit.{length}
 use Rattle.share.specs.Record.{mac_off, key_off}
 use Rattle.rbits.specs.Chosen.{words_of}
 use Rattle.rsums.specs.Sums.{grown}

@@ -1,4 +1,5 @@
-use Rattle.lists.specs.Kit.{sym, subst, ◌-◌, ◌*◌, ◌<◌, ◌≤◌, arith, length}
+use Rattle.std.specs.Prelude.{◌-◌, ◌*◌, ◌<◌, ◌≤◌}
+use Rattle.lists.specs.Kit.{sym, subst, arith, length}
 use Rattle.share.specs.Layout.{record-some}
 use Rattle.draw.specs.Strings.{strings}
 use Rattle.draw.specs.StringLaws.{strings-whole, bytes-strings}

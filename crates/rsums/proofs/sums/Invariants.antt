@@ -1,5 +1,5 @@
 -- The loop's invariant: all sums over the first g groups; and behind the first of a window's two groups, the window.
-use Rattle.lists.specs.Kit.{◌-◌, ◌*◌}
+use Rattle.std.specs.Prelude.{◌-◌, ◌*◌}
 use Rattle.draw.specs.Strings.{strings}
 use Rattle.rsums.specs.SumsLaws.{Grouped}
 use Rattle.rsums.proofs.sums.Given as goal

@@ -1,4 +1,5 @@
-use Rattle.lists.specs.Kit.{◌≡◌, sym, ap, subst, ◌∙◌, true, arith}
+use Rattle.std.specs.Prelude.{◌≡◌}
+use Rattle.lists.specs.Kit.{sym, ap, subst, ◌∙◌, true, arith}
 use Rattle.engine.specs.Step.{reply_of, mask, part, parts_in, fault_of}
 use Rattle.engine.specs.StepLaws.{or-zero}
 use Rattle.engine.specs.Plain.{rule_of}

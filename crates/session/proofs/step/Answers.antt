@@ -1,4 +1,5 @@
-use Rattle.lists.specs.Kit.{◌≡◌, sym, ap, ap₂, subst, ◌∙◌, List, true, ℕ, ◌-◌, ◌*◌, ◌<◌, ◌≢◌, arith}
+use Rattle.std.specs.Prelude.{◌≡◌, ◌-◌, ◌*◌, ◌<◌, ◌≢◌}
+use Rattle.lists.specs.Kit.{sym, ap, ap₂, subst, ◌∙◌, List, true, ℕ, arith}
 use Rattle.plan.specs.Plan.{next_round, msg_len}
 use Rattle.engine.specs.Step.{Fault, mask}
 use Rattle.engine.specs.Area.{to_others}

@@ -1,4 +1,5 @@
-use Rattle.lists.specs.Kit.{◌≡◌, refl, ap, ap₂, ◌∙◌, ◌++◌, Bool, ◌+◌, ◌-◌, ◌≤◌, arith, length, rules}
+use Rattle.std.specs.Prelude.{◌≡◌, ◌++◌, ◌+◌, ◌-◌, ◌≤◌}
+use Rattle.lists.specs.Kit.{refl, ap, ap₂, ◌∙◌, Bool, arith, length, rules}
 use Rattle.lists.specs.Over.{cat}
 use Rattle.share.specs.Layout.{ENTRY, head_of, record_len, entry-within, record-within, record-some}
 use Rattle.share.specs.Share.{entry_bytes, entry_of, record_of}

@@ -1,4 +1,4 @@
-use Rattle.lists.specs.Kit.{◌-◌, ◌≤◌}
+use Rattle.std.specs.Prelude.{◌-◌, ◌≤◌}
 use Rattle.share.specs.Share.{entry_of}
 use Rattle.share.specs.Lent.{lent_at}
 use Rattle.share.specs.Entered.{Entered}

@@ -1,4 +1,5 @@
-use Rattle.lists.specs.Kit.{◌≡◌, ap, ap₂, ◌∙◌, List, ◌++◌, ℕ, ◌+◌, length, drop, replicate, set, rules}
+use Rattle.std.specs.Prelude.{◌≡◌, ◌++◌, ◌+◌}
+use Rattle.lists.specs.Kit.{ap, ap₂, ◌∙◌, List, ℕ, length, drop, replicate, set, rules}
 use borrow.Rule.Slice.PartMut.{put_mid, post_of}
 use Rattle.lists.specs.Over.{over-put}
 use Rattle.block.specs.Block.{bytes_of}

@@ -1,4 +1,5 @@
-use Rattle.lists.specs.Kit.{◌-◌, arith}
+use Rattle.std.specs.Prelude.{◌-◌}
+use Rattle.lists.specs.Kit.{arith}
 use Rattle.shuffle.proofs.TurnLaws.{taken-zero, taken-turn, taken-all, taken-end}
 use Rattle.shuffle.proofs.block.Goals as goal
 

@@ -1,4 +1,4 @@
-use Rattle.lists.specs.Kit.{◌-◌}
+use Rattle.std.specs.Prelude.{◌-◌}
 use Rattle.shuffle.specs.Turns.{Taken}
 use Rattle.shuffle.proofs.block.Given as goal
 

@@ -1,4 +1,4 @@
-use Rattle.lists.specs.Kit.{◌-◌}
+use Rattle.std.specs.Prelude.{◌-◌}
 use Rattle.shuffle.specs.Turns.{size, Blocks}
 use Rattle.shuffle.proofs.draw.Given as goal
 

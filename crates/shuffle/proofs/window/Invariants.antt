@@ -1,4 +1,4 @@
-use Rattle.lists.specs.Kit.{◌-◌, ◌≤◌}
+use Rattle.std.specs.Prelude.{◌-◌, ◌≤◌}
 use Rattle.shuffle.specs.Turns.{Blocks}
 use Rattle.shuffle.proofs.window.Given as goal
 

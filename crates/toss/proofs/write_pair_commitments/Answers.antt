@@ -1,4 +1,5 @@
-use Rattle.lists.specs.Kit.{◌≡◌, refl, ap, ◌∙◌, ◌+◌, ◌-◌, ◌*◌, ◌≤◌, arith, length}
+use Rattle.std.specs.Prelude.{◌≡◌, ◌+◌, ◌-◌, ◌*◌, ◌≤◌}
+use Rattle.lists.specs.Kit.{refl, ap, ◌∙◌, arith, length}
 use Rattle.lists.specs.Rows.{chunk, length-row}
 use Rattle.plan.specs.Plan.{msg_len, list_len, count_due, kind_of}
 use Rattle.engine.specs.Area.{nth-below}

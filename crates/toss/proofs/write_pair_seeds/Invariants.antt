@@ -1,4 +1,4 @@
-use Rattle.lists.specs.Kit.{◌-◌, ◌≤◌}
+use Rattle.std.specs.Prelude.{◌-◌, ◌≤◌}
 use Rattle.lists.specs.Rows.{chunk}
 use Rattle.rounds.specs.Loops.{Sent}
 use Rattle.rounds.specs.Toss.{ver_msg}

@@ -1,4 +1,5 @@
-use Rattle.lists.specs.Kit.{◌-◌, arith, rules}
+use Rattle.std.specs.Prelude.{◌-◌}
+use Rattle.lists.specs.Kit.{arith, rules}
 use Rattle.rounds.specs.Mail.{letter}
 use Rattle.rounds.specs.Loops.{row_of}
 use Rattle.rounds.specs.TossLaws.{tossed-zero, tossed-turn, tossed-end}

@@ -1,4 +1,4 @@
-use Rattle.lists.specs.Kit.{◌-◌, ◌≤◌}
+use Rattle.std.specs.Prelude.{◌-◌, ◌≤◌}
 use Rattle.rounds.specs.Mail.{letter}
 use Rattle.rounds.specs.TossLaws.{Tossed}
 use Rattle.toss_recv.proofs.joint_seed.Given as goal

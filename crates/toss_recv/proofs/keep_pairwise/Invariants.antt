@@ -1,5 +1,6 @@
 -- The loop's invariant: the first k rows are kept. The own seeds, which each row is made from, are as they were.
-use Rattle.lists.specs.Kit.{List, ℕ, ◌-◌, ◌≤◌}
+use Rattle.std.specs.Prelude.{◌-◌, ◌≤◌}
+use Rattle.lists.specs.Kit.{List, ℕ}
 use Rattle.lists.specs.Rows.{chunk}
 use Rattle.block.specs.Block.{xor_inplace}
 use Rattle.engine.specs.declared.Frame.{Frame}

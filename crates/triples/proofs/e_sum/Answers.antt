@@ -1,4 +1,5 @@
-use Rattle.lists.specs.Kit.{◌≡◌, refl, sym, ap, ap₂, ◌∙◌, ◌+◌, ◌-◌, ◌<◌, arith, length, get_or}
+use Rattle.std.specs.Prelude.{◌≡◌, ◌+◌, ◌-◌, ◌<◌}
+use Rattle.lists.specs.Kit.{refl, sym, ap, ap₂, ◌∙◌, arith, length, get_or}
 use Rattle.algebra.specs.Group.{bits, addb, xor-addb}
 use Rattle.algebra.specs.Sum.{sum, sum-turn}
 use Rattle.triples.proofs.e_sum.Goals as goal

@@ -1,5 +1,6 @@
 -- The loop's invariant: the sum has the first e bits.
-use Rattle.lists.specs.Kit.{◌≡◌, List, Bool, ℕ, ◌+◌, ◌-◌, ◌≤◌, length, get_or}
+use Rattle.std.specs.Prelude.{◌≡◌, ◌+◌, ◌-◌, ◌≤◌}
+use Rattle.lists.specs.Kit.{List, Bool, ℕ, length, get_or}
 use Rattle.algebra.specs.Group.{bits, odd}
 use Rattle.algebra.specs.Sum.{sum}
 use Rattle.triples.proofs.e_sum.Given as goal

@@ -1,4 +1,5 @@
-use Rattle.lists.specs.Kit.{◌≡◌, refl, sym, ap, ap₂, subst, ◌∙◌, List, ℕ, ◌+◌, ◌-◌, ◌*◌, ◌≤◌, arith, length}
+use Rattle.std.specs.Prelude.{◌≡◌, ◌+◌, ◌-◌, ◌*◌, ◌≤◌}
+use Rattle.lists.specs.Kit.{refl, sym, ap, ap₂, subst, ◌∙◌, List, ℕ, arith, length}
 use Rattle.lists.specs.Sect.{put}
 use Rattle.block.specs.declared.Block.{Block}
 use Rattle.share.specs.Layout.{record_len, record-most}

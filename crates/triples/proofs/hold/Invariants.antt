@@ -1,5 +1,5 @@
 -- The loop's invariant: the rows of the first j buckets are kept. The other sections are as they were.
-use Rattle.lists.specs.Kit.{◌-◌, ◌*◌, ◌≤◌}
+use Rattle.std.specs.Prelude.{◌-◌, ◌*◌, ◌≤◌}
 use Rattle.share.specs.Layout.{record_len}
 use Rattle.rounds.specs.Area.{TRIPLES}
 use Rattle.area.specs.Filled.{Filled}

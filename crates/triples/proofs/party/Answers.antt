@@ -1,4 +1,5 @@
-use Rattle.lists.specs.Kit.{◌≡◌, sym, ap, subst, ◌∙◌, Bool, ℕ, suc, ◌+◌, ◌*◌, ◌<◌, arith, length, get_or}
+use Rattle.std.specs.Prelude.{◌≡◌, ◌+◌, ◌*◌, ◌<◌}
+use Rattle.lists.specs.Kit.{sym, ap, subst, ◌∙◌, Bool, ℕ, suc, arith, length, get_or}
 use native.Mathlib.Nat.{mul-le-mul_right}
 use native.Mathlib.Numerals.{add-one}
 use Rattle.algebra.specs.Group.{bits, odd}

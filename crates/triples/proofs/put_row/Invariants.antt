@@ -1,5 +1,5 @@
 -- The loop's invariant: the entries of the first k parties are written. The other sections are as they were.
-use Rattle.lists.specs.Kit.{◌-◌, ◌≤◌}
+use Rattle.std.specs.Prelude.{◌-◌, ◌≤◌}
 use Rattle.triples.specs.RowLaws.{Going}
 use Rattle.triples.proofs.put_row.Given as goal
 

@@ -1,4 +1,5 @@
-use Rattle.lists.specs.Kit.{◌≡◌, ap, ◌∙◌, arith, length}
+use Rattle.std.specs.Prelude.{◌≡◌}
+use Rattle.lists.specs.Kit.{ap, ◌∙◌, arith, length}
 use Rattle.rounds.specs.Area.{BITS, ZS, ES, at}
 use Rattle.rounds.specs.Buckets.{later}
 use Rattle.area.specs.GivenLaws.{place_at, place-fits}

@@ -1,4 +1,5 @@
-use Rattle.lists.specs.Kit.{◌+◌, ◌-◌, ◌*◌, ◌<◌, ◌≤◌, arith}
+use Rattle.std.specs.Prelude.{◌+◌, ◌-◌, ◌*◌, ◌<◌, ◌≤◌}
+use Rattle.lists.specs.Kit.{arith}
 use lib.ListN.{length-set}
 use Rattle.lists.specs.Over.{written-zero, written-end}
 use Rattle.rbits.specs.Chosen.{words_of}

@@ -1,5 +1,5 @@
 -- The loop's invariant: the words of the first j strings are written, and j is even.
-use Rattle.lists.specs.Kit.{◌≡◌, ◌-◌, ◌*◌, ◌≤◌}
+use Rattle.std.specs.Prelude.{◌≡◌, ◌-◌, ◌*◌, ◌≤◌}
 use Prim.Native.Nat.{◌%◌}
 use Rattle.lists.specs.Over.{Written}
 use Rattle.rbits.specs.LoopLaws.{pair_of}
