@@ -5,7 +5,6 @@ use Rattle.area.specs.GivenLaws.{lent_length}
 use Rattle.area.specs.Sizes.{size-share-comms}
 use Rattle.fashare_third.specs.Laws.{lowest-none, lowest-new, lowest-old, lowest-found, lowest-clean}
 use Rattle.fashare_third.proofs.judge.Goals as goal
-use Rattle.fashare_third.proofs.judge.Goals.{then-q-first, else-q-first}
 
 pub loop-k-init : goal.loop-k-init
 loop-k-init c = (search rules, lowest-none _)
@@ -14,14 +13,12 @@ pub shut_of-q-requires : goal.shut_of-q-requires
 shut_of-q-requires c =
     record { comms_len = lent_length c.requires.work SHARE_COMMS _ _ (omega arith) (size-share-comms c.args.f) c.section-comms.ensures; k_lt_n = (c.loop-k-test.true, c.loop-k.invariant.1.below); received = c.requires.received }
 
+-- the walk found an earlier string, or none
 pub loop-k-preserved : goal.loop-k-preserved
-loop-k-preserved c = (
-  omega (arith, c.loop-k-test.true),
-  elim c.if-q-first.branch [
-    | then-q-first w ↦ rw (w.first-is, w.party-is) (lowest-new _ c.loop-k.k c.loop-k.first c.loop-k.party c.shut_of-q.result c.loop-k.invariant.1 c.shut_of-q.ensures w.if-q-first.true)
-    | else-q-first w ↦ rw (w.first-is, w.party-is) (lowest-old _ c.loop-k.k c.loop-k.first c.loop-k.party c.shut_of-q.result c.loop-k.invariant.1 c.shut_of-q.ensures w.if-q-first.false)
-  ],
-)
+loop-k-preserved c =
+    let found = lowest-new _ c.loop-k.k c.loop-k.first c.loop-k.party c.shut_of-q.result c.loop-k.invariant.1 c.shut_of-q.ensures in
+    let none = lowest-old _ c.loop-k.k c.loop-k.first c.loop-k.party c.shut_of-q.result c.loop-k.invariant.1 c.shut_of-q.ensures in
+    (omega (arith, c.loop-k-test.true), grind arith)
 
 pub returns-then-first-lt-STRINGS : goal.returns-then-first-lt-STRINGS
 returns-then-first-lt-STRINGS c =

@@ -14,8 +14,7 @@ returns-then-s-at-gt1 c =
 
 pub returns-then-not-labelled : goal.returns-then-not-labelled
 returns-then-not-labelled c =
-    sym (fault-label c.args.n c.args.i c.args.s.now c.args.at c.if-s-at-gt1.false
-    (sym c.labelled.ensures ∙ c.if-not-labelled.true))
+    sym (fault-label c.args.n c.args.i c.args.s.now c.args.at (omega arith) (sym c.labelled.ensures ∙ c.if-not-labelled.true))
 
 -- the own entry lies within
 pub own_zero-requires : goal.own_zero-requires
