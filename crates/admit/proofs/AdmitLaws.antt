@@ -3,7 +3,7 @@ use Rattle.std.specs.Prelude.{◌≡◌, ◌≢◌, Bool, false, not, ◌&&◌, 
 use Rattle.std.proofs.Math.Path.{refl, sym, ap, ap₂, fun_ext}
 use Rattle.std.proofs.Common.{◌∙◌, subst, arith}
 use Rattle.std.proofs.Math.Bool.{true}
-use mathlib.Core.List.{List, [], ◌++◌}
+use mathlib.Core.List.{List, []}
 use Rattle.std.proofs.Math.ListN.{get_or, get_or-append}
 use Rattle.std.proofs.Math.Dec.{eqb}
 use borrow.Author.Tests.{ltb-true, leb-true, eqb-true, eq-eqb, ne_eqb}
@@ -17,7 +17,7 @@ use Rattle.message.specs.declared.Kind.TheVariants.{Options}
 use Rattle.message.specs.Format as Format
 use Rattle.message.specs.Read as Read
 use Rattle.plan.specs.Plan as Plan
-use Rattle.plan.specs.Plan.{FABITN, DVALUE, echo?, is_round, next_round, kind_of, count_due, msg_len, out_len, leaky, InRange}
+use Rattle.plan.specs.Plan.{FABITN, echo?, is_round, next_round, kind_of, count_due, msg_len, out_len, InRange}
 use Rattle.plan.specs.PlanLaws.{Rest, kind-rest, count-rest, out-len-last, out-len}
 use Rattle.batches.specs.Batches.{total, whole}
 use Rattle.batches.specs.BatchLaws.{whole-total}

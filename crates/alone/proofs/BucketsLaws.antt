@@ -1,9 +1,9 @@
 -- Round 21, `dvalue`: the permutation, the opened d values and the combined triples, read back of PERM, DS and TRIPLES.
-use Rattle.std.specs.Prelude.{◌≡◌, Bool, true, length, get_or, drop}
+use Rattle.std.specs.Prelude.{◌≡◌, Bool, length, get_or, drop}
 use Rattle.std.proofs.Math.Path.{refl, sym, ap, ap₂, subst}
 use Rattle.std.proofs.Common.{◌∙◌, add-zero, le_refl}
 use mathlib.Core.List.{List, [], ◌∷◌, ◌++◌, append-nil}
-use Prim.Native.Nat.{ℕ, zero, suc, ◌+◌, ◌-◌, ◌*◌, ◌/◌, ◌%◌, ◌^◌, ◌<◌, ◌≤◌}
+use Prim.Native.Nat.{ℕ, zero, suc, ◌+◌, ◌-◌, ◌*◌, ◌%◌, ◌<◌, ◌≤◌}
 use Rattle.std.proofs.Math.Nat.{mod-eq_of_lt}
 use native.Mathlib.Omega.{arith}
 use Rattle.std.proofs.Math.ListN.{take, length-append}

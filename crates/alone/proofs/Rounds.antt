@@ -1,12 +1,11 @@
 -- What each plain round does to the work area of one box, whoever it talks to: receiving it and making its messages fill the sections that
 -- Holds.antt names, and what is written is the formula's.
-use Rattle.std.specs.Prelude.{◌≡◌, Bool, true, ◌&&◌, ◌≢◌, ℕ, ◌+◌, ◌*◌, ◌<◌, ◌≤◌, length, take, drop, leb, ltb, eqb}
+use Rattle.std.specs.Prelude.{◌≡◌, true, ◌≢◌, ℕ, ◌+◌, ◌*◌, ◌<◌, ◌≤◌, length, take, drop, leb, ltb}
 use Rattle.std.proofs.Math.Path.{refl, ap, ap₂}
-use Rattle.std.proofs.Common.{◌∙◌, le-leb, eqb-true}
+use Rattle.std.proofs.Common.{◌∙◌, le-leb}
 use mathlib.Core.List.{List, [], ◌∷◌}
 use native.Mathlib.Omega.{arith}
-use Rattle.lists.specs.Pick.{pick, pick-then}
-use Rattle.lists.specs.All.{all_of, and_second}
+use Rattle.lists.specs.All.{all_of}
 use Rattle.lists.specs.Over.{length-tab}
 use Rattle.lists.specs.Rows.{chunk, length-chunk}
 use Rattle.lists.specs.Sect.{length-get}
@@ -27,7 +26,7 @@ use Rattle.engine.proofs.AloneLaws as Alone
 use Rattle.rounds.specs.Area.{DELTA, SEED, PAIRS, MASKS, BITS, ALPHA, BETA, COMMS, JOINT, PAIR_COMMS, PAIRWISE, KEY_SUMS, SHARE_COMMS, DMS}
 use Rattle.rounds.specs.Area.{LEAKY, ZS, ES, HS, H_COMMS, PERM, DS, TRIPLES, ROUNDS_OWN, SECTIONS, sizes, size_of, at, keep}
 use Rattle.rounds.specs.Opening.{Args, party}
-use Rattle.rounds.specs.Table.{table, delta, judge, kept, held, written, lent}
+use Rattle.rounds.specs.Table.{table, delta, judge, kept, held, written}
 use Rattle.rounds.specs.Toss as Toss
 use Rattle.rounds.specs.Fabitn as Fabitn
 use Rattle.rounds.specs.Fashare as Fashare

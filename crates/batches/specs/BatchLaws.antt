@@ -1,9 +1,9 @@
 -- What follows from the definitions.
-use Rattle.lists.specs.Kit.{◌≡◌, refl, sym, ap, ap₂, ◌∙◌, ◌≢◌, List, [], ◌∷◌, Bool, true, false, not, ◌||◌}
-use Rattle.lists.specs.Kit.{ℕ, zero, suc, ◌+◌, ◌*◌, ◌<◌, ◌≤◌, arith, length, get_or, take}
+use Rattle.lists.specs.Kit.{refl, sym, ap, ap₂, ◌∙◌, List, [], Bool, true, false, not}
+use Rattle.lists.specs.Kit.{ℕ, zero, suc, arith, length, get_or, take}
 use Rattle.std.proofs.Common.{le_refl, length-take-le, get_or-take, leb-true, eqb-true, ltb-true, ltb-false, le-leb, eq-eqb, ne_eqb}
 use Rattle.std.proofs.Math.ListN.{get_or-eq_default}
-use Rattle.std.specs.Prelude.{leb, eqb, ltb}
+use Rattle.std.specs.Prelude.{leb, eqb, ltb, ◌≡◌, ◌≢◌, ◌∷◌, ◌||◌, ◌+◌, ◌*◌, ◌<◌, ◌≤◌}
 use Rattle.std.proofs.lemmas.Bool.{eqb-false}
 use Rattle.lists.specs.Pick.{pick, pick-then, by-eq}
 use Rattle.lists.specs.All.{and_first, and_second, not-true, all_of_lem, of-all}

@@ -1,10 +1,10 @@
 -- What a turn and the end of each loop come to.
-use Rattle.lists.specs.Kit.{◌≡◌, refl, sym, ap, ap₂, ◌∙◌, List, [], ◌∷◌, ◌++◌, Bool, true, false, not, ◌&&◌, ◌||◌}
-use Rattle.lists.specs.Kit.{ℕ, zero, suc, ◌+◌, ◌*◌, ◌<◌, ◌≤◌, arith, length, get_or, drop, replicate, set}
+use Rattle.lists.specs.Kit.{refl, sym, ap, ap₂, ◌∙◌, List, [], Bool, true, false, not}
+use Rattle.lists.specs.Kit.{ℕ, zero, suc, arith, length, get_or, drop, replicate, set}
 use Rattle.std.proofs.Common.{append_assoc, le_refl, add-one, length-append, eqb-true, le-leb}
 use Rattle.std.proofs.Math.ListN.{get_or-eq_default}
 use Rattle.std.proofs.lemmas.List.{get_or-replicate}
-use Rattle.std.specs.Prelude.{leb}
+use Rattle.std.specs.Prelude.{leb, ◌≡◌, ◌∷◌, ◌++◌, ◌&&◌, ◌||◌, ◌+◌, ◌*◌, ◌<◌, ◌≤◌}
 use Rattle.std.proofs.Math.Dec.{eqb}
 use Rattle.lists.specs.Pick.{pick, by-eq}
 use Rattle.lists.specs.All.{all_of, all_more, and_second, not-true, not-false}

@@ -1,5 +1,6 @@
 -- The table of the word order: each entry is a place of the message, by one test over the table; a loop over it permutes.
-use Rattle.lists.specs.Kit.{◌≡◌, ap, ◌∙◌, List, [], ◌∷◌, ◌++◌, Bool, true, false, ℕ, zero, suc, ◌<◌, arith, get_or, drop, replicate}
+use Rattle.std.specs.Prelude.{◌≡◌, ◌∷◌, ◌++◌, ◌<◌}
+use Rattle.lists.specs.Kit.{ap, ◌∙◌, List, [], Bool, true, false, ℕ, zero, suc, arith, get_or, drop, replicate}
 use lib.Dec.{T, ltb, ltb→lt}
 use Rattle.lists.specs.Over.{tab}
 use Rattle.lists.specs.Pick.{pick}

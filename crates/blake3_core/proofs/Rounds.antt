@@ -1,5 +1,6 @@
 -- The rounds as the code has them, step by step: four quarter rounds are half a round, and there are seven rounds.
-use Rattle.lists.specs.Kit.{◌≡◌, refl, ap, ◌∙◌, List, ℕ, get_or}
+use Rattle.std.specs.Prelude.{◌≡◌}
+use Rattle.lists.specs.Kit.{refl, ap, ◌∙◌, List, ℕ, get_or}
 use Rattle.blake3_core.specs.Compress.{g, columns, diagonals, round, rounds, permute, fold}
 
 -- ---- four quarter rounds

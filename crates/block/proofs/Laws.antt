@@ -1,5 +1,6 @@
 -- What the code of this crate computes, over plain variables.
-use Rattle.lists.specs.Kit.{◌≡◌, refl, sym, ap, ap₂, ◌∙◌, List, ◌++◌, Bool, true, false, ℕ, zero, suc, ◌+◌, ◌-◌, ◌*◌, ◌<◌, ◌≤◌, arith}
+use Rattle.std.specs.Prelude.{◌≡◌, ◌++◌, ◌+◌, ◌-◌, ◌*◌, ◌<◌, ◌≤◌}
+use Rattle.lists.specs.Kit.{refl, sym, ap, ap₂, ◌∙◌, List, Bool, true, false, ℕ, zero, suc, arith}
 use Rattle.lists.specs.Kit.{length, get_or, take, drop, set}
 use Prim.Native.Nat.{◌^◌, ◌%◌, min}
 use native.Mathlib.Nat.{mul-zero, mul-one, mod-lt, zero-lt-suc}

@@ -12,7 +12,7 @@ use Rattle.lists.specs.Tab.{take-tab}
 use Rattle.lists.specs.Sect.{get}
 use Rattle.lists.specs.Rows.{chunk}
 use Rattle.lists.specs.Bytes.{Bytes, bytes-append}
-use Rattle.algebra.specs.Group.{XorGroup, sel}
+use Rattle.algebra.specs.Group.{sel}
 use Rattle.algebra.specs.Sum.{sum, others, neq}
 use Rattle.block.specs.Block.{Block, le_of, word_at, block_at, le8, bytes_of, xor_of, zero_of}
 use Rattle.block.specs.Group.{blocks}

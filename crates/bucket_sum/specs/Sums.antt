@@ -3,7 +3,7 @@ use Rattle.std.specs.Prelude.{◌≡◌, Bool, not, ◌&&◌, ◌≢◌, List, �
 use Rattle.std.proofs.Math.Path.{sym, ap, ap₂}
 use Rattle.std.proofs.Common.{◌∙◌, add-zero, mul-le-mul, mul-le-mul_right, arith}
 use Rattle.std.specs.Bool.{beq}
-use Rattle.algebra.specs.Group.{XorGroup, bits, addb, sel, xor-addb, xor-and}
+use Rattle.algebra.specs.Group.{bits, addb, sel, xor-addb, xor-and}
 use Rattle.algebra.specs.Bucket.{bucket_x, bucket_z, first-x, first-z, next-x, next-z}
 use Rattle.block.specs.declared.Block.{Block}
 use Rattle.block.specs.Block.{bytes_of}

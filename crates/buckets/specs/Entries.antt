@@ -4,7 +4,6 @@ use Rattle.std.proofs.Math.Nat.{mod-lt}
 use Rattle.std.proofs.Common.{add-one}
 use native.Mathlib.Omega.{arith}
 use Rattle.lists.specs.Over.{in-chunks}
-use Rattle.algebra.specs.Group.{XorGroup}
 use Rattle.share.specs.Record.{record_len}
 use Rattle.share.specs.Share.{share_at, shares}
 use Rattle.plan.specs.Plan.{bucket_size, leaky}

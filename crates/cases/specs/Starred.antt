@@ -1,11 +1,11 @@
 -- The ten starred cases of document 01's "Checked by hand", about the definitions that the contracts cite. A row is a test; one theorem
 -- says that every row holds.
-use Rattle.std.specs.Prelude.{◌≡◌, refl, Bool, true, false, not, ◌&&◌, List, [], ◌∷◌, ◌++◌, ℕ, ◌+◌, ◌*◌, ◌/◌, ◌%◌, ◌^◌, get_or, eqb}
+use Rattle.std.specs.Prelude.{◌≡◌, refl, Bool, true, false, not, ◌&&◌, List, [], ◌∷◌, ℕ, get_or, eqb}
 use Rattle.lists.specs.Pick.{pick}
 use Rattle.lists.specs.All.{all_of}
 use Rattle.lists.specs.Over.{tab, cat}
 use Rattle.lists.specs.Same.{same?}
-use Rattle.algebra.specs.Group.{XorGroup, addb, odd, num}
+use Rattle.algebra.specs.Group.{addb, odd, num}
 use Rattle.block.specs.Block.{le8}
 use Rattle.block.specs.Group.{blocks}
 use Rattle.share.specs.Share.{Share, shares}

@@ -2,7 +2,7 @@
 use Rattle.std.specs.Prelude.{◌≡◌, refl, Bool, List, ℕ, ◌+◌, length}
 use Rattle.std.proofs.Common.{ap, ap₂, ◌∙◌}
 use Rattle.lists.specs.Over.{tab, cat, length-tab}
-use Rattle.algebra.specs.Group.{XorGroup, bits, addb, num}
+use Rattle.algebra.specs.Group.{bits, addb, num}
 use Rattle.algebra.specs.Sum.{others}
 use Rattle.share.specs.Share.{Share, share_at, shares}
 use Rattle.engine.specs.declared.Frame.{Frame}

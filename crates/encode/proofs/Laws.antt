@@ -1,5 +1,6 @@
 -- Items written into an exact part: bytes at the front, then Blocks through parts of it.
-use Rattle.lists.specs.Kit.{◌≡◌, refl, ap, ap₂, ◌∙◌, List, [], ◌∷◌, ◌++◌, ℕ, suc, arith, length, set}
+use Rattle.std.specs.Prelude.{◌≡◌, ◌∷◌, ◌++◌}
+use Rattle.lists.specs.Kit.{refl, ap, ap₂, ◌∙◌, List, [], ℕ, suc, arith, length, set}
 use lib.ListN.{length-set}
 use borrow.Rule.Slice.PartMut.{put_mid}
 use Rattle.lists.specs.Sect.{length-put}

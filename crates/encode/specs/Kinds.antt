@@ -1,6 +1,6 @@
 -- The round trip of every kind of message, each by the one law of RoundTrip: what is written is accepted, used to its last byte, and its
 -- items are found. Fields.antt reads their fields.
-use Rattle.std.specs.Prelude.{◌≡◌, Bool, true, false, List, [], ◌∷◌, ◌++◌, ℕ, ◌^◌, ◌<◌, length}
+use Rattle.std.specs.Prelude.{◌≡◌, Bool, true, false, List, [], ◌∷◌, ℕ, ◌^◌, ◌<◌, length}
 use Rattle.lists.specs.Pick.{pick}
 use Rattle.block.specs.declared.Block.{Block}
 use Rattle.block.specs.Block.{bytes_of}

@@ -6,7 +6,7 @@ use Rattle.std.proofs.Math.Option.{Option, some, none}
 use Prim.Native.Nat.{ℕ, zero, suc, ◌<◌, ◌≤◌}
 use Rattle.lists.specs.All.{true-false}
 use Rattle.algebra.specs.Sum.{neq, apart?, Same, same}
-use Rattle.engine.specs.Step.{Frame, frame, Session, Loan, nothing, Lent, Reply, Accepted, Refused, Outcome, leaves, outcome, Rule}
+use Rattle.engine.specs.Step.{Frame, frame, Session, nothing, Lent, Reply, Accepted, Refused, Outcome, leaves, outcome}
 use Rattle.engine.specs.Step.{Protocol, told_after, mask, part}
 use Rattle.engine.specs.Step.{stretch, reason_of, fault_of, accepted, round_spec}
 use Rattle.engine.specs.StepLaws.{mask-ext, no-fault}
@@ -15,7 +15,7 @@ use Rattle.engine.specs.World.{In, here, there, All, update, Box, Note, World, C
 use Rattle.engine.specs.World.{turned_box, turned, after, run, Course, Scene, session_at, reason_after, Reads, FairTurn, FairOpening}
 use Rattle.engine.specs.World.{has-reason, its_own, Fair, FairList, Answered, refused-it, accepted-it, RightTurn, Right, AllRight}
 use Rattle.engine.specs.World.{Done, runs}
-use Rattle.engine.specs.Engine.{Joint, mail_of, together, HonestRound, Alike, Duty}
+use Rattle.engine.specs.Engine.{Joint, mail_of, together, Alike, Duty}
 
 all_in : {A : Type 0} (Q : A → Type 0) {a : A} {l : List A} → All Q l → In a l → Q a
 all_in Q h here = h.0

@@ -7,7 +7,7 @@ use Rattle.std.proofs.lemmas.List.{length-replicate}
 use Rattle.lists.specs.Over.{tab, length-tab, get_or-tab, cat}
 use Rattle.lists.specs.Rows.{cat-inside, cat-part}
 use Rattle.algebra.specs.Sum.{neq-true, neq-self}
-use Rattle.engine.specs.Step.{frame, Loan, Lent, Protocol, gone, part, stretch, reason_of}
+use Rattle.engine.specs.Step.{frame, Lent, Protocol, gone, part, stretch, reason_of}
 use Rattle.engine.specs.StepLaws.{lengths-hold}
 use Rattle.engine.proofs.RoundLaws.{no-reason}
 use Rattle.engine.specs.World.{In, here, there, All, update, Opening, Box, Note, note, World, Call, opening, turn, start, turned}

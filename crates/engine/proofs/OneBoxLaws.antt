@@ -8,7 +8,7 @@ use Rattle.std.proofs.lemmas.Bool.{eqb-false}
 use Rattle.lists.specs.Pick.{pick}
 use Rattle.lists.specs.All.{true-false, and-false}
 use Rattle.batches.specs.Batches.{whole}
-use Rattle.engine.specs.Step.{Frame, frame, Session, Loan, nothing, Lent, Reply, Accepted, Refused, Outcome, Protocol, mask, part}
+use Rattle.engine.specs.Step.{Frame, frame, Session, Loan, Reply, Outcome, Protocol}
 use Rattle.engine.specs.Step.{accepted, round_spec}
 use Rattle.engine.proofs.RoundLaws.{round-faults, round-cases, Due, due_of_lem}
 use Rattle.engine.specs.World.{Box, turned_box, session_of}

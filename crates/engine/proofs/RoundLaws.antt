@@ -1,13 +1,12 @@
 -- A round call by the case it falls into.
-use Rattle.std.specs.Prelude.{◌≡◌, Bool, true, false, not, ◌&&◌, ◌≢◌, List, [], ℕ, zero, suc, ◌+◌, ◌<◌, ◌≤◌, length, get_or, replicate, ltb, eqb}
-use Rattle.std.proofs.Math.Path.{refl, fun_ext}
-use Rattle.std.proofs.Common.{sym, ap, ap₂, ◌∙◌, subst, le_refl, add-one, arith}
-use borrow.Author.Tests.{ltb-true, ltb-false, eqb-true, eqb-false, eq-eqb, ne_eqb, lt-ltb, le-leb}
-use Rattle.lists.specs.Pick.{pick, pick-else}
-use Rattle.lists.specs.All.{all_of_lem, not-false}
-use Rattle.algebra.specs.Sum.{neq, neq-true, apart?, Same, apart}
-use Rattle.engine.specs.Step.{Frame, Session, Lent, Refused, Outcome, outcome, Fault, Rule, Protocol, other, mask, gone, part}
-use Rattle.engine.specs.Step.{inside, parts_in, lengths_due, reason_of, or_else, scan, by_party, form_fault, fault_of, ended, refused}
+use Rattle.std.specs.Prelude.{◌≡◌, Bool, true, false, not, ◌≢◌, List, ℕ, suc, length, replicate, eqb}
+use Rattle.std.proofs.Math.Path.{refl}
+use Rattle.std.proofs.Common.{arith}
+use borrow.Author.Tests.{eqb-true, eqb-false, eq-eqb, ne_eqb}
+use Rattle.lists.specs.Pick.{pick-else}
+use Rattle.lists.specs.All.{not-false}
+use Rattle.engine.specs.Step.{Session, Lent, Refused, Outcome, outcome, Fault, Protocol}
+use Rattle.engine.specs.Step.{lengths_due, reason_of, fault_of, ended, refused}
 use Rattle.engine.specs.Step.{faulted}
 use Rattle.engine.specs.Step.{accepted, round_spec}
 

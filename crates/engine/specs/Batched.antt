@@ -1,17 +1,14 @@
 -- "Once opened, messages, refusals and results equal those of a single batch of l with the same inputs and calls" (02, order 7): two sessions
 -- that differ in their counts alone, which make one l, answer every list of calls alike.
-use Rattle.std.specs.Prelude.{◌≡◌, Bool, List, [], ◌∷◌, eqb}
-use Rattle.std.proofs.Math.Path.{refl}
-use Rattle.std.proofs.Common.{sym, ap, ap₂, ◌∙◌, subst}
-use Rattle.std.proofs.Math.Bool.{true, false}
+use Rattle.std.specs.Prelude.{◌≡◌, List, [], ◌∷◌}
+use Rattle.std.proofs.Math.Bool.{true}
 use Prim.Native.Nat.{ℕ}
 use Rattle.lists.specs.Pick.{pick}
 use Rattle.batches.specs.Batches.{whole, untold}
-use Rattle.engine.specs.Step.{Frame, Session, Lent, Reply, Accepted, Refused, Outcome, leaves, Fault, Protocol, reason_of, fault_of, told_after}
-use Rattle.engine.specs.Step.{refused, faulted, accepted, round_spec}
-use Rattle.engine.specs.World.{Box, turned_box}
+use Rattle.engine.specs.Step.{Session, Outcome, Protocol, told_after}
+use Rattle.engine.specs.Step.{round_spec}
+use Rattle.engine.specs.World.{Box}
 use Rattle.engine.specs.OneBox.{Turn, turn_box, taken}
-use Rattle.engine.specs.Plain.{Table, protocol_of}
 
 -- two sessions beside each other, with counts c and d that make their l
 pub record Beside (c d : List ℕ) (s t : Session) : Type 0 where

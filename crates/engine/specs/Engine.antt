@@ -1,20 +1,11 @@
 -- The engine: whatever the rounds are, if each is honest in step, then in every list of calls each box follows the run in step, and a
 -- call is refused exactly where it has a reason. A round owes a HonestRound; nothing here changes with it.
-use Rattle.std.specs.Prelude.{◌≡◌, Bool, true, false, cond, ◌≢◌, List, [], ◌∷◌, length, ltb}
-use Rattle.std.proofs.Math.Path.{refl, subst}
-use Rattle.std.proofs.Common.{sym, ap, ap₂, ◌∙◌, le_refl, arith, ltb-true, ltb-false}
-use Rattle.std.proofs.Math.Option.{Option, some, none}
-use Prim.Native.Nat.{ℕ, zero, suc, ◌<◌, ◌≤◌}
-use Rattle.lists.specs.All.{true-false}
-use Rattle.algebra.specs.Sum.{neq, apart?, Same, same}
-use Rattle.engine.specs.Step.{Frame, frame, Session, Loan, nothing, Lent, Reply, Accepted, Refused, Outcome, leaves, outcome, Rule}
-use Rattle.engine.specs.Step.{Protocol, told_after, mask, part}
-use Rattle.engine.specs.Step.{stretch, reason_of, fault_of, accepted, round_spec}
-use Rattle.engine.specs.StepLaws.{mask-ext, no-fault}
-use Rattle.engine.specs.World.{In, here, there, All, update, Box, Note, World, Call, opening, turn, start, logged, opened_box}
-use Rattle.engine.specs.World.{turned_box, turned, after, run, Course, Scene, session_at, reason_after, Reads, FairTurn, FairOpening}
-use Rattle.engine.specs.World.{has-reason, its_own, Fair, FairList, Answered, refused-it, accepted-it, RightTurn, Right, AllRight}
-use Rattle.engine.specs.World.{Done, runs}
+use Rattle.std.specs.Prelude.{◌≡◌, ◌≢◌, List, length}
+use Prim.Native.Nat.{ℕ, ◌<◌}
+use Rattle.engine.specs.Step.{frame, Loan, Accepted, Refused, outcome, Rule}
+use Rattle.engine.specs.Step.{Protocol, mask}
+use Rattle.engine.specs.Step.{stretch}
+use Rattle.engine.specs.World.{Scene, session_at}
 
 -- all boxes in step: each one's work area, and the outgoing buffer of its last call
 pub record Joint : Type 0 where

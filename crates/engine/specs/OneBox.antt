@@ -1,19 +1,12 @@
 -- Calls of one box, and what the accepted ones read and were lent: each round is accepted once, so a list of calls has one message of each
 -- party for each round.
-use Rattle.std.specs.Prelude.{◌≡◌, Bool, ◌&&◌, ◌≢◌, List, [], ◌∷◌, ℕ, suc, ◌<◌, ◌≤◌, leb, eqb}
-use Rattle.std.proofs.Math.Path.{refl}
-use Rattle.std.proofs.Common.{sym, ap, ◌∙◌, subst, eq-eqb, ne_eqb, eqb-true}
+use Rattle.std.specs.Prelude.{◌≡◌, Bool, ◌&&◌, List, [], ◌∷◌, ℕ, eqb}
 use Rattle.std.proofs.Math.Bool.{true, false}
-use native.Mathlib.Omega.{arith}
-use Rattle.std.proofs.lemmas.Bool.{eqb-false}
 use Rattle.lists.specs.Pick.{pick}
-use Rattle.lists.specs.All.{true-false, and-false}
-use Rattle.batches.specs.Batches.{whole}
-use Rattle.engine.specs.Step.{Frame, frame, Session, Loan, nothing, Lent, Reply, Accepted, Refused, Outcome, Protocol, mask, part}
-use Rattle.engine.specs.Step.{accepted, round_spec}
-use Rattle.engine.specs.World.{Box, turned_box, session_of}
-use Rattle.engine.specs.Order.{round_in, next_in}
-use Rattle.engine.specs.Plain.{Table, is_echo, next_of, protocol_of}
+use Rattle.engine.specs.Step.{Frame, frame, Loan, nothing, Lent, Reply, Accepted, Refused, Outcome, Protocol, mask, part}
+use Rattle.engine.specs.Step.{round_spec}
+use Rattle.engine.specs.World.{Box, turned_box}
+use Rattle.engine.specs.Plain.{Table, next_of, protocol_of}
 
 -- ---- calls of one box
 pub record Turn : Type 0 where

@@ -3,7 +3,7 @@ use Rattle.std.specs.Prelude.{◌≡◌, refl, Bool, List, ℕ, ◌+◌, ◌*◌
 use Rattle.std.proofs.Common.{sym, arith}
 use Rattle.std.proofs.Math.Path.{subst}
 use Rattle.lists.specs.Over.{in-chunks}
-use Rattle.algebra.specs.Group.{XorGroup, sel}
+use Rattle.algebra.specs.Group.{sel}
 use Rattle.share.specs.Record.{record_len}
 use Rattle.share.specs.Share.{Share, share_at, shares}
 use Rattle.share.specs.ShareLaws.{Alike, alike-op, alike-agree, alike-get, Agree, agree-op, agree-sel}

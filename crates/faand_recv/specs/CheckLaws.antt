@@ -3,7 +3,7 @@ use Rattle.std.specs.Prelude.{◌≡◌, refl, Bool, ◌&&◌, List, ℕ, ◌+�
 use Rattle.std.proofs.Common.{ap, ap₂, ◌∙◌}
 use Rattle.lists.specs.Pick.{pick}
 use Rattle.lists.specs.All.{all_of}
-use Rattle.algebra.specs.Group.{XorGroup, sel, odd}
+use Rattle.algebra.specs.Group.{sel, odd}
 use Rattle.block.specs.declared.Block.{Block}
 use Rattle.block.specs.Block.{block_at, eq_block}
 use Rattle.block.specs.Group.{blocks}

@@ -12,7 +12,6 @@ use Rattle.lists.specs.Over.{cat}
 use Rattle.lists.specs.Rows.{chunk}
 use Rattle.lists.specs.Same.{same?, same-append, same-cat}
 use Rattle.lists.specs.Bytes.{Bytes}
-use Rattle.algebra.specs.Group.{XorGroup}
 use Rattle.algebra.specs.Sum.{others}
 use Rattle.block.specs.declared.Block.{Block}
 use Rattle.block.specs.Block.{block_at, bytes_of, eq_block}

@@ -4,10 +4,7 @@ use Rattle.std.proofs.Common.{sym, ap, ◌∙◌, subst, arith, leb-true, eqb-tr
 use Rattle.std.proofs.lemmas.List.{length-replicate}
 use Rattle.lists.specs.Pick.{pick, pick-then}
 use Rattle.lists.specs.All.{all_of, of-all, and_both}
-use Rattle.lists.specs.Bytes.{Bytes}
 use Rattle.algebra.specs.Sum.{neq, neq-true}
-use Rattle.algebra.specs.Share.{Good}
-use Rattle.block.specs.Group.{blocks}
 use Rattle.share.specs.Lent.{lent_len, records_fault}
 use Rattle.share.specs.LentLaws.{faults-valid}
 use Rattle.plan.specs.Plan.{InRange, leaky, bits_count, msg_len}
@@ -15,7 +12,7 @@ use Rattle.engine.specs.declared.Frame.{Frame}
 use Rattle.rounds.specs.Area.{work_len}
 use Rattle.rounds.specs.OpeningLaws.{neither, passed}
 use Rattle.rounds.specs.Opening.{Args, party, lists_due, buffers_due, masks_fault, bytes_fault, reason}
-use Rattle.honest.specs.Inputs.{Run, box, deltas, Own, lent_bits, lent_alphas, lent_betas, Opened}
+use Rattle.honest.specs.Inputs.{Run, Own, Opened}
 use Rattle.honest.specs.Course.{lawful}
 use Rattle.honest.specs.Opening.{Given}
 use Rattle.honest.proofs.OpeningLaws.{honest-opening}

@@ -1,14 +1,13 @@
 -- The premises of demand 3 can be met: inputs that are all zero but for the records' labels keep them, and with strings, lent or as a seed,
 -- no call has a reason.
 use Rattle.std.proofs.Math.Path.{◌≡◌, refl}
-use Rattle.std.proofs.Common.{sym, ap, ◌∙◌, subst, arith, eq-eqb, eqb-true}
-use Rattle.std.specs.Prelude.{Bool, ◌&&◌, ◌≢◌, List, [], ◌∷◌, ℕ, zero, suc, ◌+◌, ◌-◌, ◌*◌, ◌<◌, ◌≤◌, length, get_or, replicate, eqb}
+use Rattle.std.proofs.Common.{sym, ap, ◌∙◌, subst, arith}
+use Rattle.std.specs.Prelude.{Bool, ◌≢◌, List, [], ◌∷◌, ℕ, zero, suc, ◌+◌, ◌-◌, ◌*◌, ◌<◌, ◌≤◌, length, get_or, replicate, eqb}
 use Rattle.std.proofs.Math.Bool.{true, false}
 use Rattle.std.proofs.lemmas.List.{length-replicate}
 use Rattle.lists.specs.Pick.{pick}
 use Rattle.lists.specs.Over.{cat, length-cat}
 use Rattle.lists.specs.Bytes.{Bytes, bytes-cat, bytes-replicate}
-use Rattle.algebra.specs.Group.{XorGroup}
 use Rattle.algebra.specs.Share.{Good, shared, good-nil}
 use Rattle.block.specs.declared.Block.{Block}
 use Rattle.block.specs.Group.{blocks}

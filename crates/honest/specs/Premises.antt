@@ -1,23 +1,11 @@
 -- The premises of demand 3 on the inputs.
-use Rattle.std.specs.Prelude.{◌≡◌, refl, Bool, true, ◌≢◌, List, ℕ, suc, ◌+◌, ◌-◌, ◌*◌, ◌<◌, ◌≤◌, length, get_or, leb, eqb}
-use Rattle.std.proofs.Common.{sym, ap, ◌∙◌, subst, arith, leb-true, eqb-true}
-use Rattle.std.proofs.lemmas.List.{length-replicate}
-use Rattle.lists.specs.Pick.{pick, pick-then}
-use Rattle.lists.specs.All.{all_of, of-all, and_both}
+use Rattle.std.specs.Prelude.{◌≡◌, ℕ, ◌-◌, ◌<◌, ◌≤◌}
 use Rattle.lists.specs.Bytes.{Bytes}
-use Rattle.algebra.specs.Sum.{neq, neq-true}
 use Rattle.algebra.specs.Share.{Good}
 use Rattle.block.specs.Group.{blocks}
-use Rattle.share.specs.Lent.{lent_len, records_fault}
-use Rattle.share.specs.LentLaws.{faults-valid}
-use Rattle.plan.specs.Plan.{InRange, leaky, bits_count, msg_len}
-use Rattle.engine.specs.declared.Frame.{Frame}
-use Rattle.rounds.specs.Area.{work_len}
-use Rattle.rounds.specs.OpeningLaws.{neither, passed}
-use Rattle.rounds.specs.Opening.{Args, party, lists_due, buffers_due, masks_fault, bytes_fault, reason}
-use Rattle.honest.specs.Inputs.{Run, box, deltas, Own, lent_bits, lent_alphas, lent_betas, Opened}
-use Rattle.honest.specs.Course.{lawful}
-use Rattle.honest.specs.Opening.{Given}
+use Rattle.plan.specs.Plan.{bits_count}
+use Rattle.rounds.specs.Opening.{Args, party, reason}
+use Rattle.honest.specs.Inputs.{Run, box, deltas, lent_bits, lent_alphas, lent_betas}
 
 -- the lists that a box is opened with hold bytes
 pub record InBytes (a : Args) : Type 0 where

@@ -1,43 +1,22 @@
 -- DEMAND 3: what is claimed of a run, here of any scene of calls; proofs/Theorem.antt has the scene of a run whose inputs meet the premises
 -- (Premises.antt; the lists of calls are in engine's World.antt), and the proof.
-use Rattle.std.specs.Prelude.{◌≡◌, refl, Bool, true, false, ◌&&◌, ◌≢◌, ◌↔◌, ℕ, ◌*◌, ◌<◌, eqb}
-use Rattle.std.proofs.Math.Path.{sym, ap, ap₂}
-use Rattle.std.proofs.Common.{◌∙◌, subst, arith, ne_eqb}
-use mathlib.Core.List.{List, [], ◌∷◌}
+use Rattle.std.specs.Prelude.{◌≡◌, ◌&&◌, ◌≢◌, ◌↔◌, ℕ, ◌*◌, ◌<◌, eqb}
+use mathlib.Core.List.{List}
 use Rattle.std.proofs.Math.Option.{some}
 use Rattle.std.proofs.Math.ListN.{length}
 use Rattle.lists.specs.Pick.{pick}
-use Rattle.lists.specs.All.{all_of}
 use Rattle.algebra.specs.Group.{bits, sel}
-use Rattle.algebra.specs.Sum.{sum, sum-ext}
-use Rattle.algebra.specs.Share.{total}
+use Rattle.algebra.specs.Sum.{sum}
 use Rattle.block.specs.Group.{blocks}
 use Rattle.share.specs.Record.{bit_at}
 use Rattle.share.specs.Lent.{lent_len, lent_at}
-use Rattle.share.specs.Parties.{lent_shared}
-use Rattle.plan.specs.Plan.{InRange, leaky, r_len}
-use Rattle.engine.specs.Step.{Loan, Lent, Protocol}
+use Rattle.engine.specs.Step.{Lent, Protocol}
 use Rattle.engine.specs.World.{In, All, Box, Call, opening, turn, Scene, start, runs, FairList, AllRight, Done}
-use Rattle.engine.specs.Engine.{Duty}
-use Rattle.engine.proofs.EngineLaws.{every_call, every-done, every-long}
-use Rattle.engine.specs.Live.{Cast}
-use Rattle.engine.proofs.LiveLaws.{AsCast, lent_for, robin, fair-robin, robin-done, robin-lends, robin-has}
-use Rattle.engine.specs.Area.{mem, also}
-use Rattle.engine.specs.Order.{echo_in, next_in}
-use Rattle.engine.specs.Plain.{next_of, number_of, steps_of, protocol_of}
-use Rattle.engine.specs.Honest.{Lawful, plain_after, Honest}
-use Rattle.engine.proofs.PlainSession.{HonestOpening, scene_of, Supply, cast_of, cast-lends, duty_of, every-written}
+use Rattle.engine.specs.Plain.{protocol_of}
 use Rattle.rounds.specs.Area.{work_len}
 use Rattle.rounds.specs.Opening.{Args}
-use Rattle.rounds.specs.Fabitn as Fabitn
-use Rattle.rounds.specs.FabitnLaws.{seed-long}
-use Rattle.honest.specs.Subject.{opener, subject}
-use Rattle.honest.specs.Script as S
-use Rattle.honest.specs.Inputs.{Run, box, deltas, lent_alphas, lent_betas, Opened, Boxes}
-use Rattle.honest.specs.Course.{lawful}
-use Rattle.honest.specs.Opening.{Given, Agree, played}
-use Rattle.honest.specs.Premises.{Premises}
-use Rattle.honest.specs.Values.{LeakyTriples}
+use Rattle.honest.specs.Subject.{subject}
+use Rattle.honest.specs.Inputs.{Run, box, deltas}
 
 -- the session of document 01, after its opening
 abbrev pub session : Protocol

@@ -1,5 +1,5 @@
 -- `Bytes s`: every element of s is below 256. (Past the end get_or gives 0, so no length is asked for.)
-use Rattle.std.specs.Prelude.{List, [], ◌∷◌, ◌++◌, ℕ, zero, suc, ◌+◌, ◌*◌, ◌<◌, get_or, take, drop, set, replicate}
+use Rattle.std.specs.Prelude.{List, [], ◌∷◌, ◌++◌, ℕ, zero, suc, ◌+◌, ◌<◌, get_or, take, drop, set, replicate}
 use Rattle.std.proofs.Common.{le_refl, arith, get_or-drop}
 use Rattle.lists.specs.Over.{tab, cat}
 use Rattle.lists.specs.Sect.{get}

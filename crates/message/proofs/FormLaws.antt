@@ -1,23 +1,21 @@
 -- What the form's answer says of a message: 13, 21, 6 or 0, and where its items lie.
-use Rattle.std.specs.Prelude.{◌≡◌, Bool, ◌&&◌, List, ◌⊎◌, length, get_or, take, drop, eqb}
+use Rattle.std.specs.Prelude.{◌≡◌, Bool, ◌&&◌, List, ◌⊎◌, length, get_or, drop, eqb}
 use Rattle.std.proofs.Math.Path.{refl, ap}
-use Rattle.std.proofs.Common.{sym, ap₂, ◌∙◌, subst, inl, inr, zero-mul, suc-mul, add-zero, add-one, get_or-drop}
+use Rattle.std.proofs.Common.{sym, ap₂, ◌∙◌, subst, inl, inr, zero-mul, suc-mul, add-zero, get_or-drop}
 use Rattle.std.proofs.Math.Bool.{true, false}
 use Prim.Native.Nat.{ℕ, zero, suc, ◌+◌, ◌-◌, ◌*◌, ◌<◌, ◌≤◌}
 use native.Mathlib.Omega.{arith}
-use Rattle.std.proofs.Math.ListN.{length-drop, get_or-eq_default}
+use Rattle.std.proofs.Math.ListN.{length-drop}
 use Rattle.std.proofs.Math.Dec.{ltb, leb}
-use borrow.Author.Tests.{lt-ltb, le-ltb, le-leb, lt-leb, eq-eqb, ne_eqb, ltb-true, ltb-false, leb-true, leb-false, eqb-true, eqb-false}
+use borrow.Author.Tests.{eq-eqb, ltb-true, leb-true, eqb-true}
 use Rattle.lists.specs.Pick.{pick, pick-then}
-use Rattle.lists.specs.All.{all_of, all_of_lem, of-all, all-false, all-ext, and_first, and_second}
-use Rattle.lists.specs.Over.{length-tab, get_or-tab}
-use Rattle.lists.specs.Sect.{length-get}
+use Rattle.lists.specs.All.{of-all, and_first, and_second}
 use Rattle.block.specs.Block.{word_at}
 use Rattle.block.specs.Trip.{word-drop}
 use Rattle.message.specs.declared.Kind.{Kind}
 use Rattle.message.specs.declared.Kind.TheVariants.{Items, Dms, Dvalues, Options}
-use Rattle.message.specs.Format.{bools, vec_len, both_len, item_len, item_at, count_of, decodes, Absent, bits, item_of, value_of}
-use Rattle.message.specs.Format.{Undecoded, Value, read_of, both_due, item_due, counts_due, form_by, form_of}
+use Rattle.message.specs.Format.{item_len, item_at, count_of, decodes, bits, item_of}
+use Rattle.message.specs.Format.{item_due, form_by, form_of}
 use Rattle.message.specs.FormatLaws.{and-true, of-bools, vec-held, items-held, bucket-held, bucket-bytes, bucket-due, Decoded, at-le, decoded, read_none, read_some, inners_due, counts-are, Formed}
 
 module _ (K : Kind) (count : ℕ) (m : List ℕ) where

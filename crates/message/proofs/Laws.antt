@@ -1,5 +1,6 @@
 -- The reader's loop turns and returns, as laws over plain variables.
-use Rattle.lists.specs.Kit.{◌≡◌, refl, sym, ap, ap₂, ◌∙◌, List, Bool, true, false, ◌&&◌, ℕ, ◌+◌, ◌-◌, ◌*◌, ◌<◌, ◌≤◌, arith, length, get_or}
+use Rattle.std.specs.Prelude.{◌≡◌, ◌&&◌, ◌+◌, ◌-◌, ◌*◌, ◌<◌, ◌≤◌}
+use Rattle.lists.specs.Kit.{refl, sym, ap, ap₂, ◌∙◌, List, Bool, true, false, ℕ, arith, length, get_or}
 use Rattle.lists.specs.Kit.{drop}
 use Prim.Native.Nat.{◌/◌, min}
 use native.Mathlib.Nat.{add-zero, le-div_iff_mul-le, div-lt_iff_lt-mul}

@@ -9,7 +9,7 @@ use Rattle.lists.specs.All.{all_of, all-ext}
 use Rattle.lists.specs.Over.{tab, cat}
 use Rattle.lists.specs.Rows.{chunk, cat-ext, tab-ext}
 use Rattle.lists.specs.Same.{same?}
-use Rattle.algebra.specs.Group.{XorGroup, bits, numbers, addb, sel, odd, num}
+use Rattle.algebra.specs.Group.{bits, numbers, addb, sel, odd, num}
 use Rattle.algebra.specs.Sum.{others, others-ext}
 use Rattle.block.specs.declared.Block.{Block}
 use Rattle.block.specs.Block.{word_at, block_at, bytes_of, eq_block, xor_inplace}

@@ -12,7 +12,6 @@ use Rattle.std.proofs.lemmas.Nat.{and_le_l, and_le_r}
 use borrow.Author.Tests.{leb-true, eqb-true, ltb-true, ltb-false}
 use Rattle.lists.specs.All.{all_of, of-all, and_first, and_second}
 use Rattle.lists.specs.Over.{tab, get_or-tab}
-use Rattle.algebra.specs.Group.{XorGroup}
 use Rattle.algebra.specs.Xor.{xor_assoc}
 use Rattle.block.specs.Block.{word_at, block_at, zero_of}
 use Rattle.block.specs.Group.{blocks}

@@ -3,7 +3,7 @@ use Rattle.std.specs.Prelude.{◌≡◌, Bool, not, ◌&&◌, List, ℕ, ◌+◌
 use Rattle.std.proofs.Common.{sym, ◌∙◌}
 use Rattle.std.proofs.Math.Path.{ap, ap₂}
 use Rattle.std.specs.Bool.{beq}
-use Rattle.algebra.specs.Group.{XorGroup, bits, addb, sel, odd, xor-addb, xor-and}
+use Rattle.algebra.specs.Group.{bits, addb, sel, odd, xor-addb, xor-and}
 use Rattle.algebra.specs.Sum.{others}
 use Rattle.block.specs.Group.{blocks}
 use Rattle.share.specs.Share.{Share, share_at, shares}

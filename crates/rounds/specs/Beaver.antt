@@ -5,7 +5,7 @@ use Rattle.std.specs.Prelude.{Bool, ◌&&◌, List, ℕ, ◌+◌, ◌*◌, get_o
 use Rattle.lists.specs.Pick.{pick}
 use Rattle.lists.specs.All.{all_of}
 use Rattle.lists.specs.Over.{cat}
-use Rattle.algebra.specs.Group.{XorGroup, bits, addb, sel, odd}
+use Rattle.algebra.specs.Group.{bits, addb, sel, odd}
 use Rattle.algebra.specs.Sum.{others}
 use Rattle.block.specs.declared.Block.{Block}
 use Rattle.block.specs.Block.{block_at, eq_block}

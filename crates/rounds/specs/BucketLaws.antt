@@ -4,7 +4,7 @@ use Rattle.std.specs.Prelude.{◌≡◌, Bool}
 use Rattle.std.proofs.Math.Path.{refl, ap}
 use Rattle.std.proofs.Common.{◌∙◌}
 use Prim.Native.Nat.{ℕ, zero, suc}
-use Rattle.algebra.specs.Group.{XorGroup, sel}
+use Rattle.algebra.specs.Group.{sel}
 use Rattle.algebra.specs.Bucket.{step_x, step_z, bucket_x, bucket_z, one-sum-x, one-sum-z}
 use Rattle.share.specs.Share.{Share, shares}
 use Rattle.rounds.specs.Buckets.{Triple, two, combine}

@@ -1,5 +1,5 @@
 -- Combining alone by the case it falls into.
-use Rattle.std.specs.Prelude.{◌≡◌, Bool, ◌&&◌, ◌≢◌, List, ℕ, suc, ◌-◌, ◌*◌, ◌<◌, ◌≤◌, length, get_or, ltb, leb, eqb}
+use Rattle.std.specs.Prelude.{◌≡◌, ◌&&◌, ◌≢◌, ℕ, suc, ◌-◌, ◌*◌, ◌<◌, ◌≤◌, length, get_or, ltb, leb, eqb}
 use Rattle.std.proofs.Math.Path.{refl}
 use Rattle.std.proofs.Common.{◌∙◌, arith}
 use borrow.Author.Tests.{lt-ltb, le-leb, eq-eqb, ne_eqb, eqb-true, eqb-false, leb-true, ltb-true}
@@ -8,7 +8,7 @@ use Rattle.lists.specs.All.{all_of, and_first, and_second}
 use Rattle.share.specs.Lent.{lent_len, records_fault}
 use Rattle.engine.specs.Step.{Accepted, Refused}
 use Rattle.rounds.specs.Opening.{or_fault}
-use Rattle.rounds.specs.Combine.{Args, Outcome, outcome, reason, bytes_fault, records, combined, spec}
+use Rattle.rounds.specs.Combine.{Args, outcome, reason, bytes_fault, records, combined, spec}
 
 -- n, i and the count in their ranges
 pub record Ranged (a : Args) : Type 0 where

@@ -6,13 +6,12 @@ use Rattle.lists.specs.All.{all_of}
 use Rattle.lists.specs.Over.{tab, cat}
 use Rattle.lists.specs.Same.{same?}
 use Rattle.lists.specs.Sect.{put}
-use Rattle.algebra.specs.Group.{XorGroup, addb, sel, odd, num}
+use Rattle.algebra.specs.Group.{addb, sel, odd, num}
 use Rattle.algebra.specs.Sum.{others}
 use Rattle.block.specs.declared.Block.{Block}
 use Rattle.block.specs.Block.{block_at, bytes_of, eq_block}
 use Rattle.block.specs.Group.{blocks}
 use Rattle.blake3.specs.Tree.{hash}
-use Rattle.share.specs.Share.{Share}
 use Rattle.encode.specs.Encode.{encode, bit_block}
 use Rattle.plan.specs.Plan.{leaky}
 use Rattle.engine.specs.declared.Frame.{Frame}

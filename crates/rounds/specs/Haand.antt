@@ -2,7 +2,7 @@
 -- message of party k. What `flaand` needs of the same hashes is computed here, so that none is computed twice.
 use Rattle.std.specs.Prelude.{Bool, cond, List, [], ◌∷◌, ◌++◌, ℕ, ◌+◌, ◌*◌, get_or}
 use Rattle.lists.specs.Over.{cat}
-use Rattle.algebra.specs.Group.{XorGroup, bits, addb, sel, odd, num}
+use Rattle.algebra.specs.Group.{bits, addb, sel, odd, num}
 use Rattle.algebra.specs.Sum.{others}
 use Rattle.block.specs.declared.Block.{Block}
 use Rattle.block.specs.Block.{block_at, bytes_of}

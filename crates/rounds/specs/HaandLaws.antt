@@ -2,13 +2,13 @@
 use Rattle.std.specs.Prelude.{◌≡◌, ◌≢◌}
 use Rattle.std.proofs.Math.Path.{sym, ap, ap₂}
 use Rattle.std.proofs.Common.{◌∙◌, get_or-append-add}
-use mathlib.Core.List.{List, [], ◌∷◌, ◌++◌}
-use Prim.Native.Nat.{ℕ, suc, ◌+◌, ◌*◌, ◌<◌, ◌≤◌}
+use mathlib.Core.List.{List, ◌++◌}
+use Prim.Native.Nat.{ℕ, suc, ◌+◌, ◌*◌, ◌<◌}
 use native.Mathlib.Omega.{arith}
 use Rattle.std.proofs.Math.ListN.{length, get_or, length-append}
 use Rattle.lists.specs.Over.{cat, in-chunks}
 use Rattle.lists.specs.Rows.{chunk-cat, get_d_chunk}
-use Rattle.algebra.specs.Group.{XorGroup, num}
+use Rattle.algebra.specs.Group.{num}
 use Rattle.algebra.specs.Sum.{others}
 use Rattle.block.specs.declared.Block.{Block}
 use Rattle.block.specs.Block.{bytes_of}

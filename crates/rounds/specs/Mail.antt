@@ -1,5 +1,5 @@
 -- The messages of a round where they lie: one incoming buffer, a start and a length for each party.
-use Rattle.std.specs.Prelude.{List, ◌≢◌, ◌≡◌, ℕ, ◌+◌, ◌<◌, ◌≤◌, length, get_or}
+use Rattle.std.specs.Prelude.{List, ◌≢◌, ℕ, ◌+◌, ◌<◌, ◌≤◌, length, get_or}
 use Rattle.lists.specs.Sect.{get}
 use Rattle.engine.specs.declared.Frame.{Frame}
 pub use Rattle.rounds.specs.declared.Mail.{Mail}

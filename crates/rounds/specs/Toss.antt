@@ -1,6 +1,6 @@
 -- Tosses (document 01, "What each round means"; `shared_rng`, `shared_rng_pairwise`): rounds 1 and 3 toss the joint seed, 4 and 5 the
 -- pairwise ones. `m k` is the message of party k.
-use Rattle.std.specs.Prelude.{List, [], ◌∷◌, ◌++◌, ℕ, ◌+◌, ◌*◌, ◌/◌, ◌%◌, get_or, take, drop}
+use Rattle.std.specs.Prelude.{List, [], ◌∷◌, ◌++◌, ℕ, ◌+◌, ◌/◌, ◌%◌, get_or, take, drop}
 use Rattle.std.specs.Int.Bits.{bit_xor}
 use Rattle.lists.specs.Pick.{pick}
 use Rattle.lists.specs.Over.{tab}

@@ -25,7 +25,6 @@ use Rattle.encode.specs.Encode.{encode, dm_item}
 use Rattle.encode.specs.Coded.{length-encode}
 use Rattle.encode.specs.Fields.{encode-bytes}
 use Rattle.engine.specs.Step.{frame}
-use Rattle.rounds.specs.Area.{PAIRS, PAIRWISE}
 use Rattle.rounds.specs.Toss.{commitment, comm_msg, ver_msg, told, joint_seed}
 
 -- ---- messages

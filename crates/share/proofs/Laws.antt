@@ -1,5 +1,6 @@
 -- What the code of this crate computes, over plain variables.
-use Rattle.lists.specs.Kit.{◌≡◌, refl, List, ◌∷◌, ◌++◌, [], Bool, ℕ, ◌+◌, ◌≤◌, arith, length, drop, replicate, set}
+use Rattle.std.specs.Prelude.{◌≡◌, ◌∷◌, ◌++◌, ◌+◌, ◌≤◌}
+use Rattle.lists.specs.Kit.{refl, List, [], Bool, ℕ, arith, length, drop, replicate, set}
 use Rattle.algebra.specs.Group.{num}
 use Rattle.share.specs.Layout.{head_of, mac_off}
 use Rattle.share.specs.Lent.{LABEL, label_of, lent_head}

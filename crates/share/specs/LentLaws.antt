@@ -15,7 +15,7 @@ use Rattle.lists.specs.Over.{cat, length-cat}
 use Rattle.lists.specs.Sect.{drop-take}
 use Rattle.lists.specs.Rows.{chunk, chunk-cat}
 use Rattle.lists.specs.Bytes.{Bytes, bytes-cons, bytes-append, bytes-cat, bytes-replicate}
-use Rattle.algebra.specs.Group.{XorGroup, odd, num, odd-num}
+use Rattle.algebra.specs.Group.{odd, num, odd-num}
 use Rattle.block.specs.Block.{eq_block}
 use Rattle.block.specs.Group.{blocks, block-eq, eq_block_lem}
 use Rattle.share.specs.Layout.{ENTRY, head_of, record-ends, mac-behind, bit-alone}

@@ -4,7 +4,7 @@ use Rattle.std.proofs.Math.Path.{refl, ap, ap₂}
 use Rattle.std.proofs.Common.{sym, ◌∙◌, subst}
 use Prim.Native.Nat.{ℕ, zero, suc, ◌+◌, ◌*◌, ◌<◌}
 use Rattle.lists.specs.Bytes.{Bytes}
-use Rattle.algebra.specs.Group.{XorGroup, bits, sel}
+use Rattle.algebra.specs.Group.{bits, sel}
 use Rattle.algebra.specs.Sum.{sum, sum-ext}
 use Rattle.algebra.specs.Share.{Shared, shared, total, Good}
 use Rattle.block.specs.declared.Block.{Block}

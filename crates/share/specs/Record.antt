@@ -1,6 +1,6 @@
 -- Reading a share record (document 01, "The call"); `at` is where the record starts in a list of bytes. Where things lie in it: Layout.antt.
 use Rattle.std.specs.Prelude.{ℕ, ◌+◌, Bool, ◌&&◌, List, get_or}
-use Rattle.algebra.specs.Group.{XorGroup, odd}
+use Rattle.algebra.specs.Group.{odd}
 use Rattle.block.specs.declared.Block.{Block}
 use Rattle.block.specs.Block.{block_at, eq_block}
 use Rattle.block.specs.Group.{blocks}

@@ -13,8 +13,8 @@ use Rattle.lists.specs.Over.{cat, length-cat}
 use Rattle.lists.specs.Sect.{get}
 use Rattle.lists.specs.Rows.{chunk, chunk-cat, cat-ext}
 use Rattle.lists.specs.Bytes.{Bytes, bytes-append, bytes-cat, bytes-replicate}
-use Rattle.algebra.specs.Group.{XorGroup, bits, addb, sel, odd, num, odd-num}
-use Rattle.algebra.specs.Sum.{sum, sum-ext, neq, neq-own, neq-true, Same, same, apart, apart?}
+use Rattle.algebra.specs.Group.{bits, addb, sel, odd, num, odd-num}
+use Rattle.algebra.specs.Sum.{sum, sum-ext, neq, neq-own, neq-true, Same, apart, apart?}
 use Rattle.algebra.specs.Bucket.{bucket_x, bucket_z}
 use Rattle.block.specs.declared.Block.{Block}
 use Rattle.block.specs.Block.{word_at, block_at, bytes_of, le8, zero_of}

@@ -1,16 +1,15 @@
 -- The turns of the shuffle: a word is used or passed over, two numbers change places in the bytes, a block of words is taken.
 use Rattle.std.specs.Prelude.{◌≡◌, ◌≢◌, Bool, true, false, ◌||◌, List, length, get_or, set, replicate, ltb, leb, eqb}
 use Rattle.std.proofs.Math.Path.{refl, ap, ap₂}
-use Rattle.std.proofs.Common.{sym, ◌∙◌, subst, add-zero, zero-add, add_assoc, suc-mul, mod-lt, mul-le-mul_right, div-add-mod', add-one, length-set, get_or-set_same, get_or-set_other, take_all, ltb-true, ltb-false, le-leb, ne_eqb}
+use Rattle.std.proofs.Common.{sym, ◌∙◌, subst, add-zero, zero-add, add_assoc, suc-mul, mod-lt, mul-le-mul_right, div-add-mod', add-one, length-set, get_or-set_same, get_or-set_other, ltb-true, ltb-false, le-leb, ne_eqb}
 use Prim.Native.Nat.{ℕ, zero, suc, ◌+◌, ◌-◌, ◌*◌, ◌/◌, ◌%◌, ◌^◌, ◌<◌, ◌≤◌}
 use native.Mathlib.Omega.{arith}
 use Rattle.std.proofs.lemmas.Bool.{lt-leb, eqb-false}
 use borrow.Rule.Slice.PartMut.{put_mid}
 use Rattle.lists.specs.Pick.{pick, by-eq}
 use Rattle.lists.specs.All.{true-false}
-use Rattle.lists.specs.Over.{tab, cat, length-cat, get_or-tab, length-tab}
-use Rattle.lists.specs.Rows.{chunk, chunk-cat, cat-chunk, cat-ext, get_d_chunk}
-use Rattle.lists.specs.Sect.{length-put, get-put-same, get-put-before, get-put-after}
+use Rattle.lists.specs.Over.{tab, cat, get_or-tab, length-tab}
+use Rattle.lists.specs.Rows.{cat-ext}
 use Rattle.word.specs.Word.{word_at, word_list, le4, le4s}
 use Rattle.word.specs.WordLaws.{length-words, word_read, words-set}
 use Rattle.chacha20.specs.ChaCha20.{block}

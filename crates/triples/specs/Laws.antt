@@ -6,7 +6,7 @@ use native.Mathlib.Omega.{arith}
 use Rattle.std.proofs.Math.ListN.{get_or, length-append}
 use Rattle.lists.specs.Over.{cat}
 use Rattle.lists.specs.Rows.{chunk, get_d_chunk}
-use Rattle.algebra.specs.Group.{XorGroup, bits, sel, odd}
+use Rattle.algebra.specs.Group.{bits, sel, odd}
 use Rattle.algebra.specs.Sum.{sum, sum-bits}
 use Rattle.algebra.specs.Bucket.{bucket_x, bucket_z, x-ext, z-ext, z-op}
 use Rattle.block.specs.declared.Block.{Block}

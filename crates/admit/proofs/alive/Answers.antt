@@ -1,5 +1,6 @@
 -- `admit::alive` meets its contract.
-use Rattle.lists.specs.Kit.{ap₂, ◌&&◌, rules}
+use Rattle.std.specs.Prelude.{◌&&◌}
+use Rattle.lists.specs.Kit.{ap₂}
 use Rattle.admit.proofs.alive.Goals as goal
 
 pub returns : goal.returns

@@ -1,5 +1,5 @@
 -- `admit::lengths` meets its contract.
-use Rattle.lists.specs.Kit.{refl, rules}
+use Rattle.lists.specs.Kit.{refl}
 use Rattle.plan.specs.PlanLaws.{in_range_lem}
 use Rattle.admit.specs.Admit.{lengths_fit}
 use Rattle.admit.proofs.lengths.Goals as goal

@@ -1,6 +1,5 @@
 -- `admit::part_in` meets its contract.
-use Rattle.lists.specs.Kit.{[], rules}
-use Rattle.engine.specs.Step.{Lent}
+use Rattle.lists.specs.Kit.{[]}
 use Rattle.admit.specs.Admit.{given}
 use Rattle.admit.proofs.AdmitLaws.{fits-own, fits-gone, fits-there}
 use Rattle.admit.proofs.part_in.Goals as goal

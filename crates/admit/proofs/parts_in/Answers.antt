@@ -1,7 +1,6 @@
-use Rattle.lists.specs.Kit.{◌≡◌, sym, ◌∙◌, [], true, ◌-◌, ◌≤◌, arith, rules}
-use borrow.Author.Tests.{not-true, not-false}
-use Rattle.lists.specs.All.{all_of, all-zero}
-use Rattle.engine.specs.Step.{Lent}
+use Rattle.std.specs.Prelude.{◌-◌}
+use Rattle.lists.specs.Kit.{sym, ◌∙◌, [], true, arith, rules}
+use Rattle.lists.specs.All.{all-zero}
 use Rattle.admit.specs.Admit.{given, fits}
 use Rattle.admit.proofs.AdmitLaws.{fits-turn, parts-bad, parts-end}
 use Rattle.admit.proofs.parts_in.Goals as goal

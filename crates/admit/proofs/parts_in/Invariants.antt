@@ -1,10 +1,8 @@
 -- `admit::parts_in` meets its contract: the parts of the first k parties lie inside.
-use Rattle.lists.specs.Kit.{◌≡◌, sym, ◌∙◌, [], true, ◌-◌, ◌≤◌, arith, rules}
-use borrow.Author.Tests.{not-true, not-false}
-use Rattle.lists.specs.All.{all_of, all-zero}
-use Rattle.engine.specs.Step.{Lent}
+use Rattle.std.specs.Prelude.{◌≡◌, ◌-◌, ◌≤◌}
+use Rattle.lists.specs.Kit.{[], true}
+use Rattle.lists.specs.All.{all_of}
 use Rattle.admit.specs.Admit.{given, fits}
-use Rattle.admit.proofs.AdmitLaws.{fits-turn, parts-bad, parts-end}
 use Rattle.admit.proofs.parts_in.Given as goal
 
 abbrev pub invariant-loop-k : goal.invariant-loop-k

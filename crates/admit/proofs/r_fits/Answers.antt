@@ -1,5 +1,6 @@
 -- `admit::r_fits` meets its contract.
-use Rattle.lists.specs.Kit.{ap₂, ◌||◌, rules}
+use Rattle.std.specs.Prelude.{◌||◌}
+use Rattle.lists.specs.Kit.{ap₂}
 use lib.Dec.{eqb}
 use Rattle.rounds.specs.Fabitn.{r_fits}
 use Rattle.admit.proofs.r_fits.Goals as goal

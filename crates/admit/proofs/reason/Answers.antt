@@ -1,8 +1,8 @@
 -- `admit::reason` meets its contract.
-use Rattle.lists.specs.Kit.{◌≡◌, sym, ◌∙◌, true, length, rules}
-use borrow.Author.Tests.{not-true, not-false}
+use Rattle.std.specs.Prelude.{◌≡◌}
+use Rattle.lists.specs.Kit.{sym, ◌∙◌, true, length}
 use Rattle.plan.specs.Plan.{InRange}
-use Rattle.engine.specs.Step.{Lent, parts_in}
+use Rattle.engine.specs.Step.{parts_in}
 use Rattle.engine.specs.Plain.{protocol_of}
 use Rattle.rounds.specs.Table.{table}
 use Rattle.admit.specs.Admit.{given, lengths_fit}

@@ -1,4 +1,5 @@
-use Rattle.lists.specs.Kit.{◌≡◌, ◌+◌, ◌*◌, arith, rules}
+use Rattle.std.specs.Prelude.{◌≡◌, ◌+◌, ◌*◌}
+use Rattle.lists.specs.Kit.{arith}
 use Prim.Native.Nat.{◌%◌}
 use Rattle.aes.specs.Columns.{block_of}
 use Rattle.aes.proofs.block.Goals as goal

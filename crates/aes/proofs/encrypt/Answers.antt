@@ -1,4 +1,4 @@
-use Rattle.lists.specs.Kit.{ap, ◌∙◌, List, ℕ, rules}
+use Rattle.lists.specs.Kit.{ap, ◌∙◌, List, ℕ}
 use Rattle.fips197.specs.Cipher as C
 use Rattle.aes_key.specs.Words.{words_bytes}
 use Rattle.block.specs.Block.{bytes_of}

@@ -1,4 +1,4 @@
-use Rattle.lists.specs.Kit.{ap, ◌∙◌, rules}
+use Rattle.lists.specs.Kit.{ap, ◌∙◌}
 use Prim.Native.Nat.{◌/◌}
 use lib.Bits.{bit_xor}
 use Rattle.aes_tables.specs.Word.{column4}

@@ -1,5 +1,4 @@
 -- What is known of each column is found by `search`: it has no name in it, so that another function's column is refused for what it is.
-use Rattle.lists.specs.Kit.{rules}
 use Rattle.aes.specs.ColumnLaws.{last-columns}
 use Rattle.aes.proofs.last_round.Goals as goal
 

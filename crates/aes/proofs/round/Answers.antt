@@ -1,4 +1,3 @@
-use Rattle.lists.specs.Kit.{rules}
 use Rattle.aes.specs.ColumnLaws.{round-columns}
 use Rattle.aes.proofs.round.Goals as goal
 

@@ -1,8 +1,8 @@
-use Rattle.lists.specs.Kit.{◌≡◌, refl, ap, ◌∙◌, List, ℕ, ◌-◌, ◌≤◌, arith, rules}
+use Rattle.std.specs.Prelude.{◌≡◌, ◌-◌}
+use Rattle.lists.specs.Kit.{refl, ap, ◌∙◌, List, ℕ, arith}
 use Rattle.block.specs.Block.{bytes_of}
 use Rattle.fips197.specs.Cipher as C
 use Rattle.aes_key.specs.Words.{words_bytes}
-use Rattle.aes.specs.Columns.{state_of}
 use Rattle.aes.specs.ColumnLaws.{first-columns, rounds-turn}
 use Rattle.aes.proofs.rounds.Goals as goal
 

@@ -1,10 +1,9 @@
 -- The loop's invariant: the State is that after k - 1 rounds, for each y whose first AddRoundKey gave what the loop began with.
-use Rattle.lists.specs.Kit.{◌≡◌, refl, ap, ◌∙◌, List, ℕ, ◌-◌, ◌≤◌, arith, rules}
-use Rattle.block.specs.Block.{bytes_of}
+use Rattle.std.specs.Prelude.{◌≡◌, ◌-◌, ◌≤◌}
+use Rattle.lists.specs.Kit.{List, ℕ}
 use Rattle.fips197.specs.Cipher as C
 use Rattle.aes_key.specs.Words.{words_bytes}
 use Rattle.aes.specs.Columns.{state_of}
-use Rattle.aes.specs.ColumnLaws.{first-columns, rounds-turn}
 use Rattle.aes.proofs.rounds.Given as goal
 
 abbrev pub invariant-loop-k : goal.invariant-loop-k

@@ -1,4 +1,4 @@
-use Rattle.lists.specs.Kit.{refl, rules}
+use Rattle.lists.specs.Kit.{refl}
 use Rattle.aes.specs.Columns.{columns_of}
 use Rattle.aes.proofs.split.Goals as goal
 

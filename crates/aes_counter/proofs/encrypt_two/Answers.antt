@@ -1,5 +1,5 @@
 -- What is known of each of the two is taken by its place: every second call is the other's.
-use Rattle.lists.specs.Kit.{arith, rules}
+use Rattle.lists.specs.Kit.{arith}
 use Rattle.block.specs.Block.{bytes_of}
 use Rattle.aes_key.specs.Words.{words_bytes}
 use Rattle.aes_counter.specs.StartLaws.{rounds-left}

@@ -1,4 +1,4 @@
-use Rattle.lists.specs.Kit.{arith, rules}
+use Rattle.lists.specs.Kit.{arith}
 use Rattle.aes_counter.specs.Starts.{first_of}
 use Rattle.aes_counter.specs.StartLaws.{part-0, part-1, part-2}
 use Rattle.aes_counter.proofs.part.Goals as goal

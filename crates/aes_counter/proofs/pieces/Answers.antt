@@ -1,4 +1,4 @@
-use Rattle.lists.specs.Kit.{refl, rules}
+use Rattle.lists.specs.Kit.{refl}
 use Rattle.aes_counter.specs.Starts.{pieces_of}
 use Rattle.aes_counter.proofs.pieces.Goals as goal
 

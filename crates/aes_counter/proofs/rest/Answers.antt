@@ -1,4 +1,3 @@
-use Rattle.lists.specs.Kit.{rules}
 use Rattle.aes_counter.specs.Starts.{first_of}
 use Rattle.aes_counter.specs.StartLaws.{rest-made}
 use Rattle.aes_counter.proofs.rest.Goals as goal

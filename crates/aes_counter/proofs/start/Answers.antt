@@ -1,4 +1,4 @@
-use Rattle.lists.specs.Kit.{refl, rules}
+use Rattle.lists.specs.Kit.{refl}
 use Rattle.aes_counter.specs.StartLaws.{start-state}
 use Rattle.aes_counter.proofs.start.Goals as goal
 

@@ -1,6 +1,7 @@
-use Rattle.lists.specs.Kit.{◌≡◌, refl, ◌∙◌, ◌++◌, ◌+◌, ◌-◌, ◌*◌, ◌≤◌, length, drop, set, arith, rules}
+use Rattle.std.specs.Prelude.{◌+◌, ◌-◌, ◌*◌}
+use Rattle.lists.specs.Kit.{refl, ◌∙◌, set, arith}
 use lib.ListN.{length-set}
-use Rattle.lists.specs.Over.{tab, tab-zero}
+use Rattle.lists.specs.Over.{tab-zero}
 use Rattle.aes_counter.specs.Starts.{start_at}
 use Rattle.aes_counter.specs.StartLaws.{starts-turn, starts-end}
 use Rattle.aes_counter.proofs.starts.Goals as goal

@@ -1,9 +1,8 @@
 -- The loop's invariant: the first i parts are written.
-use Rattle.lists.specs.Kit.{◌≡◌, refl, ◌∙◌, ◌++◌, ◌+◌, ◌-◌, ◌*◌, ◌≤◌, length, drop, set, arith, rules}
-use lib.ListN.{length-set}
-use Rattle.lists.specs.Over.{tab, tab-zero}
+use Rattle.std.specs.Prelude.{◌≡◌, ◌++◌, ◌+◌, ◌-◌, ◌*◌, ◌≤◌}
+use Rattle.lists.specs.Kit.{length, drop}
+use Rattle.lists.specs.Over.{tab}
 use Rattle.aes_counter.specs.Starts.{start_at}
-use Rattle.aes_counter.specs.StartLaws.{starts-turn, starts-end}
 use Rattle.aes_counter.proofs.starts.Given as goal
 
 abbrev pub invariant-loop-i : goal.invariant-loop-i

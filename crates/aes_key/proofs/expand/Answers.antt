@@ -1,7 +1,6 @@
-use Rattle.lists.specs.Kit.{◌≡◌, refl, ◌∙◌, ◌-◌, ◌*◌, ◌≤◌, arith, length, take, rules}
+use Rattle.std.specs.Prelude.{◌-◌}
+use Rattle.lists.specs.Kit.{refl, ◌∙◌, arith}
 use lib.ListN.{length-set}
-use Rattle.fips197.specs.Key.{words}
-use Rattle.aes_key.specs.Words.{words_bytes}
 use Rattle.aes_key.specs.WordsLaws.{words-none, words-load, words-own, words-next, words-end}
 use Rattle.aes_key.proofs.expand.Goals as goal
 

@@ -1,9 +1,8 @@
 -- The loops' invariants: the first i words have the bytes of the key's first 4 i; then they are the expansion's.
-use Rattle.lists.specs.Kit.{◌≡◌, refl, ◌∙◌, ◌-◌, ◌*◌, ◌≤◌, arith, length, take, rules}
-use lib.ListN.{length-set}
+use Rattle.std.specs.Prelude.{◌≡◌, ◌-◌, ◌*◌, ◌≤◌}
+use Rattle.lists.specs.Kit.{length, take}
 use Rattle.fips197.specs.Key.{words}
 use Rattle.aes_key.specs.Words.{words_bytes}
-use Rattle.aes_key.specs.WordsLaws.{words-none, words-load, words-own, words-next, words-end}
 use Rattle.aes_key.proofs.expand.Given as goal
 
 abbrev pub invariant-loop-i : goal.invariant-loop-i

@@ -1,4 +1,5 @@
-use Rattle.lists.specs.Kit.{◌+◌, arith, rules}
+use Rattle.std.specs.Prelude.{◌+◌}
+use Rattle.lists.specs.Kit.{arith}
 use Rattle.aes_key.specs.Words.{word_at}
 use Rattle.aes_key.proofs.load.Goals as goal
 

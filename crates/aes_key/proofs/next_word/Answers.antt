@@ -1,4 +1,3 @@
-use Rattle.lists.specs.Kit.{rules}
 use Rattle.aes_key.specs.WordsLaws.{next_multiple, next-other}
 use Rattle.aes_key.proofs.next_word.Goals as goal
 

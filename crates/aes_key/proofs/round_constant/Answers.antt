@@ -1,4 +1,5 @@
-use Rattle.lists.specs.Kit.{◌-◌, arith, rules}
+use Rattle.std.specs.Prelude.{◌-◌}
+use Rattle.lists.specs.Kit.{arith}
 use Rattle.aes_key.specs.WordsLaws.{constant-at}
 use Rattle.aes_key.proofs.round_constant.Goals as goal
 

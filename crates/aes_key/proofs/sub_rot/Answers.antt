@@ -1,4 +1,4 @@
-use Rattle.lists.specs.Kit.{◌∙◌, rules}
+use Rattle.lists.specs.Kit.{◌∙◌}
 use Prim.Native.Nat.{◌/◌}
 use Rattle.aes_tables.specs.Word.{column4}
 use Rattle.aes_tables.specs.ReadLaws.{sbox-at, sbox-fits}

@@ -1,5 +1,5 @@
 -- `aes_tables::column` meets its contract.
-use Rattle.lists.specs.Kit.{refl, rules}
+use Rattle.lists.specs.Kit.{refl}
 use Rattle.aes_tables.specs.Word.{column4}
 use Rattle.aes_tables.proofs.column.Goals as goal
 

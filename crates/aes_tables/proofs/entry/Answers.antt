@@ -1,5 +1,6 @@
 -- `aes_tables::entry` meets its contract: at each place the column is the matrix's.
-use Rattle.lists.specs.Kit.{◌≡◌, sym, ap, ◌∙◌, arith, ◌<◌, rules}
+use Rattle.std.specs.Prelude.{◌≡◌, ◌<◌}
+use Rattle.lists.specs.Kit.{sym, ap, ◌∙◌, arith}
 use lib.Bits.{bit_xor}
 use Rattle.aes_tables.specs.Tables.{entry_of}
 use Rattle.aes_tables.specs.TableLaws.{two-byte, three-byte, entry_zero, entry-one, entry-two, entry-three, entry-four}

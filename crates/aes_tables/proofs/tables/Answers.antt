@@ -1,8 +1,8 @@
-use Rattle.lists.specs.Kit.{◌≡◌, refl, ap, ◌∙◌, List, ◌++◌, ℕ, ◌-◌, ◌<◌, ◌≤◌, arith, length, get_or, drop, rules}
+use Rattle.std.specs.Prelude.{◌≡◌, ◌-◌, ◌<◌}
+use Rattle.lists.specs.Kit.{refl, ap, ◌∙◌, List, ℕ, arith, get_or}
 use Prim.Native.Nat.{◌/◌, ◌%◌}
 use lib.ListN.{length-set}
-use Rattle.lists.specs.Over.{tab, tab-zero, tab-turn, tab-end}
-use Rattle.fips197.specs.Sbox.{SBox}
+use Rattle.lists.specs.Over.{tab-zero, tab-turn, tab-end}
 use Rattle.fips197.proofs.SboxLaws.{sbox-byte}
 use Rattle.aes_tables.specs.Tables.{entry_of, tables}
 use Rattle.aes_tables.proofs.tables.Goals as goal

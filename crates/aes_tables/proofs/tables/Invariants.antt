@@ -1,11 +1,10 @@
 -- The loop's invariant: the first i entries are written.
-use Rattle.lists.specs.Kit.{◌≡◌, refl, ap, ◌∙◌, List, ◌++◌, ℕ, ◌-◌, ◌<◌, ◌≤◌, arith, length, get_or, drop, rules}
+use Rattle.std.specs.Prelude.{◌≡◌, ◌++◌, ◌-◌, ◌≤◌}
+use Rattle.lists.specs.Kit.{ℕ, length, drop}
 use Prim.Native.Nat.{◌/◌, ◌%◌}
-use lib.ListN.{length-set}
-use Rattle.lists.specs.Over.{tab, tab-zero, tab-turn, tab-end}
+use Rattle.lists.specs.Over.{tab}
 use Rattle.fips197.specs.Sbox.{SBox}
-use Rattle.fips197.proofs.SboxLaws.{sbox-byte}
-use Rattle.aes_tables.specs.Tables.{entry_of, tables}
+use Rattle.aes_tables.specs.Tables.{entry_of}
 use Rattle.aes_tables.proofs.tables.Given as goal
 
 abbrev pub at : ℕ → ℕ

@@ -1,4 +1,4 @@
-use Rattle.lists.specs.Kit.{ap, ◌∙◌, List, ℕ, arith, length, rules}
+use Rattle.lists.specs.Kit.{ap, ◌∙◌, List, ℕ, arith, length}
 use Rattle.block.specs.Block.{block_at}
 use Rattle.rounds.specs.Area.{DELTA, size_of, sizes}
 use Rattle.rounds.specs.Table as Table

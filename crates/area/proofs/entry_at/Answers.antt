@@ -1,4 +1,4 @@
-use Rattle.lists.specs.Kit.{arith, rules}
+use Rattle.lists.specs.Kit.{arith}
 use Rattle.area.specs.Positions.{row-most}
 use Rattle.area.proofs.entry_at.Goals as goal
 

@@ -1,4 +1,4 @@
-use Rattle.lists.specs.Kit.{refl, rules}
+use Rattle.lists.specs.Kit.{refl}
 use Rattle.rounds.specs.Area.{leaky_len}
 use Rattle.area.proofs.leaky_len.Goals as goal
 

@@ -1,4 +1,4 @@
-use Rattle.lists.specs.Kit.{arith, rules}
+use Rattle.lists.specs.Kit.{arith}
 use Rattle.area.specs.AreaLaws.{size-most, off-most}
 use Rattle.area.proofs.place.Goals as goal
 

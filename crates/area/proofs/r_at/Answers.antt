@@ -1,4 +1,5 @@
-use Rattle.lists.specs.Kit.{ap₂, ◌+◌, ◌*◌, arith, rules}
+use Rattle.std.specs.Prelude.{◌+◌, ◌*◌}
+use Rattle.lists.specs.Kit.{ap₂, arith}
 use Rattle.plan.specs.PlanLaws.{leaky-most}
 use Rattle.area.specs.Positions.{position-most, record-most-at}
 use Rattle.area.proofs.r_at.Goals as goal

@@ -1,4 +1,4 @@
-use Rattle.lists.specs.Kit.{◌∙◌, rules}
+use Rattle.lists.specs.Kit.{◌∙◌}
 use Rattle.area.specs.GivenLaws.{place_at, place-fits}
 use Rattle.area.proofs.section.Goals as goal
 

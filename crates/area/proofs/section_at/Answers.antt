@@ -1,4 +1,5 @@
-use Rattle.lists.specs.Kit.{◌≡◌, refl, ap, ◌∙◌, ℕ, ◌+◌, ◌-◌, ◌≤◌, arith, rules}
+use Rattle.std.specs.Prelude.{◌-◌}
+use Rattle.lists.specs.Kit.{refl, ap, ◌∙◌, arith}
 use Rattle.engine.specs.Area.{off}
 use Rattle.rounds.specs.Area.{size_of}
 use Rattle.area.specs.AreaLaws.{size-most, off-most, off-turn}

@@ -1,8 +1,7 @@
 -- `area::section_at` meets its contract: at turn k the sum is where section k starts.
-use Rattle.lists.specs.Kit.{◌≡◌, refl, ap, ◌∙◌, ℕ, ◌+◌, ◌-◌, ◌≤◌, arith, rules}
+use Rattle.std.specs.Prelude.{◌≡◌, ◌-◌, ◌≤◌}
 use Rattle.engine.specs.Area.{off}
 use Rattle.rounds.specs.Area.{size_of}
-use Rattle.area.specs.AreaLaws.{size-most, off-most, off-turn}
 use Rattle.area.proofs.section_at.Given as goal
 
 abbrev pub invariant-loop-k : goal.invariant-loop-k

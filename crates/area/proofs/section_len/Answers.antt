@@ -1,5 +1,6 @@
 -- `area::section_len` meets its contract: an arm for each section.
-use Rattle.lists.specs.Kit.{◌≡◌, refl, ◌+◌, ◌-◌, ◌*◌, ◌≤◌, arith, rules}
+use Rattle.std.specs.Prelude.{◌+◌, ◌-◌, ◌*◌, ◌≤◌}
+use Rattle.lists.specs.Kit.{refl, arith}
 use native.Mathlib.Nat.{le_antisymm}
 use Rattle.share.specs.Layout.{RECORD_MOST, record_len}
 use Rattle.plan.specs.Plan.{bucket_size, leaky, dm_len}

@@ -1,5 +1,5 @@
 -- `area::work_len` meets its contract.
-use Rattle.lists.specs.Kit.{refl, sym, ◌∙◌, arith, rules}
+use Rattle.lists.specs.Kit.{refl, sym, ◌∙◌, arith}
 use Rattle.plan.specs.PlanLaws.{in-range-true}
 use Rattle.rounds.specs.Area.{work_len}
 use Rattle.area.proofs.work_len.Goals as goal

@@ -1,4 +1,5 @@
-use Rattle.lists.specs.Kit.{ap, ◌*◌, arith, rules}
+use Rattle.std.specs.Prelude.{◌*◌}
+use Rattle.lists.specs.Kit.{ap, arith}
 use Rattle.area.specs.Positions.{record-most-at}
 use Rattle.area.proofs.x_at.Goals as goal
 

@@ -1,4 +1,5 @@
-use Rattle.lists.specs.Kit.{◌≡◌, ◌∙◌, refl, sym, ap, ◌-◌, ◌≤◌, not, arith, length, get_or, rules}
+use Rattle.std.specs.Prelude.{◌≡◌}
+use Rattle.lists.specs.Kit.{◌∙◌, refl, sym, ap, not, arith, length, get_or, rules}
 use lib.Dec.{eqb}
 use Rattle.lists.specs.All.{all_of, all-zero}
 use Rattle.batches.specs.Batches.{filled}

@@ -1,9 +1,8 @@
 -- `batches::all_filled` meets its contract: the first j counts are looked at.
-use Rattle.lists.specs.Kit.{◌≡◌, ◌∙◌, refl, sym, ap, ◌-◌, ◌≤◌, not, arith, length, get_or, rules}
+use Rattle.std.specs.Prelude.{◌≡◌, ◌-◌, ◌≤◌}
+use Rattle.lists.specs.Kit.{not, get_or}
 use lib.Dec.{eqb}
-use Rattle.lists.specs.All.{all_of, all-zero}
-use Rattle.batches.specs.Batches.{filled}
-use Rattle.batches.specs.Turns.{filled-turn}
+use Rattle.lists.specs.All.{all_of}
 use Rattle.batches.proofs.all_filled.Given as goal
 
 abbrev pub invariant-loop-j : goal.invariant-loop-j

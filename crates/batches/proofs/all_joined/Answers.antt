@@ -1,4 +1,5 @@
-use Rattle.lists.specs.Kit.{◌≡◌, ◌∙◌, refl, sym, ap, ◌-◌, ◌≤◌, arith, rules}
+use Rattle.std.specs.Prelude.{◌≡◌}
+use Rattle.lists.specs.Kit.{◌∙◌, refl, sym, ap, arith}
 use Rattle.lists.specs.All.{all_of, all-zero}
 use Rattle.batches.specs.Batches.{joined}
 use Rattle.batches.specs.Turns.{follows, joined-turn}

@@ -1,8 +1,7 @@
 -- `batches::all_joined` meets its contract: the first j places are looked at.
-use Rattle.lists.specs.Kit.{◌≡◌, ◌∙◌, refl, sym, ap, ◌-◌, ◌≤◌, arith, rules}
-use Rattle.lists.specs.All.{all_of, all-zero}
-use Rattle.batches.specs.Batches.{joined}
-use Rattle.batches.specs.Turns.{follows, joined-turn}
+use Rattle.std.specs.Prelude.{◌≡◌, ◌-◌, ◌≤◌}
+use Rattle.lists.specs.All.{all_of}
+use Rattle.batches.specs.Turns.{follows}
 use Rattle.batches.proofs.all_joined.Given as goal
 
 abbrev pub invariant-loop-j : goal.invariant-loop-j

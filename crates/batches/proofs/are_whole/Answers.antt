@@ -1,5 +1,5 @@
 -- `batches::are_whole` meets its contract.
-use Rattle.lists.specs.Kit.{arith, rules}
+use Rattle.lists.specs.Kit.{arith}
 use Rattle.batches.specs.Turns.{whole_is}
 use Rattle.batches.proofs.are_whole.Goals as goal
 

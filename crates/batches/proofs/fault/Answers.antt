@@ -1,5 +1,4 @@
 -- `batches::fault` meets its contract.
-use Rattle.lists.specs.Kit.{rules}
 use Rattle.batches.specs.Batches.{few}
 use Rattle.batches.specs.Turns.{told-faults}
 use Rattle.batches.proofs.fault.Goals as goal

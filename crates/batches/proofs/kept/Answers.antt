@@ -1,5 +1,5 @@
-use Rattle.lists.specs.Kit.{◌≡◌, refl, ◌-◌, ◌≤◌, arith, rules}
-use Rattle.batches.specs.Turns.{keeping, kept-none, kept-turn, kept-end}
+use Rattle.lists.specs.Kit.{refl, arith}
+use Rattle.batches.specs.Turns.{kept-none, kept-turn, kept-end}
 use Rattle.batches.proofs.kept.Goals as goal
 
 pub loop-j-init : goal.loop-j-init

@@ -1,6 +1,6 @@
 -- `batches::kept` meets its contract: the first j counts are in place.
-use Rattle.lists.specs.Kit.{◌≡◌, refl, ◌-◌, ◌≤◌, arith, rules}
-use Rattle.batches.specs.Turns.{keeping, kept-none, kept-turn, kept-end}
+use Rattle.std.specs.Prelude.{◌≡◌, ◌-◌, ◌≤◌}
+use Rattle.batches.specs.Turns.{keeping}
 use Rattle.batches.proofs.kept.Given as goal
 
 abbrev pub invariant-loop-j : goal.invariant-loop-j

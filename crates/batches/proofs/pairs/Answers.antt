@@ -1,6 +1,5 @@
-use Rattle.lists.specs.Kit.{◌≡◌, refl, ◌-◌, ◌≤◌, arith, rules}
-use Rattle.batches.specs.Batches.{first}
-use Rattle.batches.specs.Turns.{sum-none, sum-turn, at-within, telling, told_none, told-turn, told-end}
+use Rattle.lists.specs.Kit.{refl, arith}
+use Rattle.batches.specs.Turns.{sum-none, sum-turn, at-within, told_none, told-turn, told-end}
 use Rattle.batches.proofs.pairs.Goals as goal
 
 pub loop-j-init : goal.loop-j-init

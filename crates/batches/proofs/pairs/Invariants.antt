@@ -1,7 +1,7 @@
 -- `batches::pairs` meets its contract: the first j pairs are in place, and `at` is behind them.
-use Rattle.lists.specs.Kit.{◌≡◌, refl, ◌-◌, ◌≤◌, arith, rules}
+use Rattle.std.specs.Prelude.{◌≡◌, ◌-◌, ◌≤◌}
 use Rattle.batches.specs.Batches.{first}
-use Rattle.batches.specs.Turns.{sum-none, sum-turn, at-within, telling, told_none, told-turn, told-end}
+use Rattle.batches.specs.Turns.{telling}
 use Rattle.batches.proofs.pairs.Given as goal
 
 abbrev pub invariant-loop-j : goal.invariant-loop-j

@@ -1,6 +1,6 @@
-use Rattle.lists.specs.Kit.{◌≡◌, refl, ◌-◌, ◌*◌, ◌≤◌, arith, length, rules}
+use Rattle.lists.specs.Kit.{refl, arith, length}
 use borrow.Author.Tests.{le-leb, lt-leb}
-use Rattle.batches.specs.Batches.{MOST, first}
+use Rattle.batches.specs.Batches.{MOST}
 use Rattle.batches.specs.Turns.{sum-none, sum-turn, sum-end}
 use Rattle.batches.proofs.sum.Goals as goal
 

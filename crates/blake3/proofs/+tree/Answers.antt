@@ -1,4 +1,4 @@
-use Rattle.lists.specs.Kit.{refl, sym, ap, ◌∙◌, List, ℕ, arith, rules}
+use Rattle.lists.specs.Kit.{refl, sym, ap, ◌∙◌, List, ℕ, arith}
 use Rattle.blake3_chunks.specs.Chunks.{WINDOW}
 use Rattle.blake3.specs.Tree.{chunks, tree}
 use Rattle.blake3.specs.Firsts.{firsts}

@@ -1,4 +1,4 @@
-use Rattle.lists.specs.Kit.{◌∙◌, rules}
+use Rattle.lists.specs.Kit.{◌∙◌}
 use Rattle.blake3.specs.TreeLaws.{tree-window}
 use Rattle.blake3.proofs.four.Goals as goal
 

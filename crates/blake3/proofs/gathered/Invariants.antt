@@ -1,12 +1,7 @@
-use Rattle.lists.specs.Kit.{◌≡◌, refl, sym, ap, ap₂, ◌∙◌, List, ◌++◌, ℕ, ◌+◌, ◌-◌, ◌≤◌, arith, length, get_or, take, drop, replicate, set}
-use lib.ListN.{length-set}
-use lib.Seq.{take_at, length-take-le}
-use Rattle.lists.specs.Over.{tab, tab-zero, tab-step, length-tab}
-use Rattle.lists.specs.Tab.{take-tab}
-use Rattle.lists.specs.Sect.{get}
-use Rattle.blake3_node.specs.Node.{chunk}
+use Rattle.std.specs.Prelude.{◌≡◌, ◌++◌, ◌+◌, ◌-◌, ◌≤◌}
+use Rattle.lists.specs.Kit.{length, get_or, drop, replicate}
+use Rattle.lists.specs.Over.{tab}
 use Rattle.blake3.specs.Firsts.{firsts}
-use Rattle.blake3.specs.FirstLaws.{firsts-fit}
 use Rattle.blake3.proofs.gathered.Given as goal
 
 abbrev pub invariant-loop-i : goal.invariant-loop-i

@@ -1,4 +1,4 @@
-use Rattle.lists.specs.Kit.{ap, ◌∙◌, rules}
+use Rattle.lists.specs.Kit.{ap, ◌∙◌}
 use Rattle.blake3.specs.Tree.{bytes, hash}
 use Rattle.blake3.proofs.hash.Goals as goal
 

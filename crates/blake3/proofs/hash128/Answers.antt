@@ -1,4 +1,4 @@
-use Rattle.lists.specs.Kit.{ap, ◌∙◌, List, ℕ, rules}
+use Rattle.lists.specs.Kit.{ap, ◌∙◌, List, ℕ}
 use Rattle.block.specs.Block.{block_at}
 use Rattle.blake3.specs.Tree.{bytes, hash}
 use Rattle.blake3.proofs.hash128.Goals as goal

@@ -1,4 +1,5 @@
-use Rattle.lists.specs.Kit.{◌≡◌, List, ℕ, arith, rules}
+use Rattle.std.specs.Prelude.{◌≡◌}
+use Rattle.lists.specs.Kit.{List, ℕ, arith}
 use Rattle.block.specs.declared.Block.{Block}
 use Rattle.block.specs.Block.{block_at}
 use Rattle.blake3_node.specs.Node.{ROOT}

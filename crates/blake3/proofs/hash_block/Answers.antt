@@ -1,4 +1,5 @@
-use Rattle.lists.specs.Kit.{◌≡◌, ap, ◌∙◌, List, [], ◌∷◌, ℕ, arith, rules}
+use Rattle.std.specs.Prelude.{◌≡◌, ◌∷◌}
+use Rattle.lists.specs.Kit.{ap, ◌∙◌, List, [], ℕ, arith}
 use Rattle.blake3_core.specs.Compress.{compress, IV}
 use Rattle.block.specs.declared.Block.{Block}
 use Rattle.block.specs.Block.{bytes_of, Small}

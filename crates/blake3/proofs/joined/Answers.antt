@@ -1,4 +1,5 @@
-use Rattle.lists.specs.Kit.{◌≡◌, ap, ◌∙◌, ◌*◌, arith}
+use Rattle.std.specs.Prelude.{◌≡◌, ◌*◌}
+use Rattle.lists.specs.Kit.{ap, ◌∙◌, arith}
 use Prim.Native.Nat.{◌%◌, ◌^◌}
 use native.Mathlib.Nat.{add_comm}
 use lib.Bits.{bit_or, or_shifted_r}

@@ -1,4 +1,4 @@
-use Rattle.lists.specs.Kit.{ap, ◌∙◌, List, ℕ, arith, rules}
+use Rattle.lists.specs.Kit.{ap, ◌∙◌, List, ℕ, arith}
 use Rattle.blake3_node.specs.Node.{chunk}
 use Rattle.blake3.specs.FirstLaws.{firsts-fit, plain-part}
 use Rattle.blake3.proofs.leaf.Goals as goal

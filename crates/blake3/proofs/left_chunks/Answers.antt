@@ -1,5 +1,6 @@
-use Rattle.lists.specs.Kit.{◌-◌, ◌<◌, arith}
-use Rattle.blake3.specs.TreeLaws.{Power, power-one, power-double, power_pos}
+use Rattle.std.specs.Prelude.{◌-◌}
+use Rattle.lists.specs.Kit.{arith}
+use Rattle.blake3.specs.TreeLaws.{power-one, power-double, power_pos}
 use Rattle.blake3.proofs.left_chunks.Goals as goal
 
 pub loop-k-smaller : goal.loop-k-smaller

@@ -1,5 +1,5 @@
-use Rattle.lists.specs.Kit.{◌-◌, ◌<◌, arith}
-use Rattle.blake3.specs.TreeLaws.{Power, power-one, power-double, power_pos}
+use Rattle.std.specs.Prelude.{◌-◌, ◌<◌}
+use Rattle.blake3.specs.TreeLaws.{Power}
 use Rattle.blake3.proofs.left_chunks.Given as goal
 
 abbrev pub invariant-loop-k : goal.invariant-loop-k

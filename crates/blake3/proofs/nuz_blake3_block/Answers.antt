@@ -1,4 +1,4 @@
-use Rattle.lists.specs.Kit.{ap, ◌∙◌, rules}
+use Rattle.lists.specs.Kit.{ap, ◌∙◌}
 use Rattle.blake3.specs.Tree as T
 use Rattle.blake3.proofs.nuz_blake3_block.Goals as goal
 

@@ -1,5 +1,4 @@
 use Rattle.blake3_chunks.specs.ChunkLaws.{over-four}
-use borrow.Author.Rules.{rules}
 use Rattle.blake3_chunks.proofs.four.Goals as goal
 
 pub returns : goal.returns

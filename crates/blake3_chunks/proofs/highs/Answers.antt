@@ -1,4 +1,5 @@
-use Rattle.lists.specs.Kit.{refl, sym, ap, ap₂, ◌∙◌, ◌∷◌, ℕ, rules}
+use Rattle.std.specs.Prelude.{◌∷◌}
+use Rattle.lists.specs.Kit.{refl, sym, ap, ap₂, ◌∙◌, ℕ}
 use Prim.Native.Nat.{◌/◌, ◌^◌}
 use native.Mathlib.Nat.{add-zero}
 use Rattle.lists.specs.Over.{tab}

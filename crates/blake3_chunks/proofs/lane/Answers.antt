@@ -1,5 +1,6 @@
 -- As `compress`: seven rounds, from the words of the lane's block.
-use Rattle.lists.specs.Kit.{ap, ◌∙◌, List, ℕ, ◌*◌, rules}
+use Rattle.std.specs.Prelude.{◌*◌}
+use Rattle.lists.specs.Kit.{ap, ◌∙◌, List, ℕ}
 use Rattle.lists.specs.Sect.{get-rest}
 use Rattle.blake3_core.specs.Compress as S
 use Rattle.blake3_core.proofs.Rounds.{seven}

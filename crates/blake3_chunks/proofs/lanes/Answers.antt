@@ -1,7 +1,8 @@
-use Rattle.lists.specs.Kit.{◌≡◌, refl, ap, ◌∙◌, List, ◌++◌, ℕ, ◌+◌, ◌-◌, ◌*◌, ◌≤◌, arith, get_or, take, drop}
-use Rattle.lists.specs.Over.{tab, tab-zero, tab-turn, tab-end, length-take-drop}
+use Rattle.std.specs.Prelude.{◌≡◌, ◌+◌, ◌-◌, ◌*◌}
+use Rattle.lists.specs.Kit.{refl, ap, ◌∙◌, List, ℕ, arith, take, drop}
+use Rattle.lists.specs.Over.{tab-zero, tab-turn, tab-end, length-take-drop}
 use Rattle.blake3_chunks.specs.declared.Node.{Node}
-use Rattle.blake3_chunks.specs.Chunks.{no_node, chunk_of, pressed}
+use Rattle.blake3_chunks.specs.Chunks.{chunk_of, pressed}
 use Rattle.blake3_chunks.proofs.lanes.Goals as goal
 
 -- the part that lane j is lent

@@ -1,7 +1,7 @@
 -- The loop's invariant: what the first j lanes give stands in front.
-use Rattle.lists.specs.Kit.{◌≡◌, refl, ap, ◌∙◌, List, ◌++◌, ℕ, ◌+◌, ◌-◌, ◌*◌, ◌≤◌, arith, get_or, take, drop}
-use Rattle.lists.specs.Over.{tab, tab-zero, tab-turn, tab-end, length-take-drop}
-use Rattle.blake3_chunks.specs.declared.Node.{Node}
+use Rattle.std.specs.Prelude.{◌≡◌, ◌++◌, ◌+◌, ◌-◌, ◌≤◌}
+use Rattle.lists.specs.Kit.{get_or, drop}
+use Rattle.lists.specs.Over.{tab}
 use Rattle.blake3_chunks.specs.Chunks.{no_node, chunk_of, pressed}
 use Rattle.blake3_chunks.proofs.lanes.Given as goal
 

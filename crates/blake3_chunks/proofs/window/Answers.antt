@@ -1,7 +1,8 @@
-use Rattle.lists.specs.Kit.{◌≡◌, refl, ap, ◌∙◌, ◌-◌, ◌≤◌, arith, rules}
+use Rattle.std.specs.Prelude.{◌≡◌, ◌-◌}
+use Rattle.lists.specs.Kit.{refl, ap, ◌∙◌, arith}
 use native.Mathlib.Numerals.{add-one}
 use Rattle.lists.specs.Over.{tab}
-use Rattle.blake3_node.specs.Node.{after, start_flag}
+use Rattle.blake3_node.specs.Node.{after}
 use Rattle.blake3_chunks.specs.ChunkLaws.{before, lanes_next, lanes-last}
 use Rattle.blake3_chunks.proofs.window.Goals as goal
 

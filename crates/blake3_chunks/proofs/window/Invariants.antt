@@ -1,9 +1,8 @@
 -- The loop's invariant: each lane has taken the first k blocks of its chunk.
-use Rattle.lists.specs.Kit.{◌≡◌, refl, ap, ◌∙◌, ◌-◌, ◌≤◌, arith, rules}
-use native.Mathlib.Numerals.{add-one}
+use Rattle.std.specs.Prelude.{◌≡◌, ◌-◌, ◌≤◌}
 use Rattle.lists.specs.Over.{tab}
-use Rattle.blake3_node.specs.Node.{after, start_flag}
-use Rattle.blake3_chunks.specs.ChunkLaws.{before, lanes_next, lanes-last}
+use Rattle.blake3_node.specs.Node.{start_flag}
+use Rattle.blake3_chunks.specs.ChunkLaws.{before}
 use Rattle.blake3_chunks.proofs.window.Given as goal
 
 abbrev pub invariant-loop-k : goal.invariant-loop-k

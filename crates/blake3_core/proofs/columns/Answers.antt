@@ -1,5 +1,4 @@
 use Rattle.blake3_core.proofs.Rounds.{in-columns}
-use borrow.Author.Rules.{rules}
 use Rattle.blake3_core.proofs.columns.Goals as goal
 
 pub returns : goal.returns

@@ -1,6 +1,7 @@
-use Rattle.lists.specs.Kit.{◌≡◌, refl, ap, ◌∙◌, List, ◌++◌, ℕ, ◌-◌, ◌≤◌, arith, length, get_or, drop, replicate, set}
+use Rattle.std.specs.Prelude.{◌-◌}
+use Rattle.lists.specs.Kit.{refl, ap, ◌∙◌, List, ℕ, arith, get_or, replicate, set}
 use lib.ListN.{length-set}
-use Rattle.lists.specs.Over.{tab, tab-zero, tab-step}
+use Rattle.lists.specs.Over.{tab-zero, tab-step}
 use Rattle.blake3_core.specs.Compress.{MSG_PERMUTATION}
 use Rattle.blake3_core.proofs.Order.{inside, permuted}
 use Rattle.blake3_core.proofs.permute.Goals as goal

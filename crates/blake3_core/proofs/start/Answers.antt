@@ -1,4 +1,5 @@
-use Rattle.lists.specs.Kit.{◌≡◌, List, ℕ, rules}
+use Rattle.std.specs.Prelude.{◌≡◌}
+use Rattle.lists.specs.Kit.{List, ℕ}
 use Rattle.blake3_core.specs.Compress as S
 use Rattle.blake3_core.proofs.start.Goals as goal
 

@@ -1,5 +1,6 @@
-use Rattle.lists.specs.Kit.{◌≡◌, refl, ap, ◌∙◌, ◌++◌, ◌+◌, ◌-◌, ◌≤◌, arith, drop, rules}
-use Rattle.lists.specs.Over.{tab, tab-zero, tab-turn, tab-end}
+use Rattle.std.specs.Prelude.{◌-◌}
+use Rattle.lists.specs.Kit.{refl, ap, ◌∙◌, arith}
+use Rattle.lists.specs.Over.{tab-zero, tab-turn, tab-end}
 use Rattle.blake3_lanes.specs.Lanes.{words_of, words_at}
 use Rattle.blake3_lanes.proofs.gather.Goals as goal
 

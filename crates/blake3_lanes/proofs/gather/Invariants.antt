@@ -1,7 +1,8 @@
 -- The loop's invariant: the words of the first t Blocks stand in front.
-use Rattle.lists.specs.Kit.{◌≡◌, refl, ap, ◌∙◌, ◌++◌, ◌+◌, ◌-◌, ◌≤◌, arith, drop, rules}
-use Rattle.lists.specs.Over.{tab, tab-zero, tab-turn, tab-end}
-use Rattle.blake3_lanes.specs.Lanes.{words_of, words_at}
+use Rattle.std.specs.Prelude.{◌≡◌, ◌++◌, ◌+◌, ◌-◌, ◌≤◌}
+use Rattle.lists.specs.Kit.{drop}
+use Rattle.lists.specs.Over.{tab}
+use Rattle.blake3_lanes.specs.Lanes.{words_at}
 use Rattle.blake3_lanes.proofs.gather.Given as goal
 
 abbrev pub invariant-loop-t : goal.invariant-loop-t

@@ -1,5 +1,6 @@
-use Rattle.lists.specs.Kit.{◌≡◌, refl, ap, ◌∙◌, ℕ, ◌+◌, ◌-◌, ◌*◌, ◌≤◌, arith, length, rules}
-use Rattle.lists.specs.Over.{Written, written-zero, written-turn, written-more, written_on, written-end}
+use Rattle.std.specs.Prelude.{◌≡◌, ◌+◌, ◌-◌, ◌*◌, ◌≤◌}
+use Rattle.lists.specs.Kit.{refl, ap, ◌∙◌, arith, length}
+use Rattle.lists.specs.Over.{written-zero, written-turn, written-more, written_on, written-end}
 use Rattle.block.specs.declared.Block.{Block}
 use Rattle.block.specs.Block.{bytes_of}
 use Rattle.blake3.specs.Tree.{hash, digest, bytes}

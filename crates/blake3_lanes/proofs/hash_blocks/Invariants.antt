@@ -1,11 +1,7 @@
 -- The invariant of both loops: the hashes of the first t Blocks stand in front.
-use Rattle.lists.specs.Kit.{◌≡◌, refl, ap, ◌∙◌, ℕ, ◌+◌, ◌-◌, ◌*◌, ◌≤◌, arith, length, rules}
-use Rattle.lists.specs.Over.{Written, written-zero, written-turn, written-more, written_on, written-end}
-use Rattle.block.specs.declared.Block.{Block}
-use Rattle.block.specs.Block.{bytes_of}
-use Rattle.blake3.specs.Tree.{hash, digest, bytes}
+use Rattle.std.specs.Prelude.{◌-◌, ◌*◌, ◌≤◌}
+use Rattle.lists.specs.Over.{Written}
 use Rattle.blake3_lanes.specs.Lanes.{hash_at}
-use Rattle.blake3_lanes.specs.LaneLaws.{length-hash_at, length-hashes, hash-part}
 use Rattle.blake3_lanes.proofs.hash_blocks.Given as goal
 
 abbrev pub invariant-loop-t : goal.invariant-loop-t

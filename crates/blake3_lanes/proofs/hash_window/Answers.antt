@@ -1,5 +1,6 @@
-use Rattle.lists.specs.Kit.{◌∙◌, ◌+◌, ◌-◌, ◌*◌, ◌≤◌, arith, rules}
-use Rattle.lists.specs.Over.{Written, written-zero, written-turn, written-end}
+use Rattle.std.specs.Prelude.{◌+◌, ◌-◌, ◌*◌}
+use Rattle.lists.specs.Kit.{◌∙◌, arith}
+use Rattle.lists.specs.Over.{written-zero, written-turn, written-end}
 use Rattle.blake3_lanes.specs.Lanes.{hash_at}
 use Rattle.blake3_lanes.specs.LaneLaws.{length-hash_at, lane-hash}
 use Rattle.blake3_lanes.proofs.hash_window.Goals as goal

@@ -1,8 +1,7 @@
 -- The loop's invariant: the hashes of the first t Blocks stand in front.
-use Rattle.lists.specs.Kit.{◌∙◌, ◌+◌, ◌-◌, ◌*◌, ◌≤◌, arith, rules}
-use Rattle.lists.specs.Over.{Written, written-zero, written-turn, written-end}
+use Rattle.std.specs.Prelude.{◌-◌, ◌*◌, ◌≤◌}
+use Rattle.lists.specs.Over.{Written}
 use Rattle.blake3_lanes.specs.Lanes.{hash_at}
-use Rattle.blake3_lanes.specs.LaneLaws.{length-hash_at, lane-hash}
 use Rattle.blake3_lanes.proofs.hash_window.Given as goal
 
 abbrev pub invariant-loop-t : goal.invariant-loop-t

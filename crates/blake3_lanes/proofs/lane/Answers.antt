@@ -1,5 +1,5 @@
 -- As `compress`: seven rounds, from the message words that the lane has.
-use Rattle.lists.specs.Kit.{ap, List, ℕ, rules}
+use Rattle.lists.specs.Kit.{ap, List, ℕ}
 use Rattle.blake3_core.specs.Compress as S
 use Rattle.blake3.specs.declared.Digest.{Digest}
 use Rattle.blake3_core.proofs.Rounds.{seven}

@@ -1,6 +1,6 @@
-use Rattle.lists.specs.Kit.{◌≡◌, refl, ◌++◌, ◌+◌, ◌-◌, ◌≤◌, arith, get_or, drop, rules}
-use Rattle.lists.specs.Over.{tab, tab-zero, tab-turn, tab-end}
-use Rattle.blake3_lanes.specs.Lanes.{no_words, digest_of}
+use Rattle.std.specs.Prelude.{◌-◌}
+use Rattle.lists.specs.Kit.{refl, arith}
+use Rattle.lists.specs.Over.{tab-zero, tab-turn, tab-end}
 use Rattle.blake3_lanes.proofs.lanes.Goals as goal
 
 pub loop-t-init : goal.loop-t-init

@@ -1,6 +1,7 @@
 -- The loop's invariant: the digests of the first t lanes stand in front.
-use Rattle.lists.specs.Kit.{◌≡◌, refl, ◌++◌, ◌+◌, ◌-◌, ◌≤◌, arith, get_or, drop, rules}
-use Rattle.lists.specs.Over.{tab, tab-zero, tab-turn, tab-end}
+use Rattle.std.specs.Prelude.{◌≡◌, ◌++◌, ◌+◌, ◌-◌, ◌≤◌}
+use Rattle.lists.specs.Kit.{get_or, drop}
+use Rattle.lists.specs.Over.{tab}
 use Rattle.blake3_lanes.specs.Lanes.{no_words, digest_of}
 use Rattle.blake3_lanes.proofs.lanes.Given as goal
 

@@ -1,4 +1,3 @@
-use borrow.Author.Rules.{rules}
 use Rattle.blake3_lanes.proofs.split.Goals as goal
 
 pub returns : goal.returns

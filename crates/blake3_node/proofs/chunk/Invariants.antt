@@ -1,7 +1,6 @@
-use native.Mathlib.Numerals.{add-one}
-use Rattle.lists.specs.Kit.{◌≡◌, refl, ◌-◌, ◌*◌, ◌≤◌, arith, length, rules}
+use Rattle.std.specs.Prelude.{◌≡◌, ◌-◌, ◌*◌, ◌≤◌}
+use Rattle.lists.specs.Kit.{length}
 use Rattle.blake3_node.specs.Node as N
-use Rattle.blake3_node.proofs.Blocks.{next, last}
 use Rattle.blake3_node.proofs.chunk.Given as goal
 
 abbrev pub invariant-loop-k : goal.invariant-loop-k

@@ -1,4 +1,5 @@
-use Rattle.lists.specs.Kit.{◌≡◌, refl, sym, ◌∙◌, ◌++◌, ◌-◌, ◌≤◌, arith, length, take, drop, replicate}
+use Rattle.std.specs.Prelude.{◌-◌}
+use Rattle.lists.specs.Kit.{refl, sym, ◌∙◌, arith, replicate}
 use lib.ListN.{length-set}
 use Rattle.lists.specs.Over.{copy-turn}
 use Rattle.blake3_node.proofs.Blocks.{padded-words}

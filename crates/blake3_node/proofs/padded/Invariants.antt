@@ -1,7 +1,5 @@
-use Rattle.lists.specs.Kit.{◌≡◌, refl, sym, ◌∙◌, ◌++◌, ◌-◌, ◌≤◌, arith, length, take, drop, replicate}
-use lib.ListN.{length-set}
-use Rattle.lists.specs.Over.{copy-turn}
-use Rattle.blake3_node.proofs.Blocks.{padded-words}
+use Rattle.std.specs.Prelude.{◌≡◌, ◌++◌, ◌-◌, ◌≤◌}
+use Rattle.lists.specs.Kit.{length, take, drop, replicate}
 use Rattle.blake3_node.proofs.padded.Given as goal
 
 abbrev pub invariant-loop-i : goal.invariant-loop-i

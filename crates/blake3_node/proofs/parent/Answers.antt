@@ -1,4 +1,5 @@
-use Rattle.lists.specs.Kit.{ap, ◌∙◌, List, ℕ, ◌+◌, rules}
+use Rattle.std.specs.Prelude.{◌+◌}
+use Rattle.lists.specs.Kit.{ap, ◌∙◌, List, ℕ}
 use Rattle.blake3_core.specs.Compress.{compress, IV}
 use Rattle.blake3_node.specs.Node as N
 use Rattle.blake3_node.proofs.parent.Goals as goal

@@ -1,4 +1,5 @@
-use Rattle.lists.specs.Kit.{refl, ap₂, ◌∷◌, rules}
+use Rattle.std.specs.Prelude.{◌∷◌}
+use Rattle.lists.specs.Kit.{refl, ap₂}
 use Rattle.blake3_node.proofs.whole.Goals as goal
 
 pub returns : goal.returns

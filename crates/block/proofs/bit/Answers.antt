@@ -1,4 +1,4 @@
-use Rattle.lists.specs.Kit.{get_or, rules}
+use Rattle.lists.specs.Kit.{get_or}
 use Rattle.block.proofs.Laws.{test-odd}
 use Rattle.block.proofs.bit.Goals as goal
 

@@ -1,5 +1,4 @@
 use Rattle.block.specs.Block.{block_at}
-use borrow.Author.Rules.{rules}
 use Rattle.block.proofs.load.Goals as goal
 
 pub returns : goal.returns

@@ -1,6 +1,6 @@
 use Rattle.lists.specs.Over.{sets-all}
 use Rattle.block.specs.Block.{le8}
-use Rattle.lists.specs.Kit.{arith, rules}
+use Rattle.lists.specs.Kit.{arith}
 use lib.ListN.{length-set}
 use Rattle.block.proofs.store64.Goals as goal
 

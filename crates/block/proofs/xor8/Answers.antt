@@ -1,4 +1,4 @@
-use Rattle.lists.specs.Kit.{ap, ap₂, ◌∙◌, rules}
+use Rattle.lists.specs.Kit.{ap, ap₂, ◌∙◌}
 use lib.Bits.{bit_xor}
 use Rattle.block.specs.Block.{le8}
 use Rattle.block.specs.XorWord.{le8-xor-words}

@@ -1,5 +1,6 @@
-use Rattle.lists.specs.Kit.{◌-◌, ◌≤◌, arith, length, rules}
-use Rattle.block.proofs.Laws.{Added, added_none, added-byte, added-all}
+use Rattle.std.specs.Prelude.{◌-◌}
+use Rattle.lists.specs.Kit.{arith, rules}
+use Rattle.block.proofs.Laws.{added_none, added-byte, added-all}
 use Rattle.block.proofs.xor_bytes.Goals as goal
 
 pub loop-i-init : goal.loop-i-init

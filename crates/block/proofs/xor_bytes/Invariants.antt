@@ -1,6 +1,7 @@
 -- The loop's invariant: a has b added to its first i bytes.
-use Rattle.lists.specs.Kit.{◌-◌, ◌≤◌, arith, length, rules}
-use Rattle.block.proofs.Laws.{Added, added_none, added-byte, added-all}
+use Rattle.std.specs.Prelude.{◌-◌, ◌≤◌}
+use Rattle.lists.specs.Kit.{length}
+use Rattle.block.proofs.Laws.{Added}
 use Rattle.block.proofs.xor_bytes.Given as goal
 
 abbrev pub invariant-loop-i : goal.invariant-loop-i

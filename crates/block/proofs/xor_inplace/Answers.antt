@@ -1,5 +1,5 @@
-use Rattle.lists.specs.Kit.{◌≡◌, ◌+◌, ◌-◌, ◌≤◌, arith, length, rules}
-use Prim.Native.Nat.{min}
+use Rattle.std.specs.Prelude.{◌+◌, ◌-◌}
+use Rattle.lists.specs.Kit.{arith, rules}
 use borrow.Rule.Slice.PartMut.{put_mid}
 use Rattle.block.proofs.Laws.{Added, added_none, added-lent, added-all}
 use Rattle.block.proofs.xor_inplace.Goals as goal

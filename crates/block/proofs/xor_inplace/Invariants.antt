@@ -1,9 +1,8 @@
 -- The loop's invariant: a has b added to its first i bytes. A turn adds eight more, in the part that `xor8` is lent.
-use Rattle.lists.specs.Kit.{◌≡◌, ◌+◌, ◌-◌, ◌≤◌, arith, length, rules}
-use mathlib.Core.Logic.{⊎_elim}
+use Rattle.std.specs.Prelude.{◌≡◌, ◌-◌, ◌≤◌}
+use Rattle.lists.specs.Kit.{length}
 use Prim.Native.Nat.{min}
-use borrow.Rule.Slice.PartMut.{put_mid}
-use Rattle.block.proofs.Laws.{Added, added_none, added-lent, added-all}
+use Rattle.block.proofs.Laws.{Added}
 use Rattle.block.proofs.xor_inplace.Given as goal
 
 abbrev pub invariant-loop-i : goal.invariant-loop-i

@@ -1,4 +1,4 @@
-use Rattle.lists.specs.Kit.{◌≡◌, sym, ap, subst, ◌∙◌, List, ℕ, arith, length, rules}
+use Rattle.lists.specs.Kit.{sym, ap, subst, ◌∙◌, List, ℕ, arith, length, rules}
 use Rattle.engine.specs.Step.{by_party}
 use Rattle.engine.specs.Plain.{pending}
 use Rattle.rounds.specs.Area.{HASHES}

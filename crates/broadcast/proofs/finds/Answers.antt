@@ -1,5 +1,6 @@
 -- An arm for each round that has a content check.
-use Rattle.lists.specs.Kit.{◌≡◌, refl, ℕ}
+use Rattle.std.specs.Prelude.{◌≡◌}
+use Rattle.lists.specs.Kit.{refl, ℕ}
 use mathlib.Core.Logic.{◌⊎◌, inl, inr}
 use lib.Dec.{eqb}
 use Rattle.plan.specs.Plan.{RNG_VER, PAIR_VER, FABITN, FASHARE_VER, FASHARE_DIBI, FLAAND_HASH, DVALUE, FAAND}

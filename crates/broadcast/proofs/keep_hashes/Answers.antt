@@ -1,4 +1,4 @@
-use Rattle.lists.specs.Kit.{sym, ap, ◌∙◌, List, ℕ, arith, rules}
+use Rattle.lists.specs.Kit.{sym, ap, ◌∙◌, List, ℕ, arith}
 use Rattle.rounds.specs.Area.{HASHES, keep}
 use Rattle.rounds.specs.Mail.{letter}
 use Rattle.area.specs.GivenLaws.{place_in, place-length, place-keeps}

@@ -1,4 +1,4 @@
-use Rattle.lists.specs.Kit.{◌≡◌, ap, ◌∙◌, rules}
+use Rattle.lists.specs.Kit.{ap, ◌∙◌, rules}
 use Rattle.engine.specs.Plain.{waits}
 use Rattle.rounds.specs.Area.{PENDING, keep}
 use Rattle.broadcast.proofs.note.Goals as goal

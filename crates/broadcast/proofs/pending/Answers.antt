@@ -1,4 +1,5 @@
-use Rattle.lists.specs.Kit.{◌≡◌, ap, ◌∙◌, arith, length, rules}
+use Rattle.std.specs.Prelude.{◌≡◌}
+use Rattle.lists.specs.Kit.{ap, ◌∙◌, arith, length, rules}
 use Rattle.rounds.specs.Area.{PENDING}
 use Rattle.area.specs.GivenLaws.{length_at}
 use Rattle.area.specs.Sizes.{size-pending}

@@ -1,4 +1,5 @@
-use Rattle.lists.specs.Kit.{◌≡◌, ◌∙◌, List, [], ◌∷◌, rules}
+use Rattle.std.specs.Prelude.{◌∷◌}
+use Rattle.lists.specs.Kit.{◌∙◌, [], rules}
 use Rattle.lists.specs.Over.{sets-all}
 use Rattle.broadcast.specs.BroadcastLaws.{waits-is}
 use Rattle.broadcast.proofs.put_fault.Goals as goal

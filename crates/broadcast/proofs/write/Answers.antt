@@ -1,4 +1,4 @@
-use Rattle.lists.specs.Kit.{◌≡◌, sym, ap, ◌∙◌, List, ℕ, arith, length, rules}
+use Rattle.lists.specs.Kit.{sym, ap, ◌∙◌, List, ℕ, arith, length, rules}
 use Rattle.engine.specs.Area.{to_others}
 use Rattle.rounds.specs.Area.{HASHES}
 use Rattle.rounds.specs.Echo.{echo_msg}

@@ -1,4 +1,5 @@
-use Rattle.lists.specs.Kit.{◌≡◌, ap, ap₂, ◌∙◌, List, ◌++◌, ℕ, ◌+◌, ◌-◌, arith, rules}
+use Rattle.std.specs.Prelude.{◌≡◌, ◌++◌, ◌+◌, ◌-◌}
+use Rattle.lists.specs.Kit.{ap, ap₂, ◌∙◌, List, ℕ, arith}
 use Rattle.lists.specs.Sect.{put}
 use Rattle.block.specs.Block.{bytes_of}
 use Rattle.share.specs.Layout.{ENTRY}

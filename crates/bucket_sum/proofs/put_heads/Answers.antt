@@ -1,4 +1,3 @@
-use Rattle.lists.specs.Kit.{rules}
 use Rattle.bucket_sum.specs.Row.{heads-left}
 use Rattle.bucket_sum.proofs.put_heads.Goals as goal
 

@@ -1,6 +1,7 @@
-use Rattle.lists.specs.Kit.{◌≡◌, sym, ap, ◌∙◌, List, Bool, ℕ, suc, ◌+◌, ◌-◌, ◌*◌, ◌<◌, ◌≤◌, arith, length, get_or, rules}
+use Rattle.std.specs.Prelude.{◌≡◌, ◌+◌, ◌-◌, ◌*◌, ◌<◌, ◌≤◌}
+use Rattle.lists.specs.Kit.{sym, ap, ◌∙◌, Bool, ℕ, suc, arith, length, get_or}
 use native.Mathlib.Nat.{add-zero}
-use Rattle.algebra.specs.Group.{bits, odd}
+use Rattle.algebra.specs.Group.{bits}
 use Rattle.algebra.specs.Bucket.{bucket_x, bucket_z, first-x, first-z}
 use Rattle.share.specs.Share.{share_at}
 use Rattle.bucket_sum.specs.Sums.{x_among, step-most, bit-turn-x, bit-turn-z}

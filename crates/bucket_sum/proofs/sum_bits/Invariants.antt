@@ -1,10 +1,9 @@
 -- The loop's invariant: x and z have the bits of the first e records of the bucket.
-use Rattle.lists.specs.Kit.{◌≡◌, sym, ap, ◌∙◌, List, Bool, ℕ, suc, ◌+◌, ◌-◌, ◌*◌, ◌<◌, ◌≤◌, arith, length, get_or, rules}
-use native.Mathlib.Nat.{add-zero}
+use Rattle.std.specs.Prelude.{◌≡◌, ◌+◌, ◌-◌, ◌*◌, ◌≤◌}
+use Rattle.lists.specs.Kit.{List, Bool, ℕ, length, get_or}
 use Rattle.algebra.specs.Group.{bits, odd}
-use Rattle.algebra.specs.Bucket.{bucket_x, bucket_z, first-x, first-z}
-use Rattle.share.specs.Share.{share_at}
-use Rattle.bucket_sum.specs.Sums.{x_among, step-most, bit-turn-x, bit-turn-z}
+use Rattle.algebra.specs.Bucket.{bucket_x, bucket_z}
+use Rattle.bucket_sum.specs.Sums.{x_among}
 use Rattle.bucket_sum.proofs.sum_bits.Given as goal
 
 -- the bits of x, of z, and d

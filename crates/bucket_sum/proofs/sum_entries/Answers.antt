@@ -1,12 +1,12 @@
-use Rattle.lists.specs.Kit.{◌≡◌, ap₂, subst, ◌∙◌, List, ℕ, suc, ◌+◌, ◌-◌, ◌*◌, ◌<◌, ◌≤◌, arith, length, get_or, rules}
-use Rattle.algebra.specs.Group.{XorGroup, odd}
-use Rattle.algebra.specs.Bucket.{bucket_x, bucket_z}
+use Rattle.std.specs.Prelude.{◌≡◌, ◌+◌, ◌-◌, ◌*◌, ◌<◌, ◌≤◌}
+use Rattle.lists.specs.Kit.{ap₂, subst, ◌∙◌, ℕ, suc, arith, length, get_or}
+use Rattle.algebra.specs.Group.{odd}
 use Rattle.block.specs.Group.{blocks}
 use Rattle.share.specs.Layout.{record-within}
 use Rattle.share.specs.Record.{record_len}
-use Rattle.share.specs.Share.{share_at, shares}
+use Rattle.share.specs.Share.{share_at}
 use Rattle.bucket_sum.specs.declared.Sums.{Sums}
-use Rattle.bucket_sum.specs.Sums.{x_among, z_among, Summed, x_fits, no_wrap, summed-first, summed_turn}
+use Rattle.bucket_sum.specs.Sums.{x_among, z_among, x_fits, no_wrap, summed-first, summed_turn}
 use Rattle.bucket_sum.proofs.sum_entries.Goals as goal
 use Rattle.bucket_sum.proofs.sum_entries.Invariants.{Sofar}
 use Rattle.bucket_sum.proofs.sum_entries.Goals.{After-shared_slice_known-4-1, After-shared_slice_known-in-loop-e-1}

@@ -1,13 +1,11 @@
 -- The loop's invariant: x and z have the first e records of the bucket.
-use Rattle.lists.specs.Kit.{◌≡◌, ap₂, subst, ◌∙◌, List, ℕ, suc, ◌+◌, ◌-◌, ◌*◌, ◌<◌, ◌≤◌, arith, length, get_or, rules}
-use Rattle.algebra.specs.Group.{XorGroup, odd}
+use Rattle.std.specs.Prelude.{◌+◌, ◌-◌, ◌≤◌}
+use Rattle.lists.specs.Kit.{List, ℕ, length, get_or}
+use Rattle.algebra.specs.Group.{odd}
 use Rattle.algebra.specs.Bucket.{bucket_x, bucket_z}
-use Rattle.block.specs.Group.{blocks}
-use Rattle.share.specs.Layout.{record-within}
-use Rattle.share.specs.Record.{record_len}
-use Rattle.share.specs.Share.{share_at, shares}
+use Rattle.share.specs.Share.{shares}
 use Rattle.bucket_sum.specs.declared.Sums.{Sums}
-use Rattle.bucket_sum.specs.Sums.{x_among, z_among, Summed, x_fits, no_wrap, summed-first, summed_turn}
+use Rattle.bucket_sum.specs.Sums.{x_among, z_among, Summed}
 use Rattle.bucket_sum.proofs.sum_entries.Given as goal
 
 -- the sums over the first c + 1

@@ -1,4 +1,5 @@
-use Rattle.lists.specs.Kit.{◌≡◌, ap, ◌∙◌, List, ◌++◌, ℕ, ◌-◌, ◌<◌, ◌≤◌, arith, drop, replicate, rules}
+use Rattle.std.specs.Prelude.{◌≡◌, ◌++◌, ◌-◌, ◌<◌}
+use Rattle.lists.specs.Kit.{ap, ◌∙◌, List, ℕ, arith, drop, replicate}
 use Rattle.lists.specs.Over.{tab, tab-zero, tab-turn, drop-replicate}
 use Rattle.plan.specs.Plan.{bucket_size}
 use Rattle.plan.specs.PlanLaws.{bucket-high}

@@ -1,8 +1,8 @@
 -- The loop's invariant: the first e entries are written.
-use Rattle.lists.specs.Kit.{◌≡◌, ap, ◌∙◌, List, ◌++◌, ℕ, ◌-◌, ◌<◌, ◌≤◌, arith, drop, replicate, rules}
-use Rattle.lists.specs.Over.{tab, tab-zero, tab-turn, drop-replicate}
+use Rattle.std.specs.Prelude.{◌≡◌, ◌++◌, ◌-◌, ◌≤◌}
+use Rattle.lists.specs.Kit.{drop, replicate}
+use Rattle.lists.specs.Over.{tab}
 use Rattle.plan.specs.Plan.{bucket_size}
-use Rattle.plan.specs.PlanLaws.{bucket-high}
 use Rattle.rounds.specs.Buckets.{entry}
 use Rattle.buckets.proofs.entries.Given as goal
 

@@ -1,4 +1,5 @@
-use Rattle.lists.specs.Kit.{◌≡◌, ap, ap₂, ◌∙◌, ◌+◌, ◌*◌, ◌≤◌, arith, length, rules}
+use Rattle.std.specs.Prelude.{◌≡◌, ◌+◌, ◌*◌, ◌≤◌}
+use Rattle.lists.specs.Kit.{ap, ap₂, ◌∙◌, arith, length}
 use Prim.Native.Nat.{◌%◌}
 use Rattle.plan.specs.Plan.{bucket_size, leaky}
 use Rattle.plan.specs.PlanLaws.{leaky-most}

@@ -1,4 +1,5 @@
-use Rattle.lists.specs.Kit.{sym, ap, ◌∙◌, List, ℕ, ◌*◌, arith, length, rules}
+use Rattle.std.specs.Prelude.{◌*◌}
+use Rattle.lists.specs.Kit.{sym, ap, ◌∙◌, List, ℕ, arith}
 use Rattle.plan.specs.PlanLaws.{leaky-most}
 use Rattle.rounds.specs.Area.{JOINT, PERM, at, keep}
 use Rattle.rounds.specs.Buckets.{order, perm_bytes}

@@ -1,4 +1,5 @@
-use Rattle.lists.specs.Kit.{ap, ◌-◌, arith, rules}
+use Rattle.std.specs.Prelude.{◌-◌}
+use Rattle.lists.specs.Kit.{ap, arith}
 use Rattle.plan.specs.PlanLaws.{bucket-low}
 use Rattle.rounds.specs.Buckets.{later}
 use Rattle.buckets.proofs.later.Goals as goal

@@ -1,4 +1,5 @@
-use Rattle.lists.specs.Kit.{ap₂, ◌+◌, ◌*◌, ◌≤◌, arith, rules}
+use Rattle.std.specs.Prelude.{◌+◌, ◌*◌, ◌≤◌}
+use Rattle.lists.specs.Kit.{ap₂, arith}
 use native.Mathlib.Nat.{mul-le-mul_right}
 use Rattle.share.specs.Layout.{record-most}
 use Rattle.plan.specs.Plan.{leaky}

@@ -1,4 +1,3 @@
-use borrow.Author.Rules.{rules}
 use Rattle.chacha20.specs.ChaCha20Laws.{in_block}
 use Rattle.chacha20.proofs.block.Goals as goal
 

@@ -1,4 +1,3 @@
-use borrow.Author.Rules.{rules}
 use Rattle.chacha20.specs.ChaCha20Laws.{in-diagonals}
 use Rattle.chacha20.proofs.diagonals.Goals as goal
 

@@ -1,4 +1,5 @@
-use Rattle.lists.specs.Kit.{refl, ap₂, ◌∷◌, rules}
+use Rattle.std.specs.Prelude.{◌∷◌}
+use Rattle.lists.specs.Kit.{refl, ap₂}
 use Rattle.lists.specs.Over.{tab}
 use Rattle.word.specs.Word.{word_list}
 use Rattle.chacha20.proofs.key_words.Goals as goal

@@ -1,5 +1,6 @@
 -- Each need is given by its path, and the steps as a law on numbers, as in `g` of blake3_core.
-use Rattle.lists.specs.Kit.{ap, ◌∙◌, ℕ, ◌*◌, ◌<◌, get_or, rules}
+use Rattle.std.specs.Prelude.{◌*◌, ◌<◌}
+use Rattle.lists.specs.Kit.{ap, ◌∙◌, ℕ, get_or, rules}
 use mir.Syntax.{w64}
 use mir.Val.{Fits}
 use Rattle.word.specs.Word.{quad_at, put}

@@ -1,6 +1,7 @@
-use Rattle.lists.specs.Kit.{ap, List, ℕ, ◌+◌, ◌-◌, ◌*◌, ◌≤◌, arith, get_or, rules}
-use Rattle.lists.specs.Over.{Written, written-zero, written-turn, written-end, length-take-drop}
-use Rattle.word.specs.Word.{le4, le4s}
+use Rattle.std.specs.Prelude.{◌+◌, ◌-◌, ◌*◌}
+use Rattle.lists.specs.Kit.{ap, arith, get_or}
+use Rattle.lists.specs.Over.{written-zero, written-turn, written-end, length-take-drop}
+use Rattle.word.specs.Word.{le4s}
 use Rattle.word.specs.WordLaws.{length-le4}
 use Rattle.chacha20.specs.ChaCha20 as C
 use Rattle.chacha20.proofs.serialize.Goals as goal

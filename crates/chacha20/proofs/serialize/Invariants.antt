@@ -1,9 +1,8 @@
 -- The loop's invariant: the bytes of the first i words stand in front.
-use Rattle.lists.specs.Kit.{ap, List, ℕ, ◌+◌, ◌-◌, ◌*◌, ◌≤◌, arith, get_or, rules}
-use Rattle.lists.specs.Over.{Written, written-zero, written-turn, written-end, length-take-drop}
-use Rattle.word.specs.Word.{le4, le4s}
-use Rattle.word.specs.WordLaws.{length-le4}
-use Rattle.chacha20.specs.ChaCha20 as C
+use Rattle.std.specs.Prelude.{◌-◌, ◌*◌, ◌≤◌}
+use Rattle.lists.specs.Kit.{List, ℕ, get_or}
+use Rattle.lists.specs.Over.{Written}
+use Rattle.word.specs.Word.{le4}
 use Rattle.chacha20.proofs.serialize.Given as goal
 
 -- the bytes of word i

@@ -1,4 +1,4 @@
-use Rattle.lists.specs.Kit.{refl, rules}
+use Rattle.lists.specs.Kit.{refl}
 use Rattle.chacha20.specs.ChaCha20 as C
 use Rattle.chacha20.proofs.state.Goals as goal
 

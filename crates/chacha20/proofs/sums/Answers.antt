@@ -1,6 +1,6 @@
-use Rattle.lists.specs.Kit.{◌≡◌, refl, ◌++◌, ◌-◌, ◌≤◌, arith, get_or, drop, rules}
-use Rattle.lists.specs.Over.{tab, tab-zero, tab-turn, tab-end}
-use Rattle.word.specs.Word.{plus}
+use Rattle.std.specs.Prelude.{◌-◌}
+use Rattle.lists.specs.Kit.{refl, arith}
+use Rattle.lists.specs.Over.{tab-zero, tab-turn, tab-end}
 use Rattle.chacha20.specs.ChaCha20 as C
 use Rattle.chacha20.proofs.sums.Goals as goal
 

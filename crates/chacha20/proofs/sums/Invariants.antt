@@ -1,8 +1,8 @@
 -- The loop's invariant: the sums of the first i words stand in front.
-use Rattle.lists.specs.Kit.{◌≡◌, refl, ◌++◌, ◌-◌, ◌≤◌, arith, get_or, drop, rules}
-use Rattle.lists.specs.Over.{tab, tab-zero, tab-turn, tab-end}
+use Rattle.std.specs.Prelude.{◌≡◌, ◌++◌, ◌-◌, ◌≤◌}
+use Rattle.lists.specs.Kit.{get_or, drop}
+use Rattle.lists.specs.Over.{tab}
 use Rattle.word.specs.Word.{plus}
-use Rattle.chacha20.specs.ChaCha20 as C
 use Rattle.chacha20.proofs.sums.Given as goal
 
 abbrev pub invariant-loop-i : goal.invariant-loop-i

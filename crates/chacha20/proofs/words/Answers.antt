@@ -1,4 +1,5 @@
-use Rattle.lists.specs.Kit.{◌≡◌, ap, ◌∙◌, ℕ, ◌-◌, ◌≤◌, arith, rules}
+use Rattle.std.specs.Prelude.{◌≡◌, ◌-◌}
+use Rattle.lists.specs.Kit.{ap, ◌∙◌, ℕ, arith}
 use Rattle.chacha20.specs.ChaCha20 as C
 use Rattle.chacha20.specs.ChaCha20Laws.{rounds-zero, rounds-turn, in_words}
 use Rattle.chacha20.proofs.words.Goals as goal

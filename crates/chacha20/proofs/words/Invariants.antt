@@ -1,7 +1,6 @@
 -- The loop's invariant: v is the state after i double rounds.
-use Rattle.lists.specs.Kit.{◌≡◌, ap, ◌∙◌, ℕ, ◌-◌, ◌≤◌, arith, rules}
+use Rattle.std.specs.Prelude.{◌≡◌, ◌-◌, ◌≤◌}
 use Rattle.chacha20.specs.ChaCha20 as C
-use Rattle.chacha20.specs.ChaCha20Laws.{rounds-zero, rounds-turn, in_words}
 use Rattle.chacha20.proofs.words.Given as goal
 
 abbrev pub invariant-loop-i : goal.invariant-loop-i

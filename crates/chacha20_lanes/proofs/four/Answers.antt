@@ -1,6 +1,6 @@
-use Rattle.lists.specs.Kit.{◌≡◌, refl, ◌++◌, ◌+◌, ◌-◌, ◌≤◌, arith, drop, rules}
-use Rattle.lists.specs.Over.{tab, tab-zero, tab-turn, tab-end}
-use Rattle.chacha20_lanes.specs.Lanes.{lane_of}
+use Rattle.std.specs.Prelude.{◌-◌}
+use Rattle.lists.specs.Kit.{refl, arith}
+use Rattle.lists.specs.Over.{tab-zero, tab-turn, tab-end}
 use Rattle.chacha20_lanes.proofs.four.Goals as goal
 
 pub loop-t-init : goal.loop-t-init

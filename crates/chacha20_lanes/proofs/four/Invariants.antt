@@ -1,6 +1,7 @@
 -- The loop's invariant: the blocks of the first t lanes stand in front.
-use Rattle.lists.specs.Kit.{◌≡◌, refl, ◌++◌, ◌+◌, ◌-◌, ◌≤◌, arith, drop, rules}
-use Rattle.lists.specs.Over.{tab, tab-zero, tab-turn, tab-end}
+use Rattle.std.specs.Prelude.{◌≡◌, ◌++◌, ◌+◌, ◌-◌, ◌≤◌}
+use Rattle.lists.specs.Kit.{drop}
+use Rattle.lists.specs.Over.{tab}
 use Rattle.chacha20_lanes.specs.Lanes.{lane_of}
 use Rattle.chacha20_lanes.proofs.four.Given as goal
 

@@ -1,7 +1,7 @@
-use Rattle.lists.specs.Kit.{◌≡◌, true, ◌-◌, ◌≤◌, arith, length, get_or, rules}
+use Rattle.std.specs.Prelude.{◌-◌}
+use Rattle.lists.specs.Kit.{true, rules}
 use borrow.Author.Tests.{le-leb, lt-leb}
-use lib.Dec.{leb}
-use Rattle.lists.specs.All.{all_of, all-zero}
+use Rattle.lists.specs.All.{all-zero}
 use Rattle.combine.specs.Stops.{stop-at, stop-none, all-on}
 use Rattle.combine.proofs.bits_fault.Goals as goal
 

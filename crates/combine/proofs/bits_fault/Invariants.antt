@@ -1,8 +1,7 @@
-use Rattle.lists.specs.Kit.{◌≡◌, true, ◌-◌, ◌≤◌, arith, length, get_or, rules}
-use borrow.Author.Tests.{le-leb, lt-leb}
+use Rattle.std.specs.Prelude.{◌≡◌, ◌-◌, ◌≤◌}
+use Rattle.lists.specs.Kit.{true, length, get_or}
 use lib.Dec.{leb}
-use Rattle.lists.specs.All.{all_of, all-zero}
-use Rattle.combine.specs.Stops.{stop-at, stop-none, all-on}
+use Rattle.lists.specs.All.{all_of}
 use Rattle.combine.proofs.bits_fault.Given as goal
 
 abbrev pub invariant-loop-e : goal.invariant-loop-e

@@ -1,4 +1,5 @@
-use Rattle.lists.specs.Kit.{◌≡◌, sym, ap, ◌∙◌, List, ℕ, ◌+◌, ◌-◌, ◌*◌, ◌≤◌, arith, length, get_or, rules}
+use Rattle.std.specs.Prelude.{◌≡◌, ◌+◌, ◌-◌, ◌*◌}
+use Rattle.lists.specs.Kit.{sym, ap, ◌∙◌, arith, length, get_or}
 use Rattle.algebra.specs.Group.{odd}
 use Rattle.share.specs.Lent.{lent_len}
 use Rattle.engine.specs.Step.{Accepted, Refused, reply_of}

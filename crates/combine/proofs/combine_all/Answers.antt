@@ -1,5 +1,6 @@
-use Rattle.lists.specs.Kit.{◌≡◌, refl, sym, ap, subst, ◌∙◌, List, ◌++◌, ℕ, ◌+◌, ◌-◌, ◌*◌, ◌≤◌}
-use Rattle.lists.specs.Kit.{arith, length, get_or, take, drop, rules}
+use Rattle.std.specs.Prelude.{◌≡◌, ◌++◌, ◌+◌, ◌-◌, ◌*◌, ◌≤◌}
+use Rattle.lists.specs.Kit.{refl, sym, ap, subst, ◌∙◌, List, ℕ}
+use Rattle.lists.specs.Kit.{arith, length, get_or, take, drop}
 use lib.ListN.{length-append, length-drop}
 use lib.Seq.{length-take-le}
 use Rattle.lists.specs.Over.{length-take-drop}
@@ -8,14 +9,14 @@ use Rattle.algebra.specs.Group.{bits, odd}
 use Rattle.algebra.specs.Bucket.{bucket_x, bucket_z}
 use Rattle.share.specs.Layout.{entry-within}
 use Rattle.share.specs.Record.{record_len, bit_at}
-use Rattle.share.specs.Share.{Share, share_at, shares}
+use Rattle.share.specs.Share.{share_at}
 use Rattle.share.specs.ShareLaws.{bit-bucket-x, bit-bucket-z}
 use Rattle.share.specs.Lent.{LABEL, lent_len, lent_of, lent_at}
 use Rattle.share.specs.LentLaws.{lent_longer, lent-most, head-within, lent-headed, length-lent_of}
 use Rattle.rounds.specs.Combine.{triple}
 use Rattle.bucket_sum.specs.Sums.{x_among, Within, BucketIn, x-bits, z-bits}
 use Rattle.combine.specs.Triples.{x_places, x_lent, z_lent, triples-in, y-inside, sum-records, bits_in}
-use Rattle.combine.specs.Out.{Lined, lined-none, lined-row, lined-long, lined-part, lined-turn, lined-end}
+use Rattle.combine.specs.Out.{lined-none, lined-row, lined-long, lined-part, lined-turn, lined-end}
 use Rattle.combine.proofs.combine_all.Goals as goal
 use Rattle.combine.proofs.combine_all.Invariants.{ts, X, Z, Y}
 use Rattle.combine.proofs.combine_all.Goals.{After-lent_len-len, After-put_lent_head, After-put_lent_head-2, At-loop-k}

@@ -1,5 +1,6 @@
 -- The sums run over the records without labels that lie a label's length behind: party k's MACs and keys are the same.
-use Rattle.lists.specs.Kit.{sym, subst, List, ℕ, ◌-◌, ◌≤◌, arith, length, get_or, take, drop, rules}
+use Rattle.std.specs.Prelude.{◌-◌, ◌≤◌}
+use Rattle.lists.specs.Kit.{sym, subst, List, ℕ, arith, length, get_or, take, drop}
 use lib.ListN.{length-drop}
 use Rattle.lists.specs.Sect.{get-rest}
 use Rattle.algebra.specs.Group.{odd}

@@ -1,4 +1,5 @@
-use Rattle.lists.specs.Kit.{◌≡◌, sym, ap, ◌∙◌, Bool, ℕ, ◌+◌, ◌-◌, ◌*◌, ◌≤◌, arith, get_or, rules}
+use Rattle.std.specs.Prelude.{◌≡◌, ◌-◌, ◌*◌, ◌≤◌}
+use Rattle.lists.specs.Kit.{sym, ap, ◌∙◌, arith, get_or}
 use native.Mathlib.Nat.{mul-le-mul_right}
 use lib.Dec.{leb}
 use Rattle.lists.specs.Pick.{pick, tests}

@@ -1,4 +1,4 @@
-use Rattle.lists.specs.Kit.{arith, rules}
+use Rattle.lists.specs.Kit.{arith}
 use Rattle.buckets.specs.Entries.{later-most}
 use Rattle.dvalue.proofs.bucket_len.Goals as goal
 

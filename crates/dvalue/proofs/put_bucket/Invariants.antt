@@ -1,12 +1,9 @@
-use Rattle.lists.specs.Kit.{◌≡◌, ap, ap₂, subst, ◌∙◌, List, Bool, ℕ, ◌+◌, ◌-◌, ◌<◌, ◌≤◌, arith, length, rules}
+use Rattle.std.specs.Prelude.{◌-◌, ◌≤◌}
+use Rattle.lists.specs.Kit.{List, Bool, ℕ}
 use Rattle.block.specs.declared.Block.{Block}
-use Rattle.share.specs.Layout.{record_len, record-some, record-within}
-use Rattle.share.specs.Share.{Share}
-use Rattle.encode.specs.Encode.{dvalue_item}
-use Rattle.encode.specs.Bucket.{dvalue_in, Filled, filled-start, filled-turn, filled-end}
+use Rattle.encode.specs.Bucket.{Filled}
 use Rattle.engine.specs.declared.Frame.{Frame}
 use Rattle.rounds.specs.Buckets as B
-use Rattle.buckets.specs.Entries.{first-in, later-in, later-most, y-within, d-read}
 use Rattle.dvalue.proofs.put_bucket.Given as goal
 
 -- the d values of bucket j, and their MACs for k

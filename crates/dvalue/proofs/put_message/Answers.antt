@@ -1,10 +1,9 @@
-use Rattle.lists.specs.Kit.{◌≡◌, refl, sym, ap, ◌∙◌, List, ℕ, ◌+◌, ◌-◌, ◌*◌, ◌<◌, ◌≤◌, arith, length, rules}
+use Rattle.std.specs.Prelude.{◌≡◌, ◌+◌, ◌-◌, ◌*◌, ◌<◌, ◌≤◌}
+use Rattle.lists.specs.Kit.{refl, sym, ap, ◌∙◌, ℕ, arith, length, rules}
 use native.Mathlib.Nat.{zero-mul}
 use borrow.Rule.Slice.PartMut.{put_mid}
 use Rattle.lists.specs.Over.{length-take-drop}
-use Rattle.encode.specs.Encode.{dvalue_item}
 use Rattle.encode.specs.Stretch.{Stretch, stretch-count, stretch-self, even-turn, even-end, in_list}
-use Rattle.engine.specs.declared.Frame.{Frame}
 use Rattle.rounds.specs.Buckets as B
 use Rattle.dvalue.specs.Dvalues.{length-item}
 use Rattle.dvalue.proofs.put_message.Goals as goal

@@ -1,12 +1,9 @@
-use Rattle.lists.specs.Kit.{◌≡◌, refl, sym, ap, ◌∙◌, List, ℕ, ◌+◌, ◌-◌, ◌*◌, ◌<◌, ◌≤◌, arith, length, rules}
-use native.Mathlib.Nat.{zero-mul}
-use borrow.Rule.Slice.PartMut.{put_mid}
-use Rattle.lists.specs.Over.{length-take-drop}
+use Rattle.std.specs.Prelude.{◌+◌, ◌-◌, ◌*◌, ◌≤◌}
+use Rattle.lists.specs.Kit.{List, ℕ}
 use Rattle.encode.specs.Encode.{dvalue_item}
-use Rattle.encode.specs.Stretch.{Stretch, stretch-count, stretch-self, even-turn, even-end, in_list}
+use Rattle.encode.specs.Stretch.{Stretch}
 use Rattle.engine.specs.declared.Frame.{Frame}
 use Rattle.rounds.specs.Buckets as B
-use Rattle.dvalue.specs.Dvalues.{length-item}
 use Rattle.dvalue.proofs.put_message.Given as goal
 
 -- bucket j of the message to k

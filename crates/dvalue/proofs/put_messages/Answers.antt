@@ -1,6 +1,7 @@
-use Rattle.lists.specs.Kit.{◌≡◌, refl, sym, ap, ◌∙◌, List, ℕ, ◌+◌, ◌-◌, ◌*◌, ◌<◌, ◌≤◌, arith, length, rules}
+use Rattle.std.specs.Prelude.{◌≡◌, ◌+◌, ◌-◌, ◌*◌, ◌<◌, ◌≤◌}
+use Rattle.lists.specs.Kit.{refl, sym, ap, ◌∙◌, arith, length}
 use Rattle.engine.specs.Area.{nth-below}
-use Rattle.rounds.specs.Loops.{lent-part, Sent, sent-none, sent-in, sent_back, sent-end}
+use Rattle.rounds.specs.Loops.{lent-part, sent-none, sent-in, sent_back, sent-end}
 use Rattle.rounds.specs.Buckets.{dvalue_msg}
 use Rattle.dvalue.specs.Dvalues.{told_is}
 use Rattle.dvalue.proofs.put_messages.Goals as goal

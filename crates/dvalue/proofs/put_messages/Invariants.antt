@@ -1,9 +1,7 @@
 -- The loop's invariant: the messages to the first q parties but i are written.
-use Rattle.lists.specs.Kit.{◌≡◌, refl, sym, ap, ◌∙◌, List, ℕ, ◌+◌, ◌-◌, ◌*◌, ◌<◌, ◌≤◌, arith, length, rules}
-use Rattle.engine.specs.Area.{nth-below}
-use Rattle.rounds.specs.Loops.{lent-part, Sent, sent-none, sent-in, sent_back, sent-end}
+use Rattle.std.specs.Prelude.{◌-◌, ◌≤◌}
+use Rattle.rounds.specs.Loops.{Sent}
 use Rattle.rounds.specs.Buckets.{dvalue_msg}
-use Rattle.dvalue.specs.Dvalues.{told_is}
 use Rattle.dvalue.proofs.put_messages.Given as goal
 
 abbrev pub invariant-loop-q : goal.invariant-loop-q

@@ -1,4 +1,4 @@
-use Rattle.lists.specs.Kit.{ap₂, ◌∙◌, List, ℕ, rules}
+use Rattle.lists.specs.Kit.{ap₂, ◌∙◌, List, ℕ}
 use Rattle.engine.specs.Area.{to_others}
 use Rattle.rounds.specs.Buckets.{dvalue_msg}
 use Rattle.buckets.specs.Given.{lent_is}

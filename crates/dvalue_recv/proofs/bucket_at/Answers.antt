@@ -1,4 +1,5 @@
-use Rattle.lists.specs.Kit.{◌≡◌, sym, ap, ◌∙◌, ◌+◌, ◌*◌, ◌≤◌, arith, rules}
+use Rattle.std.specs.Prelude.{◌≡◌, ◌+◌, ◌*◌, ◌≤◌}
+use Rattle.lists.specs.Kit.{sym, ap, ◌∙◌, arith}
 use Rattle.dvalue.specs.Dvalues.{bucket_len, bucket-is, places-most}
 use Rattle.dvalue_recv.proofs.bucket_at.Goals as goal
 use Rattle.dvalue_recv.proofs.bucket_at.Goals.{After-bucket_len}

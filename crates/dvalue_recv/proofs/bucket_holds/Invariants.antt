@@ -1,11 +1,7 @@
 -- The loop's invariant: ok says whether the first e MACs are right.
-use Rattle.lists.specs.Kit.{◌≡◌, sym, ap, ◌∙◌, ℕ, ◌+◌, ◌-◌, ◌*◌, ◌<◌, ◌≤◌, arith, length, rules}
-use Rattle.lists.specs.All.{all_of, all-zero, all_more}
-use Rattle.share.specs.Layout.{record_len, record-within}
-use Rattle.rounds.specs.Buckets.{later}
-use Rattle.buckets.specs.Entries.{first-in, later-in, later-most, y-within}
-use Rattle.dvalue.specs.Dvalues.{bucket-in}
-use Rattle.dvalue_recv.specs.Checks.{d_holds, bucket_holds, d_holds_lem}
+use Rattle.std.specs.Prelude.{◌≡◌, ◌-◌, ◌≤◌}
+use Rattle.lists.specs.All.{all_of}
+use Rattle.dvalue_recv.specs.Checks.{d_holds}
 use Rattle.dvalue_recv.proofs.bucket_holds.Given as goal
 
 abbrev pub invariant-loop-e : goal.invariant-loop-e

@@ -1,4 +1,5 @@
-use Rattle.lists.specs.Kit.{◌∙◌, ◌+◌, arith, rules}
+use Rattle.std.specs.Prelude.{◌+◌}
+use Rattle.lists.specs.Kit.{◌∙◌, arith}
 use Rattle.algebra.specs.Group.{xor-addb}
 use Rattle.share.specs.Layout.{record-some}
 use Rattle.rounds.specs.Mail.{letter}

@@ -1,4 +1,5 @@
-use Rattle.lists.specs.Kit.{sym, ap, ap₂, ◌∙◌, List, ℕ, ◌+◌, ◌<◌, arith, length, get_or, rules}
+use Rattle.std.specs.Prelude.{◌+◌, ◌<◌}
+use Rattle.lists.specs.Kit.{sym, ap, ap₂, ◌∙◌, List, ℕ, arith, length, get_or}
 use Rattle.algebra.specs.Group.{bits, odd}
 use Rattle.rounds.specs.Mail.{letter}
 use Rattle.rounds.specs.MailLaws.{letter-fits}

@@ -1,4 +1,5 @@
-use Rattle.lists.specs.Kit.{◌≡◌, sym, ap, ap₂, ◌∙◌, List, ◌++◌, ℕ, ◌-◌, ◌≤◌, arith, replicate, rules}
+use Rattle.std.specs.Prelude.{◌≡◌, ◌++◌, ◌-◌, ◌≤◌}
+use Rattle.lists.specs.Kit.{sym, ap, ap₂, ◌∙◌, List, ℕ, arith, replicate}
 use lib.Seq.{length-take-le}
 use Rattle.lists.specs.Over.{drop-replicate}
 use Rattle.rounds.specs.Area.{BITS, PERM, at}

@@ -1,4 +1,3 @@
-use borrow.Author.Rules.{rules}
 use Rattle.buckets.specs.Given.{lent_is}
 use Rattle.dvalue_recv.proofs.judge.Goals as goal
 

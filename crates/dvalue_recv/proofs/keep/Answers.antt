@@ -1,10 +1,10 @@
-use Rattle.lists.specs.Kit.{◌≡◌, sym, ap, ap₂, ◌∙◌, ◌≢◌, List, ◌++◌, ℕ, ◌+◌, ◌-◌, ◌*◌, ◌≤◌, arith, length, replicate, rules}
-use Rattle.engine.specs.declared.Frame.{Frame}
+use Rattle.std.specs.Prelude.{◌≡◌, ◌≢◌, ◌++◌, ◌+◌, ◌-◌, ◌*◌, ◌≤◌}
+use Rattle.lists.specs.Kit.{sym, ap, ap₂, ◌∙◌, List, ℕ, arith, length, replicate}
 use Rattle.rounds.specs.Area.{BITS, PERM, DS, at, keep, size_of}
 use Rattle.rounds.specs.Mail.{letter}
 use Rattle.rounds.specs.Buckets.{later}
 use Rattle.buckets.specs.Given.{size-opened}
-use Rattle.area.specs.Filled.{Filled, filled_none, filled-work, filled-other, filled-end, row_in, row-long, filled-turn}
+use Rattle.area.specs.Filled.{filled_none, filled-work, filled-other, filled-end, row_in, row-long, filled-turn}
 use Rattle.dvalue_recv.specs.Opened.{d_row, length-d_row, ds-rows}
 use Rattle.dvalue_recv.proofs.keep.Goals as goal
 use Rattle.dvalue_recv.proofs.keep.Goals.{After-ds_row-row, In-loop-j, Start}

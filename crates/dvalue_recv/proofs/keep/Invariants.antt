@@ -1,12 +1,10 @@
 -- The loop's invariant: the rows of the first j buckets are kept. The other sections are as they were.
-use Rattle.lists.specs.Kit.{◌≡◌, sym, ap, ap₂, ◌∙◌, ◌≢◌, List, ◌++◌, ℕ, ◌+◌, ◌-◌, ◌*◌, ◌≤◌, arith, length, replicate, rules}
-use Rattle.engine.specs.declared.Frame.{Frame}
-use Rattle.rounds.specs.Area.{BITS, PERM, DS, at, keep, size_of}
+use Rattle.std.specs.Prelude.{◌-◌, ◌≤◌}
+use Rattle.rounds.specs.Area.{BITS, PERM, DS, at}
 use Rattle.rounds.specs.Mail.{letter}
 use Rattle.rounds.specs.Buckets.{later}
-use Rattle.buckets.specs.Given.{size-opened}
-use Rattle.area.specs.Filled.{Filled, filled_none, filled-work, filled-other, filled-end, row_in, row-long, filled-turn}
-use Rattle.dvalue_recv.specs.Opened.{d_row, length-d_row, ds-rows}
+use Rattle.area.specs.Filled.{Filled}
+use Rattle.dvalue_recv.specs.Opened.{d_row}
 use Rattle.dvalue_recv.proofs.keep.Given as goal
 
 abbrev pub invariant-loop-j : goal.invariant-loop-j

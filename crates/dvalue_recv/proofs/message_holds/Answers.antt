@@ -1,4 +1,5 @@
-use Rattle.lists.specs.Kit.{◌≡◌, sym, ap, ◌∙◌, ◌-◌, ◌≤◌, arith, rules}
+use Rattle.std.specs.Prelude.{◌≡◌, ◌-◌}
+use Rattle.lists.specs.Kit.{sym, ap, ◌∙◌, arith, rules}
 use Rattle.lists.specs.All.{all_of, all-zero, all_more}
 use Rattle.dvalue_recv.specs.Checks.{bucket_holds, message_holds}
 use Rattle.dvalue_recv.proofs.message_holds.Goals as goal

@@ -1,7 +1,7 @@
 -- The loop's invariant: ok says whether the first j buckets are right.
-use Rattle.lists.specs.Kit.{◌≡◌, sym, ap, ◌∙◌, ◌-◌, ◌≤◌, arith, rules}
-use Rattle.lists.specs.All.{all_of, all-zero, all_more}
-use Rattle.dvalue_recv.specs.Checks.{bucket_holds, message_holds}
+use Rattle.std.specs.Prelude.{◌≡◌, ◌-◌, ◌≤◌}
+use Rattle.lists.specs.All.{all_of}
+use Rattle.dvalue_recv.specs.Checks.{bucket_holds}
 use Rattle.dvalue_recv.proofs.message_holds.Given as goal
 
 abbrev pub invariant-loop-j : goal.invariant-loop-j

@@ -1,13 +1,12 @@
 -- The loop's invariant: the first e bits are written.
-use Rattle.lists.specs.Kit.{◌≡◌, refl, sym, ap, ◌∙◌, List, ◌++◌, ℕ, ◌+◌, ◌-◌, ◌≤◌, arith, length, drop, set, rules}
-use lib.ListN.{length-set}
-use Rattle.lists.specs.Over.{tab, tab-zero, tab-step, tab-end}
+use Rattle.std.specs.Prelude.{◌≡◌, ◌++◌, ◌+◌, ◌-◌, ◌≤◌}
+use Rattle.lists.specs.Kit.{List, ℕ, length, drop}
+use Rattle.lists.specs.Over.{tab}
 use Rattle.algebra.specs.Group.{num}
 use Rattle.engine.specs.declared.Frame.{Frame}
 use Rattle.rounds.specs.declared.Mail.{Mail}
 use Rattle.rounds.specs.Mail.{letter}
-use Rattle.rounds.specs.Buckets.{later, d_opened}
-use Rattle.dvalue_recv.specs.Opened.{d_row}
+use Rattle.rounds.specs.Buckets.{d_opened}
 use Rattle.dvalue_recv.proofs.put_ds.Given as goal
 
 -- bit e

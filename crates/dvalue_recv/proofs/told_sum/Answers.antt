@@ -1,11 +1,8 @@
-use Rattle.lists.specs.Kit.{◌≡◌, ap, ◌∙◌, List, Bool, ℕ, ◌-◌, ◌≤◌, arith, rules}
+use Rattle.std.specs.Prelude.{◌≡◌, ◌-◌}
+use Rattle.lists.specs.Kit.{ap, ◌∙◌, arith}
 use Rattle.algebra.specs.Group.{bits, xor-addb}
 use Rattle.algebra.specs.Sum.{others}
-use Rattle.engine.specs.declared.Frame.{Frame}
-use Rattle.rounds.specs.declared.Mail.{Mail}
-use Rattle.rounds.specs.Mail.{letter}
 use Rattle.rounds.specs.Loops.{others-none, others-turn}
-use Rattle.rounds.specs.Buckets.{d_told}
 use Rattle.dvalue_recv.specs.Opened.{told_sum}
 use Rattle.dvalue_recv.proofs.told_sum.Goals as goal
 use Rattle.dvalue_recv.proofs.told_sum.Invariants.{of}

@@ -1,5 +1,5 @@
-use Rattle.lists.specs.Kit.{◌≡◌, sym, ◌∙◌, ◌-◌, ◌≤◌, arith, rules}
-use Rattle.engine.specs.Step.{scan}
+use Rattle.std.specs.Prelude.{◌-◌}
+use Rattle.lists.specs.Kit.{sym, ◌∙◌, arith, rules}
 use Rattle.engine.specs.StepLaws.{scan-turn}
 use Rattle.rounds.specs.EchoLaws.{told_fault, echo-clean, echo-first, echo-none}
 use Rattle.echo.proofs.check_echo.Goals as goal

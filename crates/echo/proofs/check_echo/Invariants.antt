@@ -1,7 +1,6 @@
-use Rattle.lists.specs.Kit.{◌≡◌, sym, ◌∙◌, ◌-◌, ◌≤◌, arith, rules}
+use Rattle.std.specs.Prelude.{◌≡◌, ◌-◌, ◌≤◌}
 use Rattle.engine.specs.Step.{scan}
-use Rattle.engine.specs.StepLaws.{scan-turn}
-use Rattle.rounds.specs.EchoLaws.{told_fault, echo-clean, echo-first, echo-none}
+use Rattle.rounds.specs.EchoLaws.{told_fault}
 use Rattle.echo.proofs.check_echo.Given as goal
 
 abbrev pub invariant-loop-k : goal.invariant-loop-k

@@ -1,8 +1,7 @@
-use Rattle.lists.specs.Kit.{◌≡◌, sym, ◌∙◌, ◌-◌, ◌≤◌, arith, rules}
+use Rattle.std.specs.Prelude.{◌≡◌, ◌-◌, ◌≤◌}
 use Rattle.engine.specs.Step.{scan}
-use Rattle.engine.specs.StepLaws.{scan-turn}
 use Rattle.rounds.specs.Mail.{letter}
-use Rattle.rounds.specs.FaultLaws.{fault_at, clean-zero, finds-first, finds-none}
+use Rattle.rounds.specs.FaultLaws.{fault_at}
 use Rattle.rounds.specs.EchoLaws.{echo_faults}
 use Rattle.echo.proofs.check_echoes.Given as goal
 

@@ -1,4 +1,4 @@
-use Rattle.lists.specs.Kit.{sym, ap, ◌∙◌, rules}
+use Rattle.lists.specs.Kit.{sym, ap, ◌∙◌}
 use Rattle.message.specs.declared.Kind.TheVariants.{Options}
 use Rattle.message.specs.Format.{form_of}
 use Rattle.rounds.specs.Mail.{letter}

@@ -1,4 +1,4 @@
-use Rattle.lists.specs.Kit.{sym, ap, ◌∙◌, rules}
+use Rattle.lists.specs.Kit.{sym, ap, ◌∙◌}
 use Rattle.lists.specs.Pick.{pick}
 use Rattle.echo.proofs.entry_len.Goals as goal
 

@@ -1,4 +1,4 @@
-use Rattle.lists.specs.Kit.{true, false, rules}
+use Rattle.lists.specs.Kit.{true, false}
 use Rattle.rounds.specs.EchoLaws.{hash-of}
 use Rattle.echo.proofs.hash_list.Goals as goal
 

@@ -1,4 +1,4 @@
-use Rattle.lists.specs.Kit.{sym, ap, ◌∙◌, arith, length, replicate, rules}
+use Rattle.lists.specs.Kit.{sym, ap, ◌∙◌, arith, length, replicate}
 use Rattle.lists.specs.Pick.{pick}
 use Rattle.algebra.specs.Sum.{neq-true}
 use Rattle.block.specs.Block.{bytes_of}

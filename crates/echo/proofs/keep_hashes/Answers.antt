@@ -1,9 +1,6 @@
-use Rattle.lists.specs.Kit.{◌∙◌, List, ℕ, ◌-◌, ◌*◌, ◌≤◌, arith, replicate, rules}
-use Rattle.lists.specs.Pick.{pick}
-use Rattle.lists.specs.Over.{Written}
+use Rattle.std.specs.Prelude.{◌-◌}
+use Rattle.lists.specs.Kit.{◌∙◌, arith, rules}
 use Rattle.lists.specs.Rows.{even-zero, even-turn, even-end}
-use Rattle.algebra.specs.Sum.{neq}
-use Rattle.rounds.specs.declared.Mail.{Mail}
 use Rattle.rounds.specs.Mail.{letter}
 use Rattle.rounds.specs.Echo.{hash_vec}
 use Rattle.rounds.specs.EchoLaws.{hash-rows}

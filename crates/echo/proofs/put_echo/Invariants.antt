@@ -1,9 +1,8 @@
-use Rattle.lists.specs.Kit.{◌≡◌, refl, sym, ap, ◌∙◌, ◌+◌, ◌-◌, ◌≤◌, arith, length, rules}
-use Rattle.lists.specs.Over.{length-take-drop}
-use Rattle.encode.specs.Stretch.{Stretch, stretch-count, stretch-self, stretch-turn, stretch-end}
+use Rattle.std.specs.Prelude.{◌≡◌, ◌-◌, ◌≤◌}
+use Rattle.lists.specs.Kit.{length}
+use Rattle.encode.specs.Stretch.{Stretch}
 use Rattle.plan.specs.Plan.{msg_len}
-use Rattle.rounds.specs.Echo.{echo_msg}
-use Rattle.rounds.specs.EchoLaws.{entry, entry_at, entry_length, entry_zero, entry_next, entry-fits, entries-fill, echo-len}
+use Rattle.rounds.specs.EchoLaws.{entry, entry_at}
 use Rattle.echo.proofs.put_echo.Given as goal
 
 abbrev pub invariant-loop-k : goal.invariant-loop-k

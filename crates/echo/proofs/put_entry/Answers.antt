@@ -1,4 +1,4 @@
-use Rattle.lists.specs.Kit.{sym, ap, ◌∙◌, arith, rules}
+use Rattle.lists.specs.Kit.{sym, ap, ◌∙◌, arith}
 use Rattle.lists.specs.Pick.{pick}
 use Rattle.encode.specs.Encode.{some_item}
 use Rattle.block.specs.Block.{bytes_of}

@@ -1,4 +1,4 @@
-use Rattle.lists.specs.Kit.{refl, sym, ◌∙◌, true, false, rules}
+use Rattle.lists.specs.Kit.{refl, sym, ◌∙◌, true, false}
 use Rattle.rounds.specs.EchoLaws.{told_fault_lem}
 use Rattle.echo.proofs.told_fault.Goals as goal
 

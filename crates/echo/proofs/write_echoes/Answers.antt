@@ -1,8 +1,9 @@
-use Rattle.lists.specs.Kit.{◌≡◌, refl, sym, ap, ◌∙◌, ◌+◌, ◌-◌, ◌*◌, ◌<◌, ◌≤◌, arith, length, rules}
+use Rattle.std.specs.Prelude.{◌≡◌, ◌+◌, ◌-◌, ◌*◌, ◌<◌, ◌≤◌}
+use Rattle.lists.specs.Kit.{refl, sym, ap, ◌∙◌, arith, length}
 use Rattle.lists.specs.Rows.{length-row}
 use Rattle.engine.specs.Area.{nth-below, nth-skips}
 use Rattle.rounds.specs.Echo.{echo_msg}
-use Rattle.rounds.specs.Loops.{Sent, sent-none, sent-in, sent_back, sent-end}
+use Rattle.rounds.specs.Loops.{sent-none, sent-in, sent_back, sent-end}
 use Rattle.echo.proofs.write_echoes.Goals as goal
 use Rattle.echo.proofs.write_echoes.Goals.{After-msg_len-len, After-other-r}
 

@@ -1,8 +1,6 @@
-use Rattle.lists.specs.Kit.{◌≡◌, refl, sym, ap, ◌∙◌, ◌+◌, ◌-◌, ◌*◌, ◌<◌, ◌≤◌, arith, length, rules}
-use Rattle.lists.specs.Rows.{length-row}
-use Rattle.engine.specs.Area.{nth-below, nth-skips}
+use Rattle.std.specs.Prelude.{◌-◌, ◌≤◌}
 use Rattle.rounds.specs.Echo.{echo_msg}
-use Rattle.rounds.specs.Loops.{Sent, sent-none, sent-in, sent_back, sent-end}
+use Rattle.rounds.specs.Loops.{Sent}
 use Rattle.echo.proofs.write_echoes.Given as goal
 
 abbrev pub invariant-loop-q : goal.invariant-loop-q

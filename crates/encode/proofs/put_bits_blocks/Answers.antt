@@ -1,4 +1,4 @@
-use Rattle.lists.specs.Kit.{sym, ap, ◌∙◌, arith, length, rules}
+use Rattle.lists.specs.Kit.{sym, ap, ◌∙◌, arith, length}
 use lib.ListN.{length-set}
 use Rattle.algebra.specs.Group.{num}
 use Rattle.block.specs.Block.{bytes_of}

@@ -1,4 +1,5 @@
-use Rattle.lists.specs.Kit.{ap, ◌∙◌, ◌+◌, ◌*◌, arith, length, rules}
+use Rattle.std.specs.Prelude.{◌+◌, ◌*◌}
+use Rattle.lists.specs.Kit.{ap, ◌∙◌, arith, length}
 use native.Mathlib.Nat.{add-sub_cancel_left}
 use lib.ListN.{length-set}
 use Rattle.encode.specs.Bucket.{dvalue_in, length-dvalue_in}

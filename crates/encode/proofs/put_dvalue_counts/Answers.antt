@@ -1,4 +1,4 @@
-use Rattle.lists.specs.Kit.{◌+◌, rules}
+use Rattle.std.specs.Prelude.{◌+◌}
 use native.Mathlib.Nat.{add-sub_cancel_left}
 use Rattle.encode.specs.Bucket.{counts}
 use Rattle.encode.proofs.put_dvalue_counts.Goals as goal

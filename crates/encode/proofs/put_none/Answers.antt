@@ -1,4 +1,5 @@
-use Rattle.lists.specs.Kit.{[], ◌∷◌, rules}
+use Rattle.std.specs.Prelude.{◌∷◌}
+use Rattle.lists.specs.Kit.{[]}
 use Rattle.lists.specs.Over.{sets-all}
 use Rattle.encode.specs.Encode.{none_item}
 use Rattle.encode.proofs.put_none.Goals as goal

@@ -1,4 +1,4 @@
-use Rattle.lists.specs.Kit.{refl, sym, ap, ◌∙◌, arith, length, rules}
+use Rattle.lists.specs.Kit.{refl, sym, ap, ◌∙◌, arith, length}
 use lib.ListN.{length-set}
 use Rattle.block.specs.Block.{bytes_of}
 use Rattle.block.specs.Trip.{length-bytes_of}

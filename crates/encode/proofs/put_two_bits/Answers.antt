@@ -1,4 +1,3 @@
-use Rattle.lists.specs.Kit.{rules}
 use Rattle.algebra.specs.Group.{num}
 use Rattle.encode.specs.Encode.{two_bits}
 use Rattle.encode.proofs.Laws.{bytes-two}

@@ -1,12 +1,11 @@
-use Rattle.lists.specs.Kit.{◌≡◌, refl, ap, ◌∙◌, List, ℕ, ◌+◌, ◌*◌, arith, length, rules}
+use Rattle.std.specs.Prelude.{◌≡◌, ◌+◌, ◌*◌}
+use Rattle.lists.specs.Kit.{refl, ap, ◌∙◌, List, ℕ, arith, length}
 use Rattle.share.specs.Layout.{record_len, record-most}
-use Rattle.engine.specs.declared.Frame.{Frame}
 use Rattle.engine.specs.Area.{off}
 use Rattle.rounds.specs.Area.{BITS, PERM, TRIPLES, ALPHA, BETA, size_of, at}
 use Rattle.area.specs.GivenLaws.{length_at, place_at, place-fits}
 use Rattle.area.specs.Sizes.{size-perm}
 use Rattle.buckets.specs.Entries.{y_at, first-in}
-use Rattle.faand.specs.declared.Records.{Records}
 use Rattle.faand.specs.Given.{Reads, reads}
 use Rattle.faand.proofs.bucket.Goals as goal
 use Rattle.faand.proofs.bucket.Goals.{After-y_at, Start}

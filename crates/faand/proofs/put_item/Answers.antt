@@ -1,4 +1,5 @@
-use Rattle.lists.specs.Kit.{List, ◌∙◌, ℕ, ◌+◌, ◌<◌, ◌≤◌, arith, length, rules}
+use Rattle.std.specs.Prelude.{◌+◌, ◌<◌, ◌≤◌}
+use Rattle.lists.specs.Kit.{List, ◌∙◌, ℕ, arith, length}
 use Rattle.share.specs.Layout.{record_len, record-within, record-some}
 use Rattle.faand.specs.ItemLaws.{four}
 use Rattle.faand.proofs.put_item.Goals as goal

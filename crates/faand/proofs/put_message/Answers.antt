@@ -1,8 +1,9 @@
-use Rattle.lists.specs.Kit.{◌≡◌, refl, sym, ◌∙◌, List, ℕ, ◌+◌, ◌-◌, ◌*◌, ◌<◌, ◌≤◌, arith, length, rules}
-use Rattle.encode.specs.Stretch.{Stretch, stretch-count, stretch-self, even-turn, even-end, in_list}
+use Rattle.std.specs.Prelude.{◌≡◌, ◌+◌, ◌-◌, ◌*◌, ◌<◌, ◌≤◌}
+use Rattle.lists.specs.Kit.{refl, sym, ◌∙◌, ℕ, arith, length}
+use Rattle.encode.specs.Stretch.{stretch-count, stretch-self, even-turn, even-end, in_list}
 use Rattle.rounds.specs.Loops.{lent-part}
 use Rattle.rounds.specs.Beaver as R
-use Rattle.faand.specs.ItemLaws.{told, item, length-item}
+use Rattle.faand.specs.ItemLaws.{item, length-item}
 use Rattle.faand.proofs.put_message.Goals as goal
 use Rattle.faand.proofs.put_message.Goals.{In-loop-j, Start}
 

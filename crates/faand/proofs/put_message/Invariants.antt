@@ -1,9 +1,8 @@
 -- The loop's invariant: the count and the items of the first j buckets are written.
-use Rattle.lists.specs.Kit.{◌≡◌, refl, sym, ◌∙◌, List, ℕ, ◌+◌, ◌-◌, ◌*◌, ◌<◌, ◌≤◌, arith, length, rules}
-use Rattle.encode.specs.Stretch.{Stretch, stretch-count, stretch-self, even-turn, even-end, in_list}
-use Rattle.rounds.specs.Loops.{lent-part}
-use Rattle.rounds.specs.Beaver as R
-use Rattle.faand.specs.ItemLaws.{told, item, length-item}
+use Rattle.std.specs.Prelude.{◌≡◌, ◌+◌, ◌-◌, ◌*◌, ◌≤◌}
+use Rattle.lists.specs.Kit.{length}
+use Rattle.encode.specs.Stretch.{Stretch}
+use Rattle.faand.specs.ItemLaws.{told, item}
 use Rattle.faand.proofs.put_message.Given as goal
 
 abbrev pub invariant-loop-j : goal.invariant-loop-j

@@ -1,6 +1,7 @@
-use Rattle.lists.specs.Kit.{◌≡◌, refl, sym, ap, ◌∙◌, List, ℕ, ◌+◌, ◌-◌, ◌*◌, ◌<◌, ◌≤◌, arith, length, rules}
+use Rattle.std.specs.Prelude.{◌≡◌, ◌+◌, ◌-◌, ◌*◌, ◌<◌, ◌≤◌}
+use Rattle.lists.specs.Kit.{refl, sym, ap, ◌∙◌, arith, length}
 use Rattle.engine.specs.Area.{nth-below}
-use Rattle.rounds.specs.Loops.{lent-part, Sent, sent-none, sent-in, sent_back, sent-end}
+use Rattle.rounds.specs.Loops.{lent-part, sent-none, sent-in, sent_back, sent-end}
 use Rattle.faand.specs.ItemLaws.{message, told_is}
 use Rattle.faand.proofs.write.Goals as goal
 use Rattle.faand.proofs.write.Goals.{At-loop-q}

@@ -1,8 +1,7 @@
 -- The loop's invariant: the messages to the first q parties but i are written.
-use Rattle.lists.specs.Kit.{◌≡◌, refl, sym, ap, ◌∙◌, List, ℕ, ◌+◌, ◌-◌, ◌*◌, ◌<◌, ◌≤◌, arith, length, rules}
-use Rattle.engine.specs.Area.{nth-below}
-use Rattle.rounds.specs.Loops.{lent-part, Sent, sent-none, sent-in, sent_back, sent-end}
-use Rattle.faand.specs.ItemLaws.{message, told_is}
+use Rattle.std.specs.Prelude.{◌-◌, ◌≤◌}
+use Rattle.rounds.specs.Loops.{Sent}
+use Rattle.faand.specs.ItemLaws.{message}
 use Rattle.faand.proofs.write.Given as goal
 
 abbrev pub invariant-loop-q : goal.invariant-loop-q

@@ -1,4 +1,5 @@
-use Rattle.lists.specs.Kit.{◌≡◌, sym, ap, ◌∙◌, List, Bool, ℕ, arith, length, rules}
+use Rattle.std.specs.Prelude.{◌≡◌}
+use Rattle.lists.specs.Kit.{sym, ap, ◌∙◌, List, Bool, ℕ, arith, length}
 use Rattle.lists.specs.Pick.{pick}
 use Rattle.lists.specs.All.{all_of}
 use Rattle.rounds.specs.Mail.{letter}

@@ -1,4 +1,5 @@
-use Rattle.lists.specs.Kit.{◌+◌, ◌*◌, ◌<◌, ◌≤◌, arith, length, rules}
+use Rattle.std.specs.Prelude.{◌+◌, ◌*◌, ◌<◌, ◌≤◌}
+use Rattle.lists.specs.Kit.{arith, length}
 use Rattle.share.specs.Layout.{record_len, record-within}
 use Rattle.faand.specs.ItemLaws.{item_in}
 use Rattle.faand_recv.specs.CheckLaws.{both_hold}

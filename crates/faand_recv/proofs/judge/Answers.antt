@@ -1,6 +1,7 @@
-use Rattle.lists.specs.Kit.{◌≡◌, sym, ap, ◌∙◌, List, ℕ, ◌-◌, ◌≤◌, arith, rules}
+use Rattle.std.specs.Prelude.{◌≡◌, ◌-◌}
+use Rattle.lists.specs.Kit.{sym, ap, ◌∙◌, arith, rules}
 use Rattle.block.specs.declared.Block.{Block}
-use Rattle.engine.specs.Step.{scan, by_party}
+use Rattle.engine.specs.Step.{by_party}
 use Rattle.engine.specs.StepLaws.{scan-turn}
 use Rattle.rounds.specs.Area.{BITS, PERM, TRIPLES, ALPHA, BETA, at}
 use Rattle.rounds.specs.Mail.{letter}

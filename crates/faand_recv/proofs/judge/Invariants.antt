@@ -1,15 +1,9 @@
 -- The loop's invariant: the first k parties have no fault.
-use Rattle.lists.specs.Kit.{◌≡◌, sym, ap, ◌∙◌, List, ℕ, ◌-◌, ◌≤◌, arith, rules}
-use Rattle.block.specs.declared.Block.{Block}
-use Rattle.engine.specs.Step.{scan, by_party}
-use Rattle.engine.specs.StepLaws.{scan-turn}
-use Rattle.rounds.specs.Area.{BITS, PERM, TRIPLES, ALPHA, BETA, at}
+use Rattle.std.specs.Prelude.{◌≡◌, ◌-◌, ◌≤◌}
+use Rattle.engine.specs.Step.{scan}
 use Rattle.rounds.specs.Mail.{letter}
-use Rattle.rounds.specs.FaultLaws.{fault_at, clean-zero, finds-first, finds-none}
-use Rattle.rounds.specs.Beaver as R
-use Rattle.rounds.specs.Table as Table
-use Rattle.faand.specs.ItemLaws.{arrived}
-use Rattle.faand_recv.specs.CheckLaws.{de_fault, faults-by}
+use Rattle.rounds.specs.FaultLaws.{fault_at}
+use Rattle.faand_recv.specs.CheckLaws.{de_fault}
 use Rattle.faand_recv.proofs.judge.Given as goal
 
 abbrev pub invariant-loop-k : goal.invariant-loop-k

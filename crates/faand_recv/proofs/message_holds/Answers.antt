@@ -1,4 +1,5 @@
-use Rattle.lists.specs.Kit.{◌≡◌, sym, ap, ◌∙◌, Bool, ℕ, ◌-◌, ◌≤◌, arith, rules}
+use Rattle.std.specs.Prelude.{◌≡◌, ◌-◌}
+use Rattle.lists.specs.Kit.{sym, ap, ◌∙◌, arith}
 use Rattle.lists.specs.All.{all_of, all-zero, all_more}
 use Rattle.faand_recv.specs.CheckLaws.{holds}
 use Rattle.faand_recv.proofs.message_holds.Goals as goal

@@ -1,6 +1,6 @@
 -- The loop's invariant: ok says whether the MACs of the first j buckets hold.
-use Rattle.lists.specs.Kit.{◌≡◌, sym, ap, ◌∙◌, Bool, ℕ, ◌-◌, ◌≤◌, arith, rules}
-use Rattle.lists.specs.All.{all_of, all-zero, all_more}
+use Rattle.std.specs.Prelude.{◌≡◌, ◌-◌, ◌≤◌}
+use Rattle.lists.specs.All.{all_of}
 use Rattle.faand_recv.specs.CheckLaws.{holds}
 use Rattle.faand_recv.proofs.message_holds.Given as goal
 

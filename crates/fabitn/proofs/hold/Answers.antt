@@ -1,4 +1,5 @@
-use Rattle.lists.specs.Kit.{◌≡◌, refl, sym, ap, ◌∙◌, subst, List, ℕ, ◌+◌, ◌-◌, ◌*◌, ◌≤◌, arith, rules}
+use Rattle.std.specs.Prelude.{◌≡◌, ◌+◌, ◌-◌, ◌*◌}
+use Rattle.lists.specs.Kit.{refl, sym, ap, ◌∙◌, subst, List, ℕ, arith, rules}
 use Rattle.lists.specs.Sect.{put}
 use Rattle.engine.specs.declared.Frame.{Frame}
 use Rattle.engine.specs.Area.{off}

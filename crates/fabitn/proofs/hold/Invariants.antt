@@ -1,14 +1,10 @@
 -- The loop's invariant: the rows of the first k parties are kept.
-use Rattle.lists.specs.Kit.{◌≡◌, refl, sym, ap, ◌∙◌, subst, List, ℕ, ◌+◌, ◌-◌, ◌*◌, ◌≤◌, arith, rules}
-use Rattle.lists.specs.Sect.{put}
-use Rattle.engine.specs.declared.Frame.{Frame}
-use Rattle.engine.specs.Area.{off}
-use Rattle.rounds.specs.Area.{KEY_SUMS, sizes, size_of, keep}
+use Rattle.std.specs.Prelude.{◌-◌, ◌≤◌}
+use Rattle.rounds.specs.Area.{KEY_SUMS}
 use Rattle.rounds.specs.Fabitn.{ROW}
-use Rattle.rounds.specs.Loops.{row_of, rows_of, length-row_of}
-use Rattle.area.specs.Filled.{Filled, filled_none, filled-work, filled_put, filled-end}
+use Rattle.rounds.specs.Loops.{row_of}
+use Rattle.area.specs.Filled.{Filled}
 use Rattle.fabitn.specs.Rows.{held_row}
-use Rattle.fabitn.specs.Laws.{length-held}
 use Rattle.fabitn.proofs.hold.Given as goal
 
 abbrev pub invariant-loop-k : goal.invariant-loop-k

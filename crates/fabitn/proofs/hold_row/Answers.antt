@@ -1,5 +1,6 @@
 -- The own row is cleared, any other one is of its party.
-use Rattle.lists.specs.Kit.{◌≡◌, refl, sym, ap, ◌∙◌, List, ℕ, ◌+◌, ◌-◌, ◌*◌, ◌<◌, ◌≤◌, arith, length, replicate, rules}
+use Rattle.std.specs.Prelude.{◌≡◌, ◌+◌, ◌-◌, ◌*◌, ◌<◌, ◌≤◌}
+use Rattle.lists.specs.Kit.{refl, sym, ap, ◌∙◌, List, ℕ, arith, length, replicate}
 use Rattle.lists.specs.Over.{cat}
 use Rattle.lists.specs.Sect.{put}
 use Rattle.block.specs.Block.{bytes_of}

@@ -1,4 +1,5 @@
-use Rattle.lists.specs.Kit.{◌≡◌, ap, ◌∙◌, List, ℕ, ◌-◌, ◌*◌, length, rules}
+use Rattle.std.specs.Prelude.{◌≡◌, ◌-◌, ◌*◌}
+use Rattle.lists.specs.Kit.{ap, ◌∙◌, List, ℕ, length}
 use Rattle.lists.specs.Over.{length-tab}
 use Rattle.plan.specs.Plan.{msg_len, list_len, count_due, kind_of}
 use Rattle.engine.specs.Area.{to_others}

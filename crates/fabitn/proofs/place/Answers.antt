@@ -1,4 +1,3 @@
-use Rattle.lists.specs.Kit.{rules}
 use Rattle.fabitn.specs.Laws.{place-low, place-high}
 use Rattle.fabitn.proofs.place.Goals as goal
 

@@ -1,9 +1,7 @@
-use Rattle.lists.specs.Kit.{refl, List, ℕ, ◌+◌, ◌-◌, ◌*◌, ◌≤◌, arith, get_or, rules}
-use Rattle.lists.specs.Over.{Written, length-take-drop}
+use Rattle.std.specs.Prelude.{◌+◌, ◌-◌, ◌*◌}
+use Rattle.lists.specs.Kit.{refl, arith, rules}
+use Rattle.lists.specs.Over.{length-take-drop}
 use Rattle.lists.specs.Rows.{even-zero, even-put, even-end}
-use Rattle.algebra.specs.Group.{odd}
-use Rattle.rbits.specs.Chosen.{pair_at}
-use Rattle.encode.specs.Encode.{encode, bit_block}
 use Rattle.encode.specs.Coded.{length-encode, length-bit_block}
 use Rattle.rounds.specs.Fabitn.{STRINGS, ITEM, MSG}
 use Rattle.fabitn.proofs.write.Goals as goal

@@ -1,12 +1,11 @@
 -- The loop's invariant: the messages of the first q of the others are written.
-use Rattle.lists.specs.Kit.{refl, List, ℕ, ◌+◌, ◌-◌, ◌*◌, ◌≤◌, arith, get_or, rules}
-use Rattle.lists.specs.Over.{Written, length-take-drop}
-use Rattle.lists.specs.Rows.{even-zero, even-put, even-end}
+use Rattle.std.specs.Prelude.{◌+◌, ◌-◌, ◌*◌, ◌≤◌}
+use Rattle.lists.specs.Kit.{List, ℕ, get_or}
+use Rattle.lists.specs.Over.{Written}
 use Rattle.algebra.specs.Group.{odd}
 use Rattle.rbits.specs.Chosen.{pair_at}
 use Rattle.encode.specs.Encode.{encode, bit_block}
-use Rattle.encode.specs.Coded.{length-encode, length-bit_block}
-use Rattle.rounds.specs.Fabitn.{STRINGS, ITEM, MSG}
+use Rattle.rounds.specs.Fabitn.{STRINGS, MSG}
 use Rattle.fabitn.proofs.write.Given as goal
 
 abbrev pub message : List ℕ → List ℕ → ℕ → List ℕ

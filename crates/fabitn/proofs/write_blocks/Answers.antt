@@ -1,5 +1,6 @@
-use Rattle.lists.specs.Kit.{refl, ◌+◌, ◌-◌, ◌*◌, ◌≤◌, arith, rules}
-use Rattle.lists.specs.Over.{Written, written-zero}
+use Rattle.std.specs.Prelude.{◌+◌, ◌-◌, ◌*◌}
+use Rattle.lists.specs.Kit.{refl, arith, rules}
+use Rattle.lists.specs.Over.{written-zero}
 use Rattle.lists.specs.Rows.{even-put, even-end}
 use Rattle.block.specs.Block.{bytes_of}
 use Rattle.block.specs.Trip.{length-bytes_of}

@@ -1,9 +1,7 @@
 -- The loop's invariant: the first j Blocks are written.
-use Rattle.lists.specs.Kit.{refl, ◌+◌, ◌-◌, ◌*◌, ◌≤◌, arith, rules}
-use Rattle.lists.specs.Over.{Written, written-zero}
-use Rattle.lists.specs.Rows.{even-put, even-end}
+use Rattle.std.specs.Prelude.{◌+◌, ◌-◌, ◌*◌, ◌≤◌}
+use Rattle.lists.specs.Over.{Written}
 use Rattle.block.specs.Block.{bytes_of}
-use Rattle.block.specs.Trip.{length-bytes_of}
 use Rattle.rbits.specs.Chosen.{pair_at}
 use Rattle.rounds.specs.Fabitn.{STRINGS}
 use Rattle.fabitn.proofs.write_blocks.Given as goal

@@ -1,10 +1,10 @@
-use Rattle.lists.specs.Kit.{◌≡◌, refl, sym, ap, ◌∙◌, List, ℕ, ◌+◌, ◌-◌, ◌*◌, ◌≤◌, arith, length, get_or, rules}
-use Rattle.algebra.specs.Group.{odd}
+use Rattle.std.specs.Prelude.{◌+◌, ◌-◌, ◌*◌}
+use Rattle.lists.specs.Kit.{refl, sym, ap, ◌∙◌, arith, rules}
 use Rattle.rbits.specs.Chosen.{pair_at}
 use Rattle.encode.specs.Encode.{bit_block}
 use Rattle.encode.specs.Coded.{length-bit_block}
-use Rattle.encode.specs.Stretch.{Stretch, stretch-count, stretch-self, even-turn, even-end}
-use Rattle.rounds.specs.Fabitn.{STRINGS, ITEM, MSG}
+use Rattle.encode.specs.Stretch.{stretch-count, stretch-self, even-turn, even-end}
+use Rattle.rounds.specs.Fabitn.{STRINGS, ITEM}
 use Rattle.fabitn.proofs.write_items.Goals as goal
 use Rattle.fabitn.proofs.write_items.Invariants.{item}
 

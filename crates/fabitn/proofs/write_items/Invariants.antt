@@ -1,10 +1,10 @@
 -- The loop's invariant: the count and the first j items are written.
-use Rattle.lists.specs.Kit.{◌≡◌, refl, sym, ap, ◌∙◌, List, ℕ, ◌+◌, ◌-◌, ◌*◌, ◌≤◌, arith, length, get_or, rules}
+use Rattle.std.specs.Prelude.{◌≡◌, ◌+◌, ◌-◌, ◌*◌, ◌≤◌}
+use Rattle.lists.specs.Kit.{List, ℕ, length, get_or}
 use Rattle.algebra.specs.Group.{odd}
 use Rattle.rbits.specs.Chosen.{pair_at}
 use Rattle.encode.specs.Encode.{bit_block}
-use Rattle.encode.specs.Coded.{length-bit_block}
-use Rattle.encode.specs.Stretch.{Stretch, stretch-count, stretch-self, even-turn, even-end}
+use Rattle.encode.specs.Stretch.{Stretch}
 use Rattle.rounds.specs.Fabitn.{STRINGS, ITEM, MSG}
 use Rattle.fabitn.proofs.write_items.Given as goal
 

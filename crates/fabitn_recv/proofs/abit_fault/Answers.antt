@@ -1,4 +1,5 @@
-use Rattle.lists.specs.Kit.{◌≡◌, sym, ap, ap₂, ◌∙◌, rules}
+use Rattle.std.specs.Prelude.{◌≡◌}
+use Rattle.lists.specs.Kit.{sym, ap, ap₂, ◌∙◌}
 use Rattle.lists.specs.Pick.{pick}
 use Rattle.algebra.specs.Group.{sel}
 use Rattle.block.specs.Block.{eq_block}

@@ -1,9 +1,7 @@
-use Rattle.lists.specs.Kit.{◌≡◌, sym, ◌∙◌, ◌-◌, ◌≤◌, arith, rules}
-use Rattle.engine.specs.Step.{scan}
+use Rattle.std.specs.Prelude.{◌-◌}
+use Rattle.lists.specs.Kit.{sym, ◌∙◌, arith, rules}
 use Rattle.engine.specs.StepLaws.{scan-turn}
-use Rattle.rounds.specs.Mail.{letter}
-use Rattle.rounds.specs.Fabitn as Fabitn
-use Rattle.rounds.specs.FaultLaws.{fault_at, clean-zero, finds-first, finds-none}
+use Rattle.rounds.specs.FaultLaws.{clean-zero, finds-first, finds-none}
 use Rattle.fabitn_recv.proofs.check_string.Goals as goal
 
 pub loop-k-init : goal.loop-k-init

@@ -1,7 +1,6 @@
-use Rattle.lists.specs.Kit.{◌≡◌, ap, ◌∙◌, ◌-◌, ◌≤◌, arith, length, rules}
-use Rattle.engine.specs.Step.{by_party}
-use Rattle.rounds.specs.Area.{KEY_SUMS, sizes, size_of, first_of}
-use Rattle.rounds.specs.Mail.{letter}
+use Rattle.std.specs.Prelude.{◌-◌}
+use Rattle.lists.specs.Kit.{ap, ◌∙◌, arith, length, rules}
+use Rattle.rounds.specs.Area.{KEY_SUMS, sizes, size_of}
 use Rattle.rounds.specs.Fabitn as Fabitn
 use Rattle.rounds.specs.Fabitn.{STRINGS}
 use Rattle.rounds.specs.FaultLaws.{first-zero, item-first, item-next, item-none}

@@ -1,12 +1,10 @@
 -- The loop's invariant: the first j strings have no fault.
-use Rattle.lists.specs.Kit.{◌≡◌, ap, ◌∙◌, ◌-◌, ◌≤◌, arith, length, rules}
+use Rattle.std.specs.Prelude.{◌≡◌, ◌-◌, ◌≤◌}
 use Rattle.engine.specs.Step.{by_party}
-use Rattle.rounds.specs.Area.{KEY_SUMS, sizes, size_of, first_of}
+use Rattle.rounds.specs.Area.{first_of}
 use Rattle.rounds.specs.Mail.{letter}
 use Rattle.rounds.specs.Fabitn as Fabitn
 use Rattle.rounds.specs.Fabitn.{STRINGS}
-use Rattle.rounds.specs.FaultLaws.{first-zero, item-first, item-next, item-none}
-use Rattle.area.specs.GivenLaws.{length_at}
 use Rattle.fabitn_recv.proofs.judge.Given as goal
 
 abbrev pub invariant-loop-j : goal.invariant-loop-j

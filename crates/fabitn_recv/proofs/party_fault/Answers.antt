@@ -1,4 +1,4 @@
-use Rattle.lists.specs.Kit.{ap, ◌∙◌, List, ℕ, arith, rules}
+use Rattle.lists.specs.Kit.{ap, ◌∙◌, List, ℕ, arith}
 use Rattle.rounds.specs.Mail.{letter}
 use Rattle.rounds.specs.MailLaws.{letter-fits, letter-long}
 use Rattle.rounds.specs.Fabitn as Fabitn

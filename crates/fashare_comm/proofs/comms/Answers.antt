@@ -1,5 +1,5 @@
-use Rattle.lists.specs.Kit.{◌≡◌, refl, ◌-◌, ◌*◌, ◌≤◌, arith, length, rules}
-use Rattle.lists.specs.Over.{Written}
+use Rattle.std.specs.Prelude.{◌-◌}
+use Rattle.lists.specs.Kit.{refl, arith}
 use Rattle.lists.specs.Rows.{even-zero, even-turn, even-end}
 use Rattle.rounds.specs.Fashare.{STRINGS, COMM}
 use Rattle.fashare_comm.specs.Laws.{comm_item}

@@ -1,7 +1,7 @@
 -- The loop's invariant: the commitments of the first q strings are written.
-use Rattle.lists.specs.Kit.{◌≡◌, refl, ◌-◌, ◌*◌, ◌≤◌, arith, length, rules}
+use Rattle.std.specs.Prelude.{◌≡◌, ◌-◌, ◌*◌, ◌≤◌}
+use Rattle.lists.specs.Kit.{length}
 use Rattle.lists.specs.Over.{Written}
-use Rattle.lists.specs.Rows.{even-zero, even-turn, even-end}
 use Rattle.rounds.specs.Fashare.{STRINGS, COMM}
 use Rattle.fashare_comm.specs.Laws.{comm_item}
 use Rattle.fashare_comm.proofs.comms.Given as goal

@@ -1,6 +1,7 @@
-use Rattle.lists.specs.Kit.{◌≡◌, ap, ◌∙◌, ◌-◌, ◌≤◌, arith, rules}
+use Rattle.std.specs.Prelude.{◌-◌}
+use Rattle.lists.specs.Kit.{ap, ◌∙◌, arith, rules}
 use Rattle.algebra.specs.Group.{sel}
-use Rattle.algebra.specs.Sum.{neq, others}
+use Rattle.algebra.specs.Sum.{neq}
 use Rattle.block.specs.Group.{blocks}
 use Rattle.share.specs.Record.{key_at}
 use Rattle.rounds.specs.Loops.{others-none, others-turn}

@@ -1,11 +1,8 @@
 -- The loop's invariant: the sum has the first k parties' keys, the own one left out.
-use Rattle.lists.specs.Kit.{◌≡◌, ap, ◌∙◌, ◌-◌, ◌≤◌, arith, rules}
-use Rattle.algebra.specs.Group.{sel}
-use Rattle.algebra.specs.Sum.{neq, others}
+use Rattle.std.specs.Prelude.{◌≡◌, ◌-◌, ◌≤◌}
+use Rattle.algebra.specs.Sum.{others}
 use Rattle.block.specs.Group.{blocks}
 use Rattle.share.specs.Record.{key_at}
-use Rattle.rounds.specs.Loops.{others-none, others-turn}
-use Rattle.fashare_comm.specs.Laws.{entry_in, d0-is}
 use Rattle.fashare_comm.proofs.d0.Given as goal
 
 abbrev pub invariant-loop-k : goal.invariant-loop-k

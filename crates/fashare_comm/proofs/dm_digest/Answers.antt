@@ -1,4 +1,5 @@
-use Rattle.lists.specs.Kit.{◌≡◌, sym, ap, ◌∙◌, ◌≤◌, arith, length, rules}
+use Rattle.std.specs.Prelude.{◌≡◌, ◌≤◌}
+use Rattle.lists.specs.Kit.{sym, ap, ◌∙◌, arith, length}
 use lib.ListN.{length-append}
 use lib.Seq.{length-take-le, take_at}
 use Rattle.blake3.specs.Tree as T

@@ -1,14 +1,14 @@
-use Rattle.lists.specs.Kit.{◌≡◌, refl, sym, ap, ◌∙◌, ◌≢◌, List, ℕ, ◌+◌, ◌-◌, ◌*◌, ◌≤◌, arith, length, rules}
+use Rattle.std.specs.Prelude.{◌≡◌, ◌≢◌, ◌+◌, ◌-◌, ◌*◌, ◌≤◌}
+use Rattle.lists.specs.Kit.{refl, sym, ap, ◌∙◌, List, ℕ, arith, length, rules}
 use Rattle.lists.specs.Sect.{length-get}
 use Rattle.engine.specs.declared.Frame.{Frame}
 use Rattle.rounds.specs.Area.{SHARE_COMMS, sizes, size_of, keep}
-use Rattle.rounds.specs.declared.Mail.{Mail}
 use Rattle.rounds.specs.Mail.{letter}
 use Rattle.rounds.specs.MailLaws.{letter-long}
-use Rattle.rounds.specs.Loops.{row_of, rows_of, length-row_of}
+use Rattle.rounds.specs.Loops.{rows_of, length-row_of}
 use Rattle.rounds.specs.Fashare as Fashare
 use Rattle.rounds.specs.Fashare.{COMM_ROW, comms_in}
-use Rattle.area.specs.Filled.{Filled, filled_none, filled_put, filled-end, row_in, row-lent}
+use Rattle.area.specs.Filled.{filled_none, filled_put, filled-end, row_in, row-lent}
 use Rattle.fashare_comm.proofs.keep.Goals as goal
 use Rattle.fashare_comm.proofs.keep.Invariants.{row}
 use Rattle.fashare_comm.proofs.keep.Goals.{In-loop-k}

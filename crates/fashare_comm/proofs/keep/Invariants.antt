@@ -1,15 +1,13 @@
 -- The loop's invariant: the rows of the first k parties are kept.
-use Rattle.lists.specs.Kit.{◌≡◌, refl, sym, ap, ◌∙◌, ◌≢◌, List, ℕ, ◌+◌, ◌-◌, ◌*◌, ◌≤◌, arith, length, rules}
-use Rattle.lists.specs.Sect.{length-get}
+use Rattle.std.specs.Prelude.{◌-◌, ◌≤◌}
+use Rattle.lists.specs.Kit.{List, ℕ}
 use Rattle.engine.specs.declared.Frame.{Frame}
-use Rattle.rounds.specs.Area.{SHARE_COMMS, sizes, size_of, keep}
+use Rattle.rounds.specs.Area.{SHARE_COMMS}
 use Rattle.rounds.specs.declared.Mail.{Mail}
 use Rattle.rounds.specs.Mail.{letter}
-use Rattle.rounds.specs.MailLaws.{letter-long}
-use Rattle.rounds.specs.Loops.{row_of, rows_of, length-row_of}
-use Rattle.rounds.specs.Fashare as Fashare
+use Rattle.rounds.specs.Loops.{row_of}
 use Rattle.rounds.specs.Fashare.{COMM_ROW, comms_in}
-use Rattle.area.specs.Filled.{Filled, filled_none, filled_put, filled-end, row_in, row-lent}
+use Rattle.area.specs.Filled.{Filled}
 use Rattle.fashare_comm.proofs.keep.Given as goal
 
 abbrev pub row : List ℕ → Mail → Frame → ℕ → List ℕ

@@ -1,4 +1,5 @@
-use Rattle.lists.specs.Kit.{sym, ap, ◌∙◌, List, ℕ, ◌≤◌, arith, length, take, drop, replicate, rules}
+use Rattle.std.specs.Prelude.{◌≤◌}
+use Rattle.lists.specs.Kit.{sym, ap, ◌∙◌, List, ℕ, arith, length, take, drop, replicate}
 use lib.Seq.{take_all}
 use Rattle.lists.specs.Sect.{length-get}
 use Rattle.rounds.specs.Fashare.{COMM_ROW, COMM_MSG}

@@ -1,4 +1,5 @@
-use Rattle.lists.specs.Kit.{ap₂, ◌+◌, ◌*◌, arith, rules}
+use Rattle.std.specs.Prelude.{◌+◌, ◌*◌}
+use Rattle.lists.specs.Kit.{ap₂, arith}
 use Rattle.plan.specs.PlanLaws.{leaky-most}
 use Rattle.fashare_comm.specs.Laws.{record-small}
 use Rattle.fashare_comm.proofs.record_at.Goals as goal

@@ -1,4 +1,5 @@
-use Rattle.lists.specs.Kit.{◌≡◌, sym, ap, ◌∙◌, List, ◌++◌, ℕ, ◌+◌, ◌-◌, ◌*◌, length, rules}
+use Rattle.std.specs.Prelude.{◌≡◌, ◌++◌, ◌+◌, ◌-◌, ◌*◌}
+use Rattle.lists.specs.Kit.{sym, ap, ◌∙◌, List, ℕ, length}
 use Rattle.lists.specs.Over.{length-cat}
 use Rattle.block.specs.Block.{le8}
 use Rattle.encode.specs.Encode.{encode}

@@ -1,4 +1,4 @@
-use Rattle.lists.specs.Kit.{ap, ◌∙◌, arith, rules}
+use Rattle.lists.specs.Kit.{ap, ◌∙◌, arith}
 use Rattle.block.specs.Block.{bytes_of}
 use Rattle.block.specs.Group.{blocks}
 use Rattle.blake3.specs.Tree as T

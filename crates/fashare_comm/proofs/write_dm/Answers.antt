@@ -1,6 +1,7 @@
-use Rattle.lists.specs.Kit.{◌≡◌, sym, ap, ◌∙◌, [], ◌∷◌, ◌+◌, ◌-◌, ◌*◌, ◌<◌, ◌≤◌, arith, length, rules}
+use Rattle.std.specs.Prelude.{◌≡◌, ◌∷◌, ◌+◌, ◌-◌, ◌*◌, ◌<◌}
+use Rattle.lists.specs.Kit.{sym, ap, ◌∙◌, [], arith, length, rules}
 use lib.ListN.{length-set}
-use Rattle.lists.specs.Over.{Written, written-turn, written-end}
+use Rattle.lists.specs.Over.{written-turn, written-end}
 use Rattle.algebra.specs.Group.{num}
 use Rattle.block.specs.Block.{bytes_of}
 use Rattle.block.specs.Trip.{length-bytes_of}

@@ -1,15 +1,9 @@
 -- The loop's invariant: the bit and the first p MACs are written.
-use Rattle.lists.specs.Kit.{◌≡◌, sym, ap, ◌∙◌, [], ◌∷◌, ◌+◌, ◌-◌, ◌*◌, ◌<◌, ◌≤◌, arith, length, rules}
-use lib.ListN.{length-set}
-use Rattle.lists.specs.Over.{Written, written-turn, written-end}
-use Rattle.algebra.specs.Group.{num}
-use Rattle.block.specs.Block.{bytes_of}
-use Rattle.block.specs.Trip.{length-bytes_of}
-use Rattle.share.specs.Layout.{record-some}
-use Rattle.share.specs.Record.{mac_at}
+use Rattle.std.specs.Prelude.{◌≡◌, ◌+◌, ◌-◌, ◌*◌, ◌≤◌}
+use Rattle.lists.specs.Kit.{length}
+use Rattle.lists.specs.Over.{Written}
 use Rattle.plan.specs.Plan.{dm_len}
-use Rattle.engine.specs.Area.{nth-below}
-use Rattle.fashare_comm.specs.Laws.{record-in, entry_in, dm_part, part-next, dm-first, dm-is}
+use Rattle.fashare_comm.specs.Laws.{dm_part}
 use Rattle.fashare_comm.proofs.write_dm.Given as goal
 
 abbrev pub invariant-loop-p : goal.invariant-loop-p

@@ -1,10 +1,9 @@
 -- The loop's invariant: the first k parties have no fault.
-use Rattle.lists.specs.Kit.{◌≡◌, sym, ◌∙◌, ◌-◌, ◌≤◌, arith, rules}
+use Rattle.std.specs.Prelude.{◌≡◌, ◌-◌, ◌≤◌}
 use Rattle.engine.specs.Step.{scan}
-use Rattle.engine.specs.StepLaws.{scan-turn}
 use Rattle.rounds.specs.Mail.{letter}
 use Rattle.rounds.specs.Fashare as Fashare
-use Rattle.rounds.specs.FaultLaws.{fault_at, clean-zero, finds-first, finds-none}
+use Rattle.rounds.specs.FaultLaws.{fault_at}
 use Rattle.fashare_dibi.proofs.check_string.Given as goal
 
 abbrev pub invariant-loop-k : goal.invariant-loop-k

@@ -1,4 +1,5 @@
-use Rattle.lists.specs.Kit.{◌≡◌, refl, sym, ap, ap₂, ◌∙◌, Bool, true, false, not, ◌||◌, ℕ, ◌+◌, ◌*◌, take, drop, rules}
+use Rattle.std.specs.Prelude.{◌≡◌, ◌||◌, ◌+◌, ◌*◌}
+use Rattle.lists.specs.Kit.{refl, sym, ap, ap₂, ◌∙◌, Bool, true, false, ℕ, take, drop}
 use Rattle.lists.specs.Pick.{pick}
 use Rattle.lists.specs.All.{true-false}
 use Rattle.lists.specs.Same.{same?}

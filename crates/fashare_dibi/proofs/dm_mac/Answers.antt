@@ -1,4 +1,5 @@
-use Rattle.lists.specs.Kit.{refl, sym, ap, ap₂, ◌∙◌, ◌+◌, ◌≤◌, arith, length, rules}
+use Rattle.std.specs.Prelude.{◌+◌, ◌≤◌}
+use Rattle.lists.specs.Kit.{refl, sym, ap, ap₂, ◌∙◌, arith, length}
 use Rattle.algebra.specs.Group.{sel, sel-nil}
 use Rattle.algebra.specs.Sum.{neq}
 use Rattle.block.specs.Block.{block_at}

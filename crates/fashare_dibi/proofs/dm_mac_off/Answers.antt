@@ -1,4 +1,5 @@
-use Rattle.lists.specs.Kit.{sym, ap, ◌+◌, ◌-◌, ◌*◌, rules}
+use Rattle.std.specs.Prelude.{◌+◌, ◌-◌, ◌*◌}
+use Rattle.lists.specs.Kit.{sym, ap}
 use borrow.Author.Tests.{lt-ltb, le-ltb}
 use Rattle.lists.specs.Pick.{pick}
 use Rattle.rounds.specs.Fashare.{dm_mac}

@@ -1,4 +1,5 @@
-use Rattle.lists.specs.Kit.{ap, ◌+◌, ◌*◌, arith, rules}
+use Rattle.std.specs.Prelude.{◌+◌, ◌*◌}
+use Rattle.lists.specs.Kit.{ap, arith}
 use Rattle.rounds.specs.Fashare.{STRINGS}
 use Rattle.fashare_dibi.specs.Laws.{dm-most}
 use Rattle.fashare_dibi.proofs.dm_row.Goals as goal

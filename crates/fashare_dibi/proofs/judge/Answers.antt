@@ -1,7 +1,6 @@
-use Rattle.lists.specs.Kit.{◌≡◌, ◌-◌, ◌≤◌, arith, rules}
-use Rattle.engine.specs.Step.{by_party}
-use Rattle.rounds.specs.Area.{SHARE_COMMS, first_of}
-use Rattle.rounds.specs.Mail.{letter}
+use Rattle.std.specs.Prelude.{◌-◌}
+use Rattle.lists.specs.Kit.{arith, rules}
+use Rattle.rounds.specs.Area.{SHARE_COMMS}
 use Rattle.rounds.specs.Fashare as Fashare
 use Rattle.rounds.specs.Fashare.{STRINGS}
 use Rattle.rounds.specs.FaultLaws.{first-zero, item-first, item-next, item-none}

@@ -1,10 +1,10 @@
-use Rattle.lists.specs.Kit.{◌≡◌, ap, ◌∙◌, ◌-◌, ◌≤◌, arith, rules}
-use Rattle.algebra.specs.Sum.{others}
+use Rattle.std.specs.Prelude.{◌-◌}
+use Rattle.lists.specs.Kit.{ap, ◌∙◌, arith, rules}
 use Rattle.block.specs.Group.{blocks}
 use Rattle.share.specs.Record.{mac_at}
 use Rattle.rounds.specs.Loops.{others-none, others-turn}
 use Rattle.fashare_comm.specs.Laws.{entry_in}
-use Rattle.fashare_dibi.specs.Laws.{mac_in, macs-is}
+use Rattle.fashare_dibi.specs.Laws.{macs-is}
 use Rattle.fashare_dibi.proofs.macs_for.Goals as goal
 
 pub record_at-requires : goal.record_at-requires

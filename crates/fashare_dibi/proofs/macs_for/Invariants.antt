@@ -1,11 +1,8 @@
 -- The loop's invariant: the MACs for k of the first j parties are added.
-use Rattle.lists.specs.Kit.{◌≡◌, ap, ◌∙◌, ◌-◌, ◌≤◌, arith, rules}
+use Rattle.std.specs.Prelude.{◌≡◌, ◌-◌, ◌≤◌}
 use Rattle.algebra.specs.Sum.{others}
 use Rattle.block.specs.Group.{blocks}
-use Rattle.share.specs.Record.{mac_at}
-use Rattle.rounds.specs.Loops.{others-none, others-turn}
-use Rattle.fashare_comm.specs.Laws.{entry_in}
-use Rattle.fashare_dibi.specs.Laws.{mac_in, macs-is}
+use Rattle.fashare_dibi.specs.Laws.{mac_in}
 use Rattle.fashare_dibi.proofs.macs_for.Given as goal
 
 abbrev pub invariant-loop-j : goal.invariant-loop-j

@@ -1,4 +1,4 @@
-use Rattle.lists.specs.Kit.{ap, ap₂, ◌∙◌, arith, rules}
+use Rattle.lists.specs.Kit.{ap, ap₂, ◌∙◌, arith}
 use Rattle.algebra.specs.Group.{sel}
 use Rattle.block.specs.Group.{blocks}
 use Rattle.fashare_dibi.proofs.opened.Goals as goal

@@ -1,8 +1,8 @@
-use Rattle.lists.specs.Kit.{◌≡◌, ap, ◌∙◌, ◌+◌, ◌-◌, ◌*◌, ◌≤◌, arith, get_or, rules}
+use Rattle.std.specs.Prelude.{◌-◌}
+use Rattle.lists.specs.Kit.{ap, ◌∙◌, arith, get_or, rules}
 use Rattle.algebra.specs.Group.{bits, sel, odd}
-use Rattle.algebra.specs.Sum.{neq, others}
+use Rattle.algebra.specs.Sum.{neq}
 use Rattle.plan.specs.Plan.{dm_len}
-use Rattle.rounds.specs.Fashare.{STRINGS}
 use Rattle.rounds.specs.Loops.{others-none, others-turn}
 use Rattle.fashare_dibi.specs.Laws.{xor-sel, dm-in, others1-is}
 use Rattle.fashare_dibi.proofs.others_bit.Goals as goal

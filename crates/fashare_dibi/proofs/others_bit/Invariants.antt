@@ -1,11 +1,10 @@
 -- The loop's invariant: the bits of the first k parties but i are added.
-use Rattle.lists.specs.Kit.{◌≡◌, ap, ◌∙◌, ◌+◌, ◌-◌, ◌*◌, ◌≤◌, arith, get_or, rules}
-use Rattle.algebra.specs.Group.{bits, sel, odd}
-use Rattle.algebra.specs.Sum.{neq, others}
+use Rattle.std.specs.Prelude.{◌≡◌, ◌+◌, ◌-◌, ◌*◌, ◌≤◌}
+use Rattle.lists.specs.Kit.{get_or}
+use Rattle.algebra.specs.Group.{bits, odd}
+use Rattle.algebra.specs.Sum.{others}
 use Rattle.plan.specs.Plan.{dm_len}
 use Rattle.rounds.specs.Fashare.{STRINGS}
-use Rattle.rounds.specs.Loops.{others-none, others-turn}
-use Rattle.fashare_dibi.specs.Laws.{xor-sel, dm-in, others1-is}
 use Rattle.fashare_dibi.proofs.others_bit.Given as goal
 
 abbrev pub invariant-loop-k : goal.invariant-loop-k

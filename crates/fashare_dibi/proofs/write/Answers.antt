@@ -1,9 +1,10 @@
-use Rattle.lists.specs.Kit.{refl, ◌+◌, ◌-◌, ◌*◌, ◌<◌, ◌≤◌, arith, rules}
+use Rattle.std.specs.Prelude.{◌+◌, ◌-◌, ◌*◌, ◌<◌}
+use Rattle.lists.specs.Kit.{refl, arith, rules}
 use Rattle.lists.specs.Over.{length-take-drop}
 use Rattle.plan.specs.Plan.{msg_len, list_len, count_due, kind_of}
 use Rattle.engine.specs.Area.{nth}
 use Rattle.rounds.specs.Fashare.{DIBI_MSG, dibi_msg}
-use Rattle.rounds.specs.Loops.{Sent, sent-none, sent-turn, sent-end}
+use Rattle.rounds.specs.Loops.{sent-none, sent-turn, sent-end}
 use Rattle.fashare_dibi.specs.Laws.{given, length-dibi}
 use Rattle.fashare_dibi.proofs.write.Goals as goal
 

@@ -1,11 +1,7 @@
 -- The loop's invariant: the messages to the first t parties but i are written.
-use Rattle.lists.specs.Kit.{refl, ◌+◌, ◌-◌, ◌*◌, ◌<◌, ◌≤◌, arith, rules}
-use Rattle.lists.specs.Over.{length-take-drop}
-use Rattle.plan.specs.Plan.{msg_len, list_len, count_due, kind_of}
-use Rattle.engine.specs.Area.{nth}
+use Rattle.std.specs.Prelude.{◌-◌, ◌≤◌}
 use Rattle.rounds.specs.Fashare.{DIBI_MSG, dibi_msg}
-use Rattle.rounds.specs.Loops.{Sent, sent-none, sent-turn, sent-end}
-use Rattle.fashare_dibi.specs.Laws.{given, length-dibi}
+use Rattle.rounds.specs.Loops.{Sent}
 use Rattle.fashare_dibi.proofs.write.Given as goal
 
 abbrev pub invariant-loop-t : goal.invariant-loop-t

@@ -1,13 +1,10 @@
-use Rattle.lists.specs.Kit.{◌≡◌, refl, sym, ap, ◌∙◌, List, ℕ, ◌+◌, ◌-◌, ◌*◌, ◌≤◌, arith, length, rules}
-use Rattle.algebra.specs.Group.{sel}
-use Rattle.block.specs.declared.Block.{Block}
+use Rattle.std.specs.Prelude.{◌+◌, ◌-◌, ◌*◌}
+use Rattle.lists.specs.Kit.{refl, sym, ap, ◌∙◌, arith, rules}
 use Rattle.block.specs.Block.{bytes_of}
-use Rattle.block.specs.Group.{blocks}
 use Rattle.block.specs.Trip.{length-bytes_of}
-use Rattle.encode.specs.Stretch.{Stretch, stretch-count, stretch-self, even-turn, even-end}
-use Rattle.engine.specs.declared.Frame.{Frame}
+use Rattle.encode.specs.Stretch.{stretch-count, stretch-self, even-turn, even-end}
 use Rattle.rounds.specs.Fashare as Fashare
-use Rattle.rounds.specs.Fashare.{STRINGS, DIBI_MSG}
+use Rattle.rounds.specs.Fashare.{STRINGS}
 use Rattle.fashare_dibi.proofs.write_msg.Goals as goal
 use Rattle.fashare_dibi.proofs.write_msg.Invariants.{item}
 

@@ -1,11 +1,11 @@
 -- The loop's invariant: the count and the first q Blocks are written.
-use Rattle.lists.specs.Kit.{◌≡◌, refl, sym, ap, ◌∙◌, List, ℕ, ◌+◌, ◌-◌, ◌*◌, ◌≤◌, arith, length, rules}
+use Rattle.std.specs.Prelude.{◌≡◌, ◌+◌, ◌-◌, ◌*◌, ◌≤◌}
+use Rattle.lists.specs.Kit.{List, ℕ, length}
 use Rattle.algebra.specs.Group.{sel}
 use Rattle.block.specs.declared.Block.{Block}
 use Rattle.block.specs.Block.{bytes_of}
 use Rattle.block.specs.Group.{blocks}
-use Rattle.block.specs.Trip.{length-bytes_of}
-use Rattle.encode.specs.Stretch.{Stretch, stretch-count, stretch-self, even-turn, even-end}
+use Rattle.encode.specs.Stretch.{Stretch}
 use Rattle.engine.specs.declared.Frame.{Frame}
 use Rattle.rounds.specs.Fashare as Fashare
 use Rattle.rounds.specs.Fashare.{STRINGS, DIBI_MSG}

@@ -1,10 +1,11 @@
-use Rattle.lists.specs.Kit.{not, ◌≡◌, refl, ap, ◌∙◌, List, ℕ, ◌+◌, ◌-◌, ◌*◌, ◌<◌, ◌≤◌, arith, length, drop, take, rules}
+use Rattle.std.specs.Prelude.{◌≡◌, ◌+◌, ◌-◌, ◌*◌, ◌<◌, ◌≤◌}
+use Rattle.lists.specs.Kit.{not, refl, ap, ◌∙◌, arith, length, drop, take, rules}
 use Rattle.lists.specs.Pick.{pick}
 use Rattle.lists.specs.Same.{same?}
 use Rattle.block.specs.Block.{word_at}
 use Rattle.blake3.specs.Tree.{bytes, hash}
 use Rattle.rounds.specs.Fashare.{STRINGS, COMM, third_fault}
-use Rattle.fashare_third.specs.Laws.{comm-in, third-is, Opened, opened-start, opened_in, opened-turn, opened-stop, opened-end}
+use Rattle.fashare_third.specs.Laws.{comm-in, third-is, opened-start, opened_in, opened-turn, opened-stop, opened-end}
 use Rattle.fashare_third.proofs.first_shut.Goals as goal
 use Rattle.fashare_third.proofs.first_shut.Goals.{After-digest_of-digest, After-is, In-loop-q}
 

@@ -1,9 +1,9 @@
-use Rattle.lists.specs.Kit.{◌-◌, ◌≤◌, arith, rules}
+use Rattle.std.specs.Prelude.{◌-◌}
+use Rattle.lists.specs.Kit.{arith, rules}
 use Rattle.rounds.specs.Area.{SHARE_COMMS}
-use Rattle.rounds.specs.Mail.{letter}
 use Rattle.area.specs.GivenLaws.{lent_length}
 use Rattle.area.specs.Sizes.{size-share-comms}
-use Rattle.fashare_third.specs.Laws.{third_at, Lowest, lowest-none, lowest-new, lowest-old, lowest-found, lowest-clean}
+use Rattle.fashare_third.specs.Laws.{lowest-none, lowest-new, lowest-old, lowest-found, lowest-clean}
 use Rattle.fashare_third.proofs.judge.Goals as goal
 use Rattle.fashare_third.proofs.judge.Goals.{then-q-first, else-q-first}
 
@@ -18,7 +18,7 @@ pub loop-k-preserved : goal.loop-k-preserved
 loop-k-preserved c = (
   omega (arith, c.loop-k-test.true),
   elim c.if-q-first.branch [
-    then-q-first w ↦ rw (w.first-is, w.party-is) (lowest-new _ c.loop-k.k c.loop-k.first c.loop-k.party c.shut_of-q.result c.loop-k.invariant.1 c.shut_of-q.ensures w.if-q-first.true)
+    | then-q-first w ↦ rw (w.first-is, w.party-is) (lowest-new _ c.loop-k.k c.loop-k.first c.loop-k.party c.shut_of-q.result c.loop-k.invariant.1 c.shut_of-q.ensures w.if-q-first.true)
     | else-q-first w ↦ rw (w.first-is, w.party-is) (lowest-old _ c.loop-k.k c.loop-k.first c.loop-k.party c.shut_of-q.result c.loop-k.invariant.1 c.shut_of-q.ensures w.if-q-first.false)
   ],
 )

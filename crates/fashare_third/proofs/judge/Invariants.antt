@@ -1,11 +1,7 @@
 -- The loop's invariant: of the first k parties' messages, the lowest string with a fault, and the lowest party in it.
-use Rattle.lists.specs.Kit.{◌-◌, ◌≤◌, arith, rules}
-use mathlib.Core.Logic.{⊎_elim}
-use Rattle.rounds.specs.Area.{SHARE_COMMS}
+use Rattle.std.specs.Prelude.{◌-◌, ◌≤◌}
 use Rattle.rounds.specs.Mail.{letter}
-use Rattle.area.specs.GivenLaws.{lent_length}
-use Rattle.area.specs.Sizes.{size-share-comms}
-use Rattle.fashare_third.specs.Laws.{third_at, Lowest, lowest-none, lowest-new, lowest-old, lowest-found, lowest-clean}
+use Rattle.fashare_third.specs.Laws.{third_at, Lowest}
 use Rattle.fashare_third.proofs.judge.Given as goal
 
 abbrev pub invariant-loop-k : goal.invariant-loop-k

@@ -1,4 +1,4 @@
-use Rattle.lists.specs.Kit.{sym, ap, ◌∙◌, List, ℕ, arith, rules}
+use Rattle.lists.specs.Kit.{sym, ap, ◌∙◌, arith}
 use Rattle.lists.specs.Over.{in-chunks}
 use Rattle.message.specs.declared.Kind.TheVariants.{Dms}
 use Rattle.message.specs.Format.{form_of}

@@ -1,4 +1,5 @@
-use Rattle.lists.specs.Kit.{refl, ◌+◌, rules}
+use Rattle.std.specs.Prelude.{◌+◌}
+use Rattle.lists.specs.Kit.{refl}
 use Rattle.fashare_ver.specs.Laws.{dm-put}
 use Rattle.fashare_ver.proofs.put_dm.Goals as goal
 

@@ -1,9 +1,9 @@
-use Rattle.lists.specs.Kit.{◌≡◌, refl, ap, ◌∙◌, List, ℕ, ◌+◌, ◌-◌, ◌*◌, ◌≤◌, arith, length, rules}
+use Rattle.std.specs.Prelude.{◌≡◌, ◌+◌, ◌-◌, ◌*◌, ◌≤◌}
+use Rattle.lists.specs.Kit.{refl, ap, ◌∙◌, arith, length, rules}
 use Rattle.lists.specs.Rows.{length-row}
-use Rattle.engine.specs.declared.Frame.{Frame}
 use Rattle.engine.specs.Area.{nth}
 use Rattle.rounds.specs.Fashare.{STRINGS, ver_msg}
-use Rattle.rounds.specs.Loops.{Sent, sent-none, sent-in, sent-turn, sent-end}
+use Rattle.rounds.specs.Loops.{sent-none, sent-in, sent-turn, sent-end}
 use Rattle.fashare_comm.specs.Laws.{given, DM_MOST, dm-most}
 use Rattle.fashare_ver.specs.Laws.{ver_len, ver_len_lem, length-ver_msg}
 use Rattle.fashare_ver.proofs.write.Goals as goal

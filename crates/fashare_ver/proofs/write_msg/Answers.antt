@@ -1,8 +1,8 @@
-use Rattle.lists.specs.Kit.{◌≡◌, refl, sym, ap, ◌∙◌, List, ℕ, ◌+◌, ◌-◌, ◌*◌, ◌<◌, ◌≤◌, arith, length, rules}
+use Rattle.std.specs.Prelude.{◌≡◌, ◌+◌, ◌-◌, ◌*◌, ◌<◌}
+use Rattle.lists.specs.Kit.{refl, sym, ap, ◌∙◌, List, ℕ, arith, length, rules}
 use native.Mathlib.Nat.{zero-mul}
 use Rattle.lists.specs.Over.{length-take-drop}
-use Rattle.encode.specs.Encode.{dm_item}
-use Rattle.encode.specs.Stretch.{Stretch, stretch-count, stretch-self, even-turn, even-end, in_list}
+use Rattle.encode.specs.Stretch.{stretch-count, stretch-self, even-turn, even-end, in_list}
 use Rattle.plan.specs.Plan.{dm_len}
 use Rattle.engine.specs.declared.Frame.{Frame}
 use Rattle.rounds.specs.Fashare as Fashare

@@ -1,15 +1,11 @@
 -- The loop's invariant: the count and the first q dms are written.
-use Rattle.lists.specs.Kit.{◌≡◌, refl, sym, ap, ◌∙◌, List, ℕ, ◌+◌, ◌-◌, ◌*◌, ◌<◌, ◌≤◌, arith, length, rules}
-use native.Mathlib.Nat.{zero-mul}
-use Rattle.lists.specs.Over.{length-take-drop}
+use Rattle.std.specs.Prelude.{◌≡◌, ◌+◌, ◌-◌, ◌*◌, ◌≤◌}
+use Rattle.lists.specs.Kit.{List, ℕ, length}
 use Rattle.encode.specs.Encode.{dm_item}
-use Rattle.encode.specs.Stretch.{Stretch, stretch-count, stretch-self, even-turn, even-end, in_list}
-use Rattle.plan.specs.Plan.{dm_len}
+use Rattle.encode.specs.Stretch.{Stretch}
 use Rattle.engine.specs.declared.Frame.{Frame}
 use Rattle.rounds.specs.Fashare as Fashare
 use Rattle.rounds.specs.Fashare.{STRINGS}
-use Rattle.fashare_comm.specs.Laws.{dm-most, place-most}
-use Rattle.fashare_ver.specs.Laws.{length-dm_item}
 use Rattle.fashare_ver.proofs.write_msg.Given as goal
 
 abbrev pub item : Frame → List ℕ → ℕ → List ℕ

@@ -1,7 +1,5 @@
-use Rattle.lists.specs.Kit.{◌≡◌, ◌-◌, ◌≤◌, arith, rules}
-use Rattle.engine.specs.Step.{by_party}
-use Rattle.rounds.specs.Area.{first_of}
-use Rattle.rounds.specs.Mail.{letter}
+use Rattle.std.specs.Prelude.{◌-◌}
+use Rattle.lists.specs.Kit.{arith, rules}
 use Rattle.rounds.specs.Fashare as Fashare
 use Rattle.rounds.specs.Fashare.{STRINGS}
 use Rattle.rounds.specs.DmLaws.{checked}

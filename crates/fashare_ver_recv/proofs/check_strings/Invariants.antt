@@ -1,12 +1,10 @@
 -- The loop's invariant: the first q strings have no fault.
-use Rattle.lists.specs.Kit.{◌≡◌, ◌-◌, ◌≤◌, arith, rules}
+use Rattle.std.specs.Prelude.{◌≡◌, ◌-◌, ◌≤◌}
 use Rattle.engine.specs.Step.{by_party}
 use Rattle.rounds.specs.Area.{first_of}
 use Rattle.rounds.specs.Mail.{letter}
 use Rattle.rounds.specs.Fashare as Fashare
 use Rattle.rounds.specs.Fashare.{STRINGS}
-use Rattle.rounds.specs.DmLaws.{checked}
-use Rattle.rounds.specs.FaultLaws.{first-zero, item-first, item-next, item-none}
 use Rattle.fashare_ver_recv.proofs.check_strings.Given as goal
 
 abbrev pub invariant-loop-q : goal.invariant-loop-q

@@ -1,12 +1,9 @@
 -- The loop's invariant: the first q dms are written.
-use Rattle.lists.specs.Kit.{◌≡◌, sym, ap, ◌∙◌, List, ℕ, ◌+◌, ◌-◌, ◌*◌, ◌≤◌, arith, length, take, drop, rules}
-use Rattle.lists.specs.Over.{Written, in-chunks, length-take-drop}
-use Rattle.lists.specs.Rows.{length-row, even-zero, even-turn, even-end}
+use Rattle.std.specs.Prelude.{◌-◌, ◌*◌, ◌≤◌}
+use Rattle.lists.specs.Kit.{List, ℕ, take, drop}
+use Rattle.lists.specs.Over.{Written}
 use Rattle.plan.specs.Plan.{dm_len}
 use Rattle.rounds.specs.Fashare.{STRINGS, dm_at}
-use Rattle.rounds.specs.DmLaws.{dues_in}
-use Rattle.fashare_comm.specs.Laws.{dm-most, place-most, row-most}
-use Rattle.fashare_ver_recv.specs.Laws.{dues-copy}
 use Rattle.fashare_ver_recv.proofs.copy_dms.Given as goal
 
 -- dm q

@@ -1,4 +1,4 @@
-use Rattle.lists.specs.Kit.{sym, ◌∙◌, rules}
+use Rattle.lists.specs.Kit.{sym, ◌∙◌}
 use Rattle.rounds.specs.Fashare.{ver_faults}
 use Rattle.rounds.specs.FaultLaws.{finds-one, finds-two}
 use Rattle.fashare_ver_recv.proofs.judge.Goals as goal

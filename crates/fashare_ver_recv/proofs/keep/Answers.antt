@@ -1,12 +1,12 @@
-use Rattle.lists.specs.Kit.{◌≡◌, refl, sym, ap, ◌∙◌, List, ℕ, ◌+◌, ◌-◌, ◌*◌, ◌≤◌, arith, length, take, drop, rules}
-use Rattle.plan.specs.Plan.{dm_len}
+use Rattle.std.specs.Prelude.{◌≡◌, ◌+◌, ◌-◌, ◌*◌, ◌≤◌}
+use Rattle.lists.specs.Kit.{refl, sym, ap, ◌∙◌, List, ℕ, arith, length, take, drop, rules}
 use Rattle.engine.specs.declared.Frame.{Frame}
 use Rattle.rounds.specs.Area.{DMS, sizes, size_of, keep}
 use Rattle.rounds.specs.Mail.{letter}
 use Rattle.rounds.specs.Loops.{row_of, rows_of}
 use Rattle.rounds.specs.Fashare as Fashare
 use Rattle.rounds.specs.Fashare.{STRINGS, dms_of}
-use Rattle.area.specs.Filled.{Filled, filled_none, filled_put, filled-end, row_in, row-lent}
+use Rattle.area.specs.Filled.{filled_none, filled_put, filled-end, row_in, row-lent}
 use Rattle.fashare_comm.specs.Laws.{dm-most}
 use Rattle.fashare_ver_recv.proofs.keep.Goals as goal
 use Rattle.fashare_ver_recv.proofs.keep.Invariants.{row_len}

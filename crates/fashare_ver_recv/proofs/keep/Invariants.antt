@@ -1,14 +1,13 @@
 -- The loop's invariant: the rows of the first k parties are kept.
-use Rattle.lists.specs.Kit.{◌≡◌, refl, sym, ap, ◌∙◌, List, ℕ, ◌+◌, ◌-◌, ◌*◌, ◌≤◌, arith, length, take, drop, rules}
+use Rattle.std.specs.Prelude.{◌-◌, ◌*◌, ◌≤◌}
+use Rattle.lists.specs.Kit.{ℕ}
 use Rattle.plan.specs.Plan.{dm_len}
 use Rattle.engine.specs.declared.Frame.{Frame}
-use Rattle.rounds.specs.Area.{DMS, sizes, size_of, keep}
+use Rattle.rounds.specs.Area.{DMS}
 use Rattle.rounds.specs.Mail.{letter}
-use Rattle.rounds.specs.Loops.{row_of, rows_of}
-use Rattle.rounds.specs.Fashare as Fashare
+use Rattle.rounds.specs.Loops.{row_of}
 use Rattle.rounds.specs.Fashare.{STRINGS, dms_of}
-use Rattle.area.specs.Filled.{Filled, filled_none, filled_put, filled-end, row_in, row-lent}
-use Rattle.fashare_comm.specs.Laws.{dm-most}
+use Rattle.area.specs.Filled.{Filled}
 use Rattle.fashare_ver_recv.proofs.keep.Given as goal
 
 -- the bytes of a row

@@ -1,4 +1,4 @@
-use Rattle.lists.specs.Kit.{sym, ap, ◌∙◌, arith, replicate, rules}
+use Rattle.lists.specs.Kit.{sym, ap, ◌∙◌, arith, replicate}
 use Rattle.rounds.specs.Fashare.{dms_of}
 use Rattle.rounds.specs.MailLaws.{letter-fits}
 use Rattle.rounds.specs.Loops.{row-own, row_other}

@@ -1,4 +1,4 @@
-use Rattle.lists.specs.Kit.{sym, ap, ◌∙◌, List, ℕ, arith, rules}
+use Rattle.lists.specs.Kit.{sym, ap, ◌∙◌, List, ℕ, arith}
 use Rattle.rounds.specs.Fashare as Fashare
 use Rattle.rounds.specs.Mail.{letter}
 use Rattle.rounds.specs.MailLaws.{letter-fits}

@@ -1,4 +1,5 @@
-use Rattle.lists.specs.Kit.{◌≡◌, refl, ap, ◌∙◌, ◌++◌, ◌-◌, ◌≤◌, arith, length, drop, replicate, rules}
+use Rattle.std.specs.Prelude.{◌≡◌, ◌-◌}
+use Rattle.lists.specs.Kit.{refl, ap, ◌∙◌, arith, length, replicate}
 use lib.ListN.{length-set}
 use borrow.Author.Fill.{fill_none, fill_more}
 use Rattle.lists.specs.Over.{over-full}

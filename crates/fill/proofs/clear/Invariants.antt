@@ -1,7 +1,5 @@
-use Rattle.lists.specs.Kit.{◌≡◌, refl, ap, ◌∙◌, ◌++◌, ◌-◌, ◌≤◌, arith, length, drop, replicate, rules}
-use lib.ListN.{length-set}
-use borrow.Author.Fill.{fill_none, fill_more}
-use Rattle.lists.specs.Over.{over-full}
+use Rattle.std.specs.Prelude.{◌≡◌, ◌++◌, ◌-◌, ◌≤◌}
+use Rattle.lists.specs.Kit.{length, drop, replicate}
 use Rattle.fill.proofs.clear.Given as goal
 
 abbrev pub invariant-loop-t : goal.invariant-loop-t

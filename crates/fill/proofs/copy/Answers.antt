@@ -1,4 +1,5 @@
-use Rattle.lists.specs.Kit.{◌≡◌, refl, ◌∙◌, ◌++◌, ◌+◌, ◌-◌, ◌≤◌, arith, length, take, drop, rules}
+use Rattle.std.specs.Prelude.{◌+◌, ◌-◌}
+use Rattle.lists.specs.Kit.{refl, ◌∙◌, arith, length, take, drop, rules}
 use lib.ListN.{length-take, length-drop}
 use Rattle.lists.specs.Over.{copy-part, over-full}
 use Rattle.fill.specs.Copied.{copied}

@@ -1,7 +1,5 @@
-use Rattle.lists.specs.Kit.{◌≡◌, refl, ◌∙◌, ◌++◌, ◌+◌, ◌-◌, ◌≤◌, arith, length, take, drop, rules}
-use lib.ListN.{length-take, length-drop}
-use Rattle.lists.specs.Over.{copy-part, over-full}
-use Rattle.fill.specs.Copied.{copied}
+use Rattle.std.specs.Prelude.{◌≡◌, ◌++◌, ◌+◌, ◌-◌, ◌≤◌}
+use Rattle.lists.specs.Kit.{length, take, drop}
 use Rattle.fill.proofs.copy.Given as goal
 
 abbrev pub invariant-loop-at : goal.invariant-loop-at

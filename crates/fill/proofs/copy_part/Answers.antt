@@ -1,4 +1,4 @@
-use Rattle.lists.specs.Kit.{ap, ◌∙◌, arith, length, take, replicate, rules}
+use Rattle.lists.specs.Kit.{ap, ◌∙◌, arith, length, take, replicate}
 use Rattle.fill.specs.Copied.{copied}
 use Rattle.fill.proofs.copy_part.Goals as goal
 

@@ -1,4 +1,4 @@
-use Rattle.lists.specs.Kit.{ap, ap₂, ◌∙◌, arith, rules}
+use Rattle.lists.specs.Kit.{ap, ap₂, ◌∙◌, arith}
 use Rattle.algebra.specs.Group.{addb, xor-addb}
 use Rattle.share.specs.Layout.{record-some}
 use Rattle.share.specs.Record.{bit_at}

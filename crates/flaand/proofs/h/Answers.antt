@@ -1,5 +1,5 @@
-use Rattle.lists.specs.Kit.{◌≡◌, ap, ap₂, ◌∙◌, Bool, ◌*◌, arith, rules}
-use Rattle.algebra.specs.Group.{XorGroup}
+use Rattle.std.specs.Prelude.{◌≡◌, ◌*◌}
+use Rattle.lists.specs.Kit.{ap, ap₂, ◌∙◌, Bool, arith}
 use Rattle.algebra.specs.Sum.{others}
 use Rattle.block.specs.Group.{blocks}
 use Rattle.share.specs.Layout.{record_len, record-some}

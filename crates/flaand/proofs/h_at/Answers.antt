@@ -1,4 +1,4 @@
-use Rattle.lists.specs.Kit.{◌∙◌, List, ℕ, arith, rules}
+use Rattle.lists.specs.Kit.{◌∙◌, List, ℕ, arith}
 use Rattle.rounds.specs.Area.{BITS, LEAKY, ZS}
 use Rattle.rounds.specs.Mail.{letter}
 use Rattle.rounds.specs.Flaand as F

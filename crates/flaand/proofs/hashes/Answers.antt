@@ -1,5 +1,5 @@
-use Rattle.lists.specs.Kit.{ap, ap₂, ◌∙◌, ◌+◌, ◌*◌, ◌≤◌, arith, length, rules}
-use Rattle.algebra.specs.Group.{XorGroup}
+use Rattle.std.specs.Prelude.{◌+◌, ◌*◌, ◌≤◌}
+use Rattle.lists.specs.Kit.{ap, ap₂, ◌∙◌, arith, length}
 use Rattle.block.specs.Block.{block_at}
 use Rattle.block.specs.Group.{blocks}
 use Rattle.rounds.specs.Area.{leaky_len}

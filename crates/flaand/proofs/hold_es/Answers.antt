@@ -1,4 +1,4 @@
-use Rattle.lists.specs.Kit.{ap, ◌∙◌, List, ℕ, arith, rules}
+use Rattle.lists.specs.Kit.{ap, ◌∙◌, List, ℕ, arith}
 use Rattle.rounds.specs.Area.{ES, keep}
 use Rattle.area.specs.GivenLaws.{place_in, place-length, place-keeps}
 use Rattle.area.specs.Sizes.{size-es}

@@ -1,4 +1,3 @@
-use Rattle.lists.specs.Kit.{rules}
 use Rattle.rounds.specs.Mail.{letter}
 use Rattle.flaand.specs.AreaLaws.{both-kept}
 use Rattle.flaand.proofs.keep.Goals as goal

@@ -1,4 +1,5 @@
-use Rattle.lists.specs.Kit.{sym, ap, ◌∙◌, List, ℕ, ◌+◌, ◌*◌, arith, length, get_or, rules}
+use Rattle.std.specs.Prelude.{◌+◌, ◌*◌}
+use Rattle.lists.specs.Kit.{sym, ap, ◌∙◌, List, ℕ, arith, length, get_or}
 use Rattle.lists.specs.Over.{tab}
 use Rattle.algebra.specs.Group.{odd, num}
 use Rattle.rounds.specs.Mail.{letter}

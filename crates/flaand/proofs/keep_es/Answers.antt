@@ -1,11 +1,11 @@
-use Rattle.lists.specs.Kit.{◌≡◌, sym, ap, ◌∙◌, List, ℕ, ◌+◌, ◌-◌, ◌*◌, ◌≤◌, arith, length, rules}
-use Rattle.lists.specs.Over.{cat, tab, Written, in-chunks}
+use Rattle.std.specs.Prelude.{◌≡◌, ◌+◌, ◌-◌, ◌*◌, ◌≤◌}
+use Rattle.lists.specs.Kit.{sym, ap, ◌∙◌, arith, length}
+use Rattle.lists.specs.Over.{cat, tab, in-chunks}
 use Rattle.lists.specs.Rows.{length-row, even-zero, even-turn, even-end}
 use Rattle.algebra.specs.Group.{num}
 use Rattle.plan.specs.Plan.{leaky}
-use Rattle.rounds.specs.declared.Mail.{Mail}
 use Rattle.rounds.specs.Mail.{letter}
-use Rattle.rounds.specs.Loops.{row_of, rows_of}
+use Rattle.rounds.specs.Loops.{rows_of}
 use Rattle.rounds.specs.Flaand.{e_told, e_rows}
 use Rattle.flaand.proofs.keep_es.Goals as goal
 use Rattle.flaand.proofs.keep_es.Invariants.{row}

@@ -1,13 +1,12 @@
 -- The loop's invariant: the rows of the first k parties are written.
-use Rattle.lists.specs.Kit.{◌≡◌, sym, ap, ◌∙◌, List, ℕ, ◌+◌, ◌-◌, ◌*◌, ◌≤◌, arith, length, rules}
-use Rattle.lists.specs.Over.{cat, tab, Written, in-chunks}
-use Rattle.lists.specs.Rows.{length-row, even-zero, even-turn, even-end}
+use Rattle.std.specs.Prelude.{◌-◌, ◌*◌, ◌≤◌}
+use Rattle.lists.specs.Kit.{List, ℕ}
+use Rattle.lists.specs.Over.{tab, Written}
 use Rattle.algebra.specs.Group.{num}
-use Rattle.plan.specs.Plan.{leaky}
 use Rattle.rounds.specs.declared.Mail.{Mail}
 use Rattle.rounds.specs.Mail.{letter}
-use Rattle.rounds.specs.Loops.{row_of, rows_of}
-use Rattle.rounds.specs.Flaand.{e_told, e_rows}
+use Rattle.rounds.specs.Loops.{row_of}
+use Rattle.rounds.specs.Flaand.{e_told}
 use Rattle.flaand.proofs.keep_es.Given as goal
 
 -- row k, of len bytes

@@ -1,16 +1,15 @@
 -- The loop's invariant: h of the first t positions is kept. The other sections are as they were.
-use Rattle.lists.specs.Kit.{◌≡◌, refl, sym, ap, ap₂, ◌∙◌, ◌≢◌, List, ℕ, ◌+◌, ◌-◌, ◌*◌, ◌<◌, ◌≤◌, arith, length, rules}
+use Rattle.std.specs.Prelude.{◌-◌, ◌≤◌}
+use Rattle.lists.specs.Kit.{List, ℕ}
 use Rattle.block.specs.declared.Block.{Block}
 use Rattle.block.specs.Block.{bytes_of}
-use Rattle.block.specs.Trip.{length-bytes_of}
 use Rattle.plan.specs.Plan.{leaky}
 use Rattle.engine.specs.declared.Frame.{Frame}
-use Rattle.rounds.specs.Area.{BITS, LEAKY, ZS, HS, size_of, at}
+use Rattle.rounds.specs.Area.{BITS, LEAKY, ZS, HS, at}
 use Rattle.rounds.specs.Table as Table
 use Rattle.rounds.specs.Mail.{letter}
 use Rattle.rounds.specs.Flaand as F
-use Rattle.area.specs.Sizes.{size-hs}
-use Rattle.area.specs.Filled.{Filled, filled_none, filled-work, filled-other, filled-end, row_in, filled_put}
+use Rattle.area.specs.Filled.{Filled}
 use Rattle.flaand.proofs.keep_hs.Given as goal
 
 -- h of position t, from the sections of w

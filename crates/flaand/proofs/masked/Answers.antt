@@ -1,6 +1,7 @@
-use Rattle.lists.specs.Kit.{ap, ap₂, ◌∙◌, Bool, ◌+◌, ◌*◌, ◌≤◌, arith, length, rules}
+use Rattle.std.specs.Prelude.{◌+◌, ◌*◌, ◌≤◌}
+use Rattle.lists.specs.Kit.{ap, ap₂, ◌∙◌, Bool, arith, length}
 use Rattle.lists.specs.Over.{in-chunks}
-use Rattle.algebra.specs.Group.{XorGroup, sel}
+use Rattle.algebra.specs.Group.{sel}
 use Rattle.block.specs.Block.{block_at}
 use Rattle.block.specs.Group.{blocks}
 use Rattle.plan.specs.Plan.{leaky}

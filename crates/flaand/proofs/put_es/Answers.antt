@@ -1,7 +1,8 @@
-use Rattle.lists.specs.Kit.{◌≡◌, refl, ap, ◌∙◌, List, ◌++◌, ℕ, ◌+◌, ◌-◌, ◌*◌, ◌≤◌, arith, length, get_or, drop, set, rules}
+use Rattle.std.specs.Prelude.{◌≡◌, ◌++◌, ◌+◌, ◌-◌, ◌*◌, ◌≤◌}
+use Rattle.lists.specs.Kit.{refl, ap, ◌∙◌, List, ℕ, arith, length, drop, set}
 use lib.ListN.{length-set}
 use Rattle.lists.specs.Over.{tab, tab-zero, tab-step, tab-end, in-chunks}
-use Rattle.algebra.specs.Group.{odd, num}
+use Rattle.algebra.specs.Group.{num}
 use Rattle.flaand.proofs.put_es.Goals as goal
 use Rattle.flaand.proofs.put_es.Invariants.{bit}
 use Rattle.flaand.proofs.put_es.Goals.{In-loop-t}

@@ -1,7 +1,7 @@
 -- The loop's invariant: the first t bits are written.
-use Rattle.lists.specs.Kit.{◌≡◌, refl, ap, ◌∙◌, List, ◌++◌, ℕ, ◌+◌, ◌-◌, ◌*◌, ◌≤◌, arith, length, get_or, drop, set, rules}
-use lib.ListN.{length-set}
-use Rattle.lists.specs.Over.{tab, tab-zero, tab-step, tab-end, in-chunks}
+use Rattle.std.specs.Prelude.{◌≡◌, ◌++◌, ◌+◌, ◌-◌, ◌*◌, ◌≤◌}
+use Rattle.lists.specs.Kit.{List, ℕ, length, get_or, drop}
+use Rattle.lists.specs.Over.{tab}
 use Rattle.algebra.specs.Group.{odd, num}
 use Rattle.flaand.proofs.put_es.Given as goal
 

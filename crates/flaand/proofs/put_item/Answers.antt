@@ -1,4 +1,4 @@
-use Rattle.lists.specs.Kit.{ap, ap₂, ◌∙◌, ◌+◌, ◌*◌, ◌≤◌, arith, rules}
+use Rattle.lists.specs.Kit.{ap, ap₂, ◌∙◌}
 use Rattle.block.specs.Block.{block_at}
 use Rattle.encode.specs.Encode.{bit_block}
 use Rattle.rounds.specs.Haand as R

@@ -1,6 +1,7 @@
-use Rattle.lists.specs.Kit.{◌≡◌, refl, sym, ap, ◌∙◌, List, ℕ, ◌+◌, ◌-◌, ◌*◌, ◌<◌, ◌≤◌, arith, length, rules}
+use Rattle.std.specs.Prelude.{◌+◌, ◌-◌, ◌*◌, ◌<◌, ◌≤◌}
+use Rattle.lists.specs.Kit.{refl, sym, ap, ◌∙◌, List, ℕ, arith, length}
 use Rattle.block.specs.Block.{le8}
-use Rattle.encode.specs.Stretch.{Stretch, stretch-count, stretch-self, even-turn, even-end, in_list}
+use Rattle.encode.specs.Stretch.{stretch-count, stretch-self, even-turn, even-end, in_list}
 use Rattle.plan.specs.Plan.{leaky}
 use Rattle.rounds.specs.Loops.{lent-part}
 use Rattle.rounds.specs.Flaand.{flaand_msg}

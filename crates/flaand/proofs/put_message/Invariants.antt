@@ -1,11 +1,9 @@
 -- The loop's invariant: the count and the items of the first t positions are written.
-use Rattle.lists.specs.Kit.{◌≡◌, refl, sym, ap, ◌∙◌, List, ℕ, ◌+◌, ◌-◌, ◌*◌, ◌<◌, ◌≤◌, arith, length, rules}
-use Rattle.block.specs.Block.{le8}
-use Rattle.encode.specs.Stretch.{Stretch, stretch-count, stretch-self, even-turn, even-end, in_list}
+use Rattle.std.specs.Prelude.{◌≡◌, ◌+◌, ◌-◌, ◌*◌, ◌≤◌}
+use Rattle.lists.specs.Kit.{length}
+use Rattle.encode.specs.Stretch.{Stretch}
 use Rattle.plan.specs.Plan.{leaky}
-use Rattle.rounds.specs.Loops.{lent-part}
-use Rattle.rounds.specs.Flaand.{flaand_msg}
-use Rattle.flaand.specs.KeptLaws.{item, length-item}
+use Rattle.flaand.specs.KeptLaws.{item}
 use Rattle.flaand.proofs.put_message.Given as goal
 
 abbrev pub invariant-loop-t : goal.invariant-loop-t

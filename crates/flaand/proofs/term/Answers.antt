@@ -1,5 +1,4 @@
-use Rattle.lists.specs.Kit.{ap₂, ◌∙◌, rules}
-use Rattle.algebra.specs.Group.{XorGroup}
+use Rattle.lists.specs.Kit.{ap₂, ◌∙◌}
 use Rattle.block.specs.Group.{blocks}
 use Rattle.flaand.proofs.term.Goals as goal
 

@@ -1,11 +1,11 @@
 -- The loop's invariant: the sum has the first k parties.
-use Rattle.lists.specs.Kit.{◌≡◌, ap, ◌∙◌, List, ℕ, ◌-◌, ◌≤◌, arith, rules}
+use Rattle.std.specs.Prelude.{◌≡◌, ◌-◌, ◌≤◌}
+use Rattle.lists.specs.Kit.{List, ℕ}
 use Rattle.algebra.specs.Sum.{others}
 use Rattle.block.specs.declared.Block.{Block}
 use Rattle.block.specs.Group.{blocks}
 use Rattle.rounds.specs.declared.Mail.{Mail}
 use Rattle.rounds.specs.Mail.{letter}
-use Rattle.rounds.specs.Loops.{others-none, others-turn}
 use Rattle.rounds.specs.Flaand.{u_told}
 use Rattle.flaand.proofs.u_sum.Given as goal
 

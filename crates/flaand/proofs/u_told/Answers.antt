@@ -1,4 +1,5 @@
-use Rattle.lists.specs.Kit.{sym, ap, ◌∙◌, List, Bool, ℕ, ◌+◌, ◌*◌, ◌≤◌, arith, length, rules}
+use Rattle.std.specs.Prelude.{◌+◌, ◌*◌, ◌≤◌}
+use Rattle.lists.specs.Kit.{sym, ap, ◌∙◌, List, Bool, ℕ, arith, length}
 use Rattle.lists.specs.Over.{in-chunks}
 use Rattle.algebra.specs.Group.{sel}
 use Rattle.algebra.specs.Sum.{neq-true}

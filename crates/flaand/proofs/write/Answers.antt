@@ -1,4 +1,4 @@
-use Rattle.lists.specs.Kit.{◌∙◌, List, ℕ, rules}
+use Rattle.lists.specs.Kit.{◌∙◌, List, ℕ}
 use Rattle.plan.specs.Plan.{msg_len, list_len, kind_of, count_due}
 use Rattle.engine.specs.Area.{to_others}
 use Rattle.rounds.specs.Flaand.{flaand_msg}

@@ -1,7 +1,8 @@
-use Rattle.lists.specs.Kit.{◌≡◌, refl, ap, List, ℕ, ◌+◌, ◌-◌, ◌*◌, ◌≤◌, arith, length, rules}
+use Rattle.std.specs.Prelude.{◌≡◌, ◌+◌, ◌-◌, ◌*◌, ◌≤◌}
+use Rattle.lists.specs.Kit.{refl, ap, arith, length}
 use Rattle.plan.specs.Plan.{leaky}
 use Rattle.engine.specs.Area.{nth-below}
-use Rattle.rounds.specs.Loops.{lent-part, Sent, sent-none, sent-in, sent_back, sent-end}
+use Rattle.rounds.specs.Loops.{lent-part, sent-none, sent-in, sent_back, sent-end}
 use Rattle.rounds.specs.Flaand.{flaand_msg}
 use Rattle.flaand.proofs.write_all.Goals as goal
 use Rattle.flaand.proofs.write_all.Goals.{In-loop-q}

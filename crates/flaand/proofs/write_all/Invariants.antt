@@ -1,8 +1,7 @@
 -- The loop's invariant: the messages to the first q parties but i are written.
-use Rattle.lists.specs.Kit.{◌≡◌, refl, ap, List, ℕ, ◌+◌, ◌-◌, ◌*◌, ◌≤◌, arith, length, rules}
+use Rattle.std.specs.Prelude.{◌+◌, ◌-◌, ◌*◌, ◌≤◌}
 use Rattle.plan.specs.Plan.{leaky}
-use Rattle.engine.specs.Area.{nth-below}
-use Rattle.rounds.specs.Loops.{lent-part, Sent, sent-none, sent-in, sent_back, sent-end}
+use Rattle.rounds.specs.Loops.{Sent}
 use Rattle.rounds.specs.Flaand.{flaand_msg}
 use Rattle.flaand.proofs.write_all.Given as goal
 

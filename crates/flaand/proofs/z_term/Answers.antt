@@ -1,6 +1,7 @@
-use Rattle.lists.specs.Kit.{sym, ap, ◌∙◌, List, Bool, ℕ, ◌+◌, ◌*◌, ◌≤◌, arith, length, get_or, rules}
+use Rattle.std.specs.Prelude.{◌+◌, ◌*◌, ◌≤◌}
+use Rattle.lists.specs.Kit.{sym, ap, ◌∙◌, List, Bool, ℕ, arith, length, get_or}
 use Rattle.lists.specs.Over.{in-chunks}
-use Rattle.algebra.specs.Group.{XorGroup, sel, odd}
+use Rattle.algebra.specs.Group.{sel, odd}
 use Rattle.algebra.specs.Sum.{neq-true}
 use Rattle.block.specs.Group.{blocks}
 use Rattle.share.specs.Layout.{record-within}

@@ -1,4 +1,5 @@
-use Rattle.lists.specs.Kit.{◌≡◌, refl, ap, ◌∙◌, List, ◌++◌, ℕ, ◌+◌, ◌-◌, ◌*◌, ◌≤◌, arith, length, take, drop, rules}
+use Rattle.std.specs.Prelude.{◌≡◌, ◌++◌, ◌+◌, ◌-◌, ◌*◌, ◌≤◌}
+use Rattle.lists.specs.Kit.{refl, ap, ◌∙◌, List, ℕ, arith, length, take, drop}
 use lib.ListN.{length-drop}
 use lib.Seq.{length-take-le}
 use borrow.Rule.Slice.PartMut.{post_of}
@@ -8,7 +9,7 @@ use Rattle.block.specs.Block.{block_at, bytes_of}
 use Rattle.blake3.specs.ByteLaws.{length-hash}
 use Rattle.plan.specs.PlanLaws.{leaky-most}
 use Rattle.engine.specs.Area.{off, put_sec}
-use Rattle.rounds.specs.Loops.{Keeping, keeping_none, keeping-more, keeping-end, keeping-other}
+use Rattle.rounds.specs.Loops.{keeping_none, keeping-more, keeping-end, keeping-other}
 use Rattle.flaand_comm.specs.AreaLaws.{copied, copied-length, copied-same, cut, cut-whole, item, window-is}
 use Rattle.flaand_comm.specs.AreaLaws.{own-inside, behind, own-kept}
 use Rattle.flaand_comm.proofs.hold.Goals as goal

@@ -1,14 +1,12 @@
 -- The loop's invariant: the rows of the first k parties are kept.
-use Rattle.lists.specs.Kit.{◌≡◌, sym, ap, ◌∙◌, List, ℕ, ◌+◌, ◌-◌, ◌*◌, ◌≤◌, arith, length, take, drop, rules}
+use Rattle.std.specs.Prelude.{◌-◌, ◌*◌, ◌≤◌}
+use Rattle.lists.specs.Kit.{List, ℕ, take, drop}
 use Rattle.plan.specs.Plan.{leaky}
-use Rattle.plan.specs.PlanLaws.{leaky-most}
 use Rattle.engine.specs.declared.Frame.{Frame}
-use Rattle.rounds.specs.Area.{H_COMMS, size_of, keep}
+use Rattle.rounds.specs.Area.{H_COMMS}
 use Rattle.rounds.specs.Mail.{letter}
-use Rattle.rounds.specs.Loops.{row_of, rows_of}
-use Rattle.rounds.specs.Flaand.{comm_rows}
-use Rattle.area.specs.Sizes.{size-h-comms}
-use Rattle.area.specs.Filled.{Filled, filled_none, filled-end, row_in, row-lent, filled_put}
+use Rattle.rounds.specs.Loops.{row_of}
+use Rattle.area.specs.Filled.{Filled}
 use Rattle.flaand_comm.proofs.keep.Given as goal
 
 -- what party k told, in m bytes, and row k

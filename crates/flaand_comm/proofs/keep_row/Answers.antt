@@ -1,4 +1,5 @@
-use Rattle.lists.specs.Kit.{sym, ap, ◌∙◌, ◌+◌, ◌≤◌, arith, length, take, drop, rules}
+use Rattle.std.specs.Prelude.{◌+◌, ◌≤◌}
+use Rattle.lists.specs.Kit.{sym, ap, ◌∙◌, arith, length, take, drop}
 use lib.ListN.{length-drop}
 use Rattle.lists.specs.Sect.{get-rest}
 use Rattle.rounds.specs.Mail.{letter}

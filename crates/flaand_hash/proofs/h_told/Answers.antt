@@ -1,4 +1,5 @@
-use Rattle.lists.specs.Kit.{sym, ap, ◌∙◌, List, ℕ, ◌+◌, ◌*◌, ◌≤◌, arith, length, rules}
+use Rattle.std.specs.Prelude.{◌+◌, ◌*◌, ◌≤◌}
+use Rattle.lists.specs.Kit.{sym, ap, ◌∙◌, List, ℕ, arith, length}
 use Rattle.lists.specs.Over.{in-chunks}
 use Rattle.block.specs.Block.{block_at}
 use Rattle.block.specs.Group.{blocks}

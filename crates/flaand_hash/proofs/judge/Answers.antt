@@ -1,6 +1,6 @@
-use Rattle.lists.specs.Kit.{◌≡◌, sym, ap, ◌∙◌, List, Bool, ℕ, arith, rules}
+use Rattle.std.specs.Prelude.{◌≡◌}
+use Rattle.lists.specs.Kit.{sym, ap, ◌∙◌, List, Bool, ℕ, arith}
 use Rattle.lists.specs.Pick.{pick}
-use Rattle.engine.specs.declared.Frame.{Frame}
 use Rattle.rounds.specs.Area.{HS, H_COMMS, at}
 use Rattle.rounds.specs.Mail.{letter}
 use Rattle.rounds.specs.FaultLaws.{Finds}

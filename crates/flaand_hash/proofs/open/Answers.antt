@@ -1,9 +1,9 @@
-use Rattle.lists.specs.Kit.{◌≡◌, sym, ◌∙◌, ◌-◌, ◌≤◌, arith, rules}
-use Rattle.engine.specs.Step.{scan}
+use Rattle.std.specs.Prelude.{◌-◌}
+use Rattle.lists.specs.Kit.{sym, ◌∙◌, arith, rules}
 use Rattle.engine.specs.StepLaws.{scan-turn}
 use Rattle.rounds.specs.Mail.{letter}
-use Rattle.rounds.specs.FaultLaws.{fault_at, clean-zero, finds-first, finds-none}
-use Rattle.flaand_hash.specs.Laws.{open_fault, opening-by}
+use Rattle.rounds.specs.FaultLaws.{clean-zero, finds-first, finds-none}
+use Rattle.flaand_hash.specs.Laws.{opening-by}
 use Rattle.flaand_hash.proofs.open.Goals as goal
 
 pub loop-k-init : goal.loop-k-init

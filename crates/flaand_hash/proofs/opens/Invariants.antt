@@ -1,13 +1,7 @@
 -- The loop's invariant: ok says whether the first t open.
-use Rattle.lists.specs.Kit.{◌≡◌, refl, sym, ap, ap₂, ◌∙◌, List, ℕ, ◌+◌, ◌-◌, ◌*◌, ◌≤◌, arith, length, take, drop, rules}
-use Rattle.lists.specs.All.{all_of, all-zero}
-use Rattle.lists.specs.Over.{cat, in-chunks}
-use Rattle.lists.specs.Same.{same?}
-use Rattle.blake3_lanes.specs.Lanes.{hash_at}
-use Rattle.plan.specs.Plan.{leaky}
-use Rattle.plan.specs.PlanLaws.{leaky-most}
-use Rattle.rounds.specs.Loops.{lent-part}
-use Rattle.flaand_hash.specs.Laws.{opens, opens_at, window-turn}
+use Rattle.std.specs.Prelude.{◌≡◌, ◌-◌, ◌≤◌}
+use Rattle.lists.specs.All.{all_of}
+use Rattle.flaand_hash.specs.Laws.{opens_at}
 use Rattle.flaand_hash.proofs.opens.Given as goal
 
 abbrev pub invariant-loop-t : goal.invariant-loop-t

@@ -1,5 +1,5 @@
-use Rattle.lists.specs.Kit.{◌≡◌, refl, ap₂, ◌∙◌, ◌-◌, ◌≤◌, arith, length, take, rules}
-use Prim.Native.Nat.{◌%◌}
+use Rattle.std.specs.Prelude.{◌-◌}
+use Rattle.lists.specs.Kit.{refl, ap₂, ◌∙◌, arith}
 use lib.Seq.{take_all}
 use Rattle.lists.specs.Same.{same?}
 use Rattle.block.specs.Block.{eq_block}

@@ -1,10 +1,8 @@
 -- The loop's invariant: ok says whether the bytes before `at` are the same.
-use Rattle.lists.specs.Kit.{◌≡◌, refl, ap₂, ◌∙◌, ◌-◌, ◌≤◌, arith, length, take, rules}
+use Rattle.std.specs.Prelude.{◌≡◌, ◌-◌, ◌≤◌}
+use Rattle.lists.specs.Kit.{length, take}
 use Prim.Native.Nat.{◌%◌}
-use lib.Seq.{take_all}
 use Rattle.lists.specs.Same.{same?}
-use Rattle.block.specs.Block.{eq_block}
-use Rattle.flaand_hash.specs.Laws.{same_more}
 use Rattle.flaand_hash.proofs.same.Given as goal
 
 abbrev pub invariant-loop-at : goal.invariant-loop-at

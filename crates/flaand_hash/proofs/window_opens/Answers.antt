@@ -1,4 +1,5 @@
-use Rattle.lists.specs.Kit.{◌≡◌, sym, ap, ◌∙◌, List, ◌++◌, ℕ, ◌*◌, arith, length, take, drop, replicate, rules}
+use Rattle.std.specs.Prelude.{◌≡◌, ◌++◌, ◌*◌}
+use Rattle.lists.specs.Kit.{sym, ap, ◌∙◌, List, ℕ, arith, length, take, drop, replicate}
 use lib.ListN.{length-append}
 use lib.Seq.{take_at, length-take-le}
 use Rattle.lists.specs.Over.{length-cat}

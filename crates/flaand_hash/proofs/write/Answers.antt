@@ -1,4 +1,5 @@
-use Rattle.lists.specs.Kit.{sym, ap, ap₂, ◌∙◌, List, ◌++◌, ℕ, ◌+◌, ◌-◌, ◌*◌, arith, rules}
+use Rattle.std.specs.Prelude.{◌++◌, ◌+◌, ◌-◌, ◌*◌}
+use Rattle.lists.specs.Kit.{sym, ap, ap₂, ◌∙◌, List, ℕ, arith}
 use Rattle.lists.specs.Bytes.{bytes-get}
 use Rattle.block.specs.Block.{le8}
 use Rattle.plan.specs.Plan.{msg_len, list_len, kind_of, count_due}

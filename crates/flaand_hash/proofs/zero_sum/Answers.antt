@@ -1,14 +1,10 @@
-use Rattle.lists.specs.Kit.{◌≡◌, sym, ap, ap₂, ◌∙◌, List, Bool, ℕ, ◌+◌, ◌-◌, ◌*◌, ◌<◌, ◌≤◌, arith, length, rules}
+use Rattle.std.specs.Prelude.{◌≡◌, ◌+◌, ◌-◌, ◌*◌, ◌<◌, ◌≤◌}
+use Rattle.lists.specs.Kit.{sym, ap, ap₂, ◌∙◌, arith, length}
 use Rattle.lists.specs.All.{all_of, all-zero, all_more}
 use Rattle.lists.specs.Over.{in-chunks}
-use Rattle.algebra.specs.Group.{XorGroup}
-use Rattle.algebra.specs.Sum.{others}
-use Rattle.block.specs.Block.{block_at, eq_block}
+use Rattle.block.specs.Block.{eq_block}
 use Rattle.block.specs.Group.{blocks}
 use Rattle.plan.specs.Plan.{leaky}
-use Rattle.rounds.specs.declared.Mail.{Mail}
-use Rattle.rounds.specs.Mail.{letter}
-use Rattle.rounds.specs.Flaand.{h_told}
 use Rattle.flaand_hash.specs.Laws.{summed}
 use Rattle.flaand_hash.proofs.zero_sum.Goals as goal
 use Rattle.flaand_hash.proofs.zero_sum.Invariants.{item}

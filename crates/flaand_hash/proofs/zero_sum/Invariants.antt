@@ -1,8 +1,7 @@
 -- The loop's invariant: ok says whether the h of the first t positions sum to zero.
-use Rattle.lists.specs.Kit.{◌≡◌, sym, ap, ap₂, ◌∙◌, List, Bool, ℕ, ◌+◌, ◌-◌, ◌*◌, ◌<◌, ◌≤◌, arith, length, rules}
-use Rattle.lists.specs.All.{all_of, all-zero, all_more}
-use Rattle.lists.specs.Over.{in-chunks}
-use Rattle.algebra.specs.Group.{XorGroup}
+use Rattle.std.specs.Prelude.{◌≡◌, ◌-◌, ◌*◌, ◌≤◌}
+use Rattle.lists.specs.Kit.{List, Bool, ℕ}
+use Rattle.lists.specs.All.{all_of}
 use Rattle.algebra.specs.Sum.{others}
 use Rattle.block.specs.Block.{block_at, eq_block}
 use Rattle.block.specs.Group.{blocks}
@@ -10,7 +9,6 @@ use Rattle.plan.specs.Plan.{leaky}
 use Rattle.rounds.specs.declared.Mail.{Mail}
 use Rattle.rounds.specs.Mail.{letter}
 use Rattle.rounds.specs.Flaand.{h_told}
-use Rattle.flaand_hash.specs.Laws.{summed}
 use Rattle.flaand_hash.proofs.zero_sum.Given as goal
 
 -- all h of position t sum to zero

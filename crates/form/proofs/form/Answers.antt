@@ -1,5 +1,5 @@
-use Rattle.lists.specs.Kit.{◌≡◌, sym, ◌∙◌, ℕ, ◌-◌, ◌<◌, ◌≤◌, arith, rules}
-use Rattle.engine.specs.Step.{Lent, scan}
+use Rattle.std.specs.Prelude.{◌≡◌, ◌-◌}
+use Rattle.lists.specs.Kit.{sym, ◌∙◌, arith}
 use Rattle.engine.specs.StepLaws.{scan-turn}
 use Rattle.rounds.specs.FaultLaws.{fault_at, clean-zero, finds-first, finds-none}
 use Rattle.admit.specs.Admit.{kind_fault, posted}

@@ -1,10 +1,8 @@
 -- `form::form` meets its contract: the first j parties have no fault of form.
-use Rattle.lists.specs.Kit.{◌≡◌, sym, ◌∙◌, ℕ, ◌-◌, ◌<◌, ◌≤◌, arith, rules}
-use Rattle.engine.specs.Step.{Lent, scan}
-use Rattle.engine.specs.StepLaws.{scan-turn}
-use Rattle.rounds.specs.FaultLaws.{fault_at, clean-zero, finds-first, finds-none}
+use Rattle.std.specs.Prelude.{◌≡◌, ◌-◌, ◌≤◌}
+use Rattle.engine.specs.Step.{scan}
+use Rattle.rounds.specs.FaultLaws.{fault_at}
 use Rattle.admit.specs.Admit.{kind_fault, posted}
-use Rattle.admit.proofs.AdmitLaws.{parts-fit, form-found}
 use Rattle.form.proofs.form.Given as goal
 
 abbrev pub invariant-loop-j : goal.invariant-loop-j

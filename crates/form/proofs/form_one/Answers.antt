@@ -1,7 +1,6 @@
 -- `form::form_one` meets its contract.
-use Rattle.lists.specs.Kit.{ap, ◌∙◌, rules}
+use Rattle.lists.specs.Kit.{ap, ◌∙◌}
 use Rattle.message.specs.Format as Format
-use Rattle.engine.specs.Step.{Lent}
 use Rattle.rounds.specs.Mail as Mail
 use Rattle.rounds.specs.FaultLaws.{fault-own, fault-other}
 use Rattle.admit.specs.Admit.{kind_fault, posted}

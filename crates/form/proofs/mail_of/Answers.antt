@@ -1,6 +1,7 @@
-use Rattle.lists.specs.Kit.{◌≡◌, refl, ap₂, List, ℕ, ◌-◌, ◌<◌, ◌≤◌, arith, get_or, rules}
+use Rattle.std.specs.Prelude.{◌≡◌, ◌-◌, ◌<◌}
+use Rattle.lists.specs.Kit.{refl, ap₂, List, ℕ, arith, get_or}
 use Rattle.rounds.specs.declared.Mail.{Mail}
-use Rattle.admit.specs.Admit.{eight, mail_of}
+use Rattle.admit.specs.Admit.{mail_of}
 use Rattle.admit.proofs.AdmitLaws.{eight-none, eight-turn, eight-end}
 use Rattle.form.proofs.mail_of.Goals as goal
 use Rattle.form.proofs.mail_of.Goals.{In-loop-j}

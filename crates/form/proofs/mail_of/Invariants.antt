@@ -1,8 +1,7 @@
 -- `form::mail_of` meets its contract: the first j starts and lengths are in place.
-use Rattle.lists.specs.Kit.{◌≡◌, refl, ap₂, List, ℕ, ◌-◌, ◌<◌, ◌≤◌, arith, get_or, rules}
-use Rattle.rounds.specs.declared.Mail.{Mail}
-use Rattle.admit.specs.Admit.{eight, mail_of}
-use Rattle.admit.proofs.AdmitLaws.{eight-none, eight-turn, eight-end}
+use Rattle.std.specs.Prelude.{◌≡◌, ◌-◌, ◌≤◌}
+use Rattle.lists.specs.Kit.{get_or}
+use Rattle.admit.specs.Admit.{eight}
 use Rattle.form.proofs.mail_of.Given as goal
 
 abbrev pub invariant-loop-j : goal.invariant-loop-j

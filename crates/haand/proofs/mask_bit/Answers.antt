@@ -1,4 +1,5 @@
-use Rattle.lists.specs.Kit.{ap, ◌∙◌, ◌+◌, ◌*◌, ◌<◌, arith, length, get_or, rules}
+use Rattle.std.specs.Prelude.{◌+◌, ◌*◌, ◌<◌}
+use Rattle.lists.specs.Kit.{ap, ◌∙◌, arith, length, get_or}
 use Rattle.lists.specs.Over.{in-chunks}
 use Rattle.algebra.specs.Group.{odd}
 use Rattle.plan.specs.Plan.{leaky}

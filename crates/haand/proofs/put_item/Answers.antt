@@ -1,4 +1,5 @@
-use Rattle.lists.specs.Kit.{ap, ap₂, ◌∙◌, Bool, not, ℕ, ◌+◌, ◌≤◌, arith, length, get_or, rules}
+use Rattle.std.specs.Prelude.{◌+◌, ◌≤◌}
+use Rattle.lists.specs.Kit.{ap, ap₂, ◌∙◌, Bool, not, ℕ, arith, length, get_or}
 use mathlib.Core.Bool.{beq}
 use Rattle.algebra.specs.Group.{addb, odd, xor-addb}
 use Rattle.share.specs.Layout.{record-some}

@@ -1,9 +1,10 @@
-use Rattle.lists.specs.Kit.{◌≡◌, refl, sym, ap, ap₂, ◌∙◌, List, ℕ, ◌+◌, ◌-◌, ◌*◌, ◌≤◌, arith, length, rules}
+use Rattle.std.specs.Prelude.{◌≡◌, ◌+◌, ◌-◌, ◌*◌, ◌≤◌}
+use Rattle.lists.specs.Kit.{refl, sym, ap, ap₂, ◌∙◌, arith, length}
 use Rattle.plan.specs.Plan.{leaky, msg_len, list_len, kind_of, count_due}
 use Rattle.plan.specs.PlanLaws.{leaky-most}
 use Rattle.engine.specs.Area.{to_others, nth-below}
 use Rattle.rounds.specs.Area.{MASKS, BITS, LEAKY}
-use Rattle.rounds.specs.Loops.{Sent, sent-none, sent-in, sent-turn, sent-end, lent-part}
+use Rattle.rounds.specs.Loops.{sent-none, sent-in, sent-turn, sent-end, lent-part}
 use Rattle.rounds.specs.Table.{delta}
 use Rattle.rounds.specs.Haand.{leaky_rows, haand_msg}
 use Rattle.area.specs.GivenLaws.{lent_length}

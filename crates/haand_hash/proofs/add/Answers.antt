@@ -1,5 +1,6 @@
-use Rattle.lists.specs.Kit.{ap, ◌∙◌, List, ℕ, ◌+◌, ◌-◌, ◌*◌, ◌≤◌, arith, rules}
-use Rattle.lists.specs.Over.{Written, written-zero, written-turn, written-end}
+use Rattle.std.specs.Prelude.{◌+◌, ◌-◌, ◌*◌}
+use Rattle.lists.specs.Kit.{ap, ◌∙◌, List, ℕ, arith}
+use Rattle.lists.specs.Over.{written-zero, written-turn, written-end}
 use Rattle.block.specs.declared.Block.{Block}
 use Rattle.block.specs.Block.{block_at, bytes_of}
 use Rattle.block.specs.Group.{blocks}

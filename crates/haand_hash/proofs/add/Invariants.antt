@@ -1,10 +1,10 @@
 -- The loop's invariant: the first j Blocks stand in front, each plus d.
-use Rattle.lists.specs.Kit.{ap, ◌∙◌, List, ℕ, ◌+◌, ◌-◌, ◌*◌, ◌≤◌, arith, rules}
-use Rattle.lists.specs.Over.{Written, written-zero, written-turn, written-end}
+use Rattle.std.specs.Prelude.{◌-◌, ◌*◌, ◌≤◌}
+use Rattle.lists.specs.Kit.{List, ℕ}
+use Rattle.lists.specs.Over.{Written}
 use Rattle.block.specs.declared.Block.{Block}
 use Rattle.block.specs.Block.{block_at, bytes_of}
 use Rattle.block.specs.Group.{blocks}
-use Rattle.block.specs.Trip.{length-bytes_of}
 use Rattle.haand_hash.proofs.add.Given as goal
 
 abbrev pub added : List ℕ → Block → ℕ → List ℕ

@@ -1,5 +1,5 @@
-use Rattle.lists.specs.Kit.{◌≡◌, refl, ap, ◌∙◌, List, ℕ, ◌+◌, ◌-◌, ◌*◌, ◌<◌, ◌≤◌, arith, length, rules}
-use Rattle.lists.specs.Over.{Written}
+use Rattle.std.specs.Prelude.{◌≡◌, ◌+◌, ◌-◌, ◌*◌, ◌<◌, ◌≤◌}
+use Rattle.lists.specs.Kit.{refl, ap, ◌∙◌, ℕ, arith, length}
 use Rattle.lists.specs.Rows.{even-zero, even-in, even-put, even-end}
 use Rattle.block.specs.Block.{bytes_of}
 use Rattle.block.specs.Trip.{length-bytes_of}

@@ -1,14 +1,9 @@
 -- The loop's invariant: the parts of the first p positions are written.
-use Rattle.lists.specs.Kit.{◌≡◌, refl, ap, ◌∙◌, List, ℕ, ◌+◌, ◌-◌, ◌*◌, ◌<◌, ◌≤◌, arith, length, rules}
+use Rattle.std.specs.Prelude.{◌+◌, ◌-◌, ◌*◌, ◌≤◌}
 use Rattle.lists.specs.Over.{Written}
-use Rattle.lists.specs.Rows.{even-zero, even-in, even-put, even-end}
 use Rattle.block.specs.Block.{bytes_of}
-use Rattle.block.specs.Trip.{length-bytes_of}
 use Rattle.share.specs.Record.{record_len}
-use Rattle.plan.specs.Plan.{leaky}
-use Rattle.engine.specs.Area.{to_others, length-to_others}
-use Rattle.rounds.specs.Loops.{lent-part}
-use Rattle.area.specs.Positions.{position-most, x_in_lem}
+use Rattle.engine.specs.Area.{to_others}
 use Rattle.haand_hash.specs.Window.{part_of}
 use Rattle.haand_hash.proofs.gather.Given as goal
 

@@ -1,8 +1,8 @@
-use Rattle.lists.specs.Kit.{◌≡◌, sym, ap, ◌∙◌, List, ◌++◌, true, ℕ, ◌+◌, ◌-◌, ◌*◌, ◌≤◌, arith, length, drop, replicate, rules}
+use Rattle.std.specs.Prelude.{◌≡◌, ◌++◌, ◌+◌, ◌-◌, ◌*◌, ◌≤◌}
+use Rattle.lists.specs.Kit.{sym, ap, ◌∙◌, true, ℕ, arith, length, drop, replicate, rules}
 use lib.Seq.{length-take-le}
 use Rattle.lists.specs.Over.{length-cat}
 use Rattle.lists.specs.Sect.{put, length-get, length-put}
-use Rattle.block.specs.declared.Block.{Block}
 use Rattle.block.specs.Block.{block_at, bytes_of}
 use Rattle.block.specs.Group.{blocks}
 use Rattle.block.specs.Trip.{Small, length-bytes_of}

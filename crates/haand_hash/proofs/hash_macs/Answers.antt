@@ -1,6 +1,6 @@
-use Rattle.lists.specs.Kit.{◌≡◌, sym, ◌++◌, false, ℕ, ◌+◌, ◌-◌, ◌*◌, ◌≤◌, arith, length, drop, replicate, rules}
+use Rattle.std.specs.Prelude.{◌≡◌, ◌++◌, ◌+◌, ◌-◌, ◌*◌, ◌≤◌}
+use Rattle.lists.specs.Kit.{sym, false, arith, length, drop, replicate, rules}
 use lib.Seq.{length-take-le}
-use Rattle.block.specs.declared.Block.{Block}
 use Rattle.share.specs.Record.{record_len}
 use Rattle.haand_hash.specs.Window.{part_of}
 use Rattle.haand_hash.specs.WindowLaws.{bytes_in, small-part, filled, filled-length, window-hashed}

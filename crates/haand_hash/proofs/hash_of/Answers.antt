@@ -1,4 +1,5 @@
-use Rattle.lists.specs.Kit.{ap, ◌∙◌, ◌+◌, ◌*◌, ◌≤◌, arith, length, rules}
+use Rattle.std.specs.Prelude.{◌+◌, ◌*◌, ◌≤◌}
+use Rattle.lists.specs.Kit.{ap, ◌∙◌, arith, length}
 use Rattle.haand_hash.specs.WindowLaws.{g-read, h-read}
 use Rattle.haand_hash.proofs.hash_of.Goals as goal
 use Rattle.haand_hash.proofs.hash_of.Goals.{After-place-at}

@@ -1,4 +1,4 @@
-use Rattle.lists.specs.Kit.{sym, ap, ◌∙◌, Bool, rules}
+use Rattle.lists.specs.Kit.{sym, ap, ◌∙◌, Bool}
 use Rattle.haand_hash.specs.Window.{part_of}
 use Rattle.haand_hash.proofs.part_of.Goals as goal
 

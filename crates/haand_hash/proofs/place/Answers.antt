@@ -1,4 +1,4 @@
-use Rattle.lists.specs.Kit.{◌-◌, rules}
+use Rattle.std.specs.Prelude.{◌-◌}
 use borrow.Author.Tests.{lt-ltb, le-ltb}
 use Rattle.haand_hash.proofs.place.Goals as goal
 

@@ -1,9 +1,10 @@
-use Rattle.lists.specs.Kit.{refl, ap, ◌∙◌, List, ℕ, ◌+◌, ◌-◌, ◌*◌, ◌<◌, ◌≤◌, arith, length, rules}
+use Rattle.std.specs.Prelude.{◌+◌, ◌-◌, ◌*◌, ◌<◌, ◌≤◌}
+use Rattle.lists.specs.Kit.{refl, ap, ◌∙◌, arith, length}
 use Rattle.block.specs.Block.{bytes_of}
 use Rattle.block.specs.Trip.{length-bytes_of}
 use Rattle.share.specs.Layout.{record-within}
 use Rattle.engine.specs.Area.{nth-below}
-use Rattle.rounds.specs.Loops.{lent-part, Sent, sent-none, sent-in, sent-turn, sent-end}
+use Rattle.rounds.specs.Loops.{lent-part, sent-none, sent-in, sent-turn, sent-end}
 use Rattle.haand_hash.specs.Window.{part_of}
 use Rattle.haand_hash.proofs.put_parts.Goals as goal
 use Rattle.haand_hash.proofs.put_parts.Goals.{In-loop-q}

@@ -1,4 +1,5 @@
-use Rattle.lists.specs.Kit.{◌-◌, ◌≤◌, arith, rules}
+use Rattle.std.specs.Prelude.{◌-◌, ◌≤◌}
+use Rattle.lists.specs.Kit.{arith, rules}
 use Prim.Native.Nat.{◌/◌}
 use native.Mathlib.Nat.{mul-le-mul_right, div-mul-le_self}
 use Rattle.haand_hash.specs.WindowLaws.{some_fit}

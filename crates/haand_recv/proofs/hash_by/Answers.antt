@@ -1,4 +1,5 @@
-use Rattle.lists.specs.Kit.{◌∙◌, ◌-◌, arith, rules}
+use Rattle.std.specs.Prelude.{◌-◌}
+use Rattle.lists.specs.Kit.{◌∙◌, arith}
 use Rattle.lists.specs.Over.{in-chunks}
 use Rattle.algebra.specs.Group.{bits}
 use Rattle.block.specs.Group.{blocks}

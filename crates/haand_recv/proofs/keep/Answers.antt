@@ -1,13 +1,13 @@
-use Rattle.lists.specs.Kit.{◌≡◌, refl, sym, ap, ap₂, ◌∙◌, List, ◌++◌, ℕ, ◌+◌, ◌-◌, ◌*◌, ◌<◌, ◌≤◌, arith, length, take, drop, rules}
+use Rattle.std.specs.Prelude.{◌≡◌, ◌++◌, ◌+◌, ◌-◌, ◌*◌, ◌<◌, ◌≤◌}
+use Rattle.lists.specs.Kit.{refl, sym, ap, ap₂, ◌∙◌, List, ℕ, arith, length, take, drop}
 use lib.Seq.{length-take-le}
 use borrow.Rule.Slice.PartMut.{post_of}
 use Rattle.lists.specs.Over.{cat, length-cat}
 use Rattle.lists.specs.Sect.{get, length-put}
 use Rattle.plan.specs.Plan.{leaky}
-use Rattle.engine.specs.declared.Frame.{Frame}
 use Rattle.rounds.specs.Area.{MASKS, BITS, ZS, SECTIONS, size_of, at, keep}
 use Rattle.rounds.specs.Mail.{letter}
-use Rattle.rounds.specs.Loops.{lent-part, Keeping, keeping_none, keeping-more, keeping-end, keeping-other}
+use Rattle.rounds.specs.Loops.{lent-part, keeping_none, keeping-more, keeping-end, keeping-other}
 use Rattle.rounds.specs.Haand as R
 use Rattle.rounds.specs.HaandLaws.{length-z_row}
 use Rattle.area.specs.Given.{Place}

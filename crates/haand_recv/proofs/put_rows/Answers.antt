@@ -1,10 +1,10 @@
-use Rattle.lists.specs.Kit.{◌≡◌, refl, ap, ap₂, ◌∙◌, List, ℕ, ◌+◌, ◌-◌, ◌*◌, ◌≤◌, arith, length, take, drop, rules}
-use Rattle.lists.specs.Over.{Written, written-zero, written-turn, written-end, in-chunks}
+use Rattle.std.specs.Prelude.{◌≡◌, ◌+◌, ◌-◌, ◌*◌, ◌≤◌}
+use Rattle.lists.specs.Kit.{refl, ap, ap₂, ◌∙◌, arith, length, take, drop}
+use Rattle.lists.specs.Over.{written-zero, written-turn, written-end, in-chunks}
 use Rattle.algebra.specs.Group.{addb, xor-addb}
 use Rattle.share.specs.Record.{record_len, mac_at}
 use Rattle.encode.specs.Encode.{bit_block}
 use Rattle.plan.specs.PlanLaws.{leaky-most}
-use Rattle.engine.specs.declared.Frame.{Frame}
 use Rattle.rounds.specs.Loops.{lent-part}
 use Rattle.rounds.specs.Mail.{letter}
 use Rattle.rounds.specs.Haand as R
@@ -40,28 +40,26 @@ lent : (c : In-loop-p) → take ((c.loop-p.p) * ((c.args.f.n - 1) * 32) + ((c.ar
 lent c = lent-hashes c.requires.hashed (c.loop-p.p) ((c.loop-p.p) * ((c.args.f.n - 1) * 32)) ((c.loop-p.p) * ((c.args.f.n - 1) * 32) + ((c.args.f.n - 1) * 32)) c.loop-p-test.true (omega arith) refl
 
 pub sums-s-requires : goal.sums-s-requires
-sums-s-requires c =
-    (
-      c.requires.positions.0.ranges.own,
-      ap length (lent (goal.at.sums-s-requires c).In-loop-p) ∙ length-hashes c.args.f
-          (mac_at c.args.recs.now ((c.args.t + (c.loop-p.p)) * record_len c.args.f.n)),
-    )
+sums-s-requires c = (
+  c.requires.positions.0.ranges.own,
+  ap length (lent (goal.at.sums-s-requires c).In-loop-p) ∙ length-hashes c.args.f
+      (mac_at c.args.recs.now ((c.args.t + (c.loop-p.p)) * record_len c.args.f.n)),
+)
 
 pub told-z-requires : goal.told-z-requires
 told-z-requires c = record { asked = asked (goal.at.told-z-requires c).In-loop-p; masks_len = c.requires.masks_len; arrived = c.requires.arrived }
 
 pub loop-p-preserved : goal.loop-p-preserved
-loop-p-preserved c =
-    (
-      omega (arith, c.loop-p-test.true),
-      written-turn (λ p. R.z_row (c.args.f) c.args.masks.now c.args.recs.now (letter c.args.incoming.now c.args.mail) (c.args.t + p)) (c.loop-p.p) ((c.loop-p.p) * 17) ((c.loop-p.p) * 17 + 17) (((c.loop-p.p) + 1) * 17) c.args.out.now c.loop-p.out c.put_bit_block.new.out c.loop-p.invariant.1
-          (c.put_bit_block.ensures
-          ∙ ap₂ bit_block (xor-addb c.sums-s.result.1 c.told-z.result ∙ ap₂ addb c.sums-s.ensures.1 c.told-z.ensures)
-          c.sums-s.ensures.0
-          ∙ z-row-is (c.args.f) c.args.masks.now c.args.recs.now (letter c.args.incoming.now c.args.mail) (c.args.t + (c.loop-p.p)) _ c.requires.positions.0.ranges.own (lent (goal.at.loop-p-preserved c).In-loop-p))
-          (omega (arith, length-z_row (c.args.f) c.args.masks.now c.args.recs.now (letter c.args.incoming.now c.args.mail) (c.args.t + (c.loop-p.p))))
-          (omega (arith, row_in (goal.at.loop-p-preserved c).In-loop-p, c.loop-p.invariant.1.same)) (omega arith),
-    )
+loop-p-preserved c = (
+  omega (arith, c.loop-p-test.true),
+  written-turn (λ p. R.z_row (c.args.f) c.args.masks.now c.args.recs.now (letter c.args.incoming.now c.args.mail) (c.args.t + p)) (c.loop-p.p) ((c.loop-p.p) * 17) ((c.loop-p.p) * 17 + 17) (((c.loop-p.p) + 1) * 17) c.args.out.now c.loop-p.out c.put_bit_block.new.out c.loop-p.invariant.1
+      (c.put_bit_block.ensures
+      ∙ ap₂ bit_block (xor-addb c.sums-s.result.1 c.told-z.result ∙ ap₂ addb c.sums-s.ensures.1 c.told-z.ensures)
+      c.sums-s.ensures.0
+      ∙ z-row-is (c.args.f) c.args.masks.now c.args.recs.now (letter c.args.incoming.now c.args.mail) (c.args.t + (c.loop-p.p)) _ c.requires.positions.0.ranges.own (lent (goal.at.loop-p-preserved c).In-loop-p))
+      (omega (arith, length-z_row (c.args.f) c.args.masks.now c.args.recs.now (letter c.args.incoming.now c.args.mail) (c.args.t + (c.loop-p.p))))
+      (omega (arith, row_in (goal.at.loop-p-preserved c).In-loop-p, c.loop-p.invariant.1.same)) (omega arith),
+)
 
 pub shape_of-out : goal.shape_of-out
 shape_of-out c = c.loop-p.invariant.1.same

@@ -1,4 +1,3 @@
-use Rattle.lists.specs.Kit.{rules}
 use Rattle.haand_recv.proofs.put_window.Goals as goal
 
 pub put_rows-requires : goal.put_rows-requires

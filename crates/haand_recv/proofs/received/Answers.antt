@@ -1,4 +1,3 @@
-use borrow.Author.Rules.{rules}
 use Rattle.haand_recv.specs.Received.{received, chosen}
 use Rattle.haand_recv.proofs.received.Goals as goal
 

@@ -1,9 +1,8 @@
 -- The loop's invariant: both sums have the first k parties.
-use Rattle.lists.specs.Kit.{◌≡◌, ap, ◌∙◌, ◌-◌, ◌≤◌, arith, rules}
-use Rattle.algebra.specs.Group.{bits, xor-addb}
+use Rattle.std.specs.Prelude.{◌≡◌, ◌-◌, ◌≤◌}
+use Rattle.algebra.specs.Group.{bits}
 use Rattle.algebra.specs.Sum.{others}
 use Rattle.block.specs.Group.{blocks}
-use Rattle.rounds.specs.Loops.{others-none, others-turn}
 use Rattle.haand_hash.specs.Window.{g_at, h_at}
 use Rattle.haand_recv.proofs.sums.Given as goal
 

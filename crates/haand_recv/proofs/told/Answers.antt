@@ -1,4 +1,5 @@
-use Rattle.lists.specs.Kit.{◌≡◌, ap, ap₂, ◌∙◌, Bool, ◌&&◌, ℕ, ◌-◌, ◌≤◌, arith, rules}
+use Rattle.std.specs.Prelude.{◌≡◌, ◌&&◌, ◌-◌}
+use Rattle.lists.specs.Kit.{ap, ap₂, ◌∙◌, arith}
 use Rattle.algebra.specs.Group.{bits, addb, sel, xor-addb}
 use Rattle.algebra.specs.Sum.{others}
 use Rattle.share.specs.Layout.{record-some}

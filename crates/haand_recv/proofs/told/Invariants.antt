@@ -1,14 +1,8 @@
 -- The loop's invariant: v has the first k parties.
-use Rattle.lists.specs.Kit.{◌≡◌, ap, ap₂, ◌∙◌, Bool, ◌&&◌, ℕ, ◌-◌, ◌≤◌, arith, rules}
-use Rattle.algebra.specs.Group.{bits, addb, sel, xor-addb}
+use Rattle.std.specs.Prelude.{◌≡◌, ◌-◌, ◌≤◌}
+use Rattle.algebra.specs.Group.{bits}
 use Rattle.algebra.specs.Sum.{others}
-use Rattle.share.specs.Layout.{record-some}
-use Rattle.share.specs.Record.{bit_at}
-use Rattle.share.specs.Share.{share_at}
 use Rattle.rounds.specs.Mail.{letter}
-use Rattle.rounds.specs.Loops.{others-none, others-turn}
-use Rattle.rounds.specs.Haand as R
-use Rattle.area.specs.Positions.{x_in_lem, y-in}
 use Rattle.haand_recv.specs.Received as Got
 use Rattle.haand_recv.proofs.told.Given as goal
 

@@ -1,4 +1,4 @@
-use Rattle.lists.specs.Kit.{sym, ap, ap₂, ◌∙◌, List, Bool, ℕ, arith, length, rules}
+use Rattle.lists.specs.Kit.{sym, ap, ap₂, ◌∙◌, List, Bool, ℕ, arith, length}
 use Rattle.algebra.specs.Group.{bits, addb, xor-addb}
 use Rattle.share.specs.Layout.{record-some}
 use Rattle.share.specs.Record.{bit_at}

@@ -1,4 +1,5 @@
-use Rattle.lists.specs.Kit.{◌≡◌, refl, sym, ap, ap₂, ◌∙◌, List, ◌++◌, ℕ, ◌+◌, ◌-◌, ◌*◌, ◌≤◌, arith, length, take, drop, rules}
+use Rattle.std.specs.Prelude.{◌≡◌, ◌++◌, ◌+◌, ◌-◌, ◌*◌, ◌≤◌}
+use Rattle.lists.specs.Kit.{refl, sym, ap, ap₂, ◌∙◌, List, ℕ, arith, length, take, drop}
 use native.Mathlib.Nat.{add-mul, mul-le-mul_right, zero-mul}
 use lib.Seq.{length-take-le}
 use borrow.Rule.Slice.PartMut.{post_of}
@@ -6,9 +7,8 @@ use Rattle.lists.specs.Over.{cat, length-cat}
 use Rattle.lists.specs.Sect.{get, length-put}
 use Rattle.block.specs.declared.Block.{Block}
 use Rattle.plan.specs.Plan.{leaky}
-use Rattle.engine.specs.declared.Frame.{Frame}
 use Rattle.rounds.specs.Area.{BITS, LEAKY, SECTIONS, leaky_len, size_of, at, keep}
-use Rattle.rounds.specs.Loops.{lent-part, Keeping, keeping_none, keeping-more, keeping-end, keeping-other}
+use Rattle.rounds.specs.Loops.{lent-part, keeping_none, keeping-more, keeping-end, keeping-other}
 use Rattle.rounds.specs.Table as Table
 use Rattle.rounds.specs.Haand as R
 use Rattle.rounds.specs.HaandLaws.{length-leaky_row}

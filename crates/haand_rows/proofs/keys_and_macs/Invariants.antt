@@ -1,12 +1,8 @@
 -- The loop's invariant: the sum has the first k parties.
-use Rattle.lists.specs.Kit.{◌≡◌, ap, ap₂, ◌∙◌, ℕ, ◌+◌, ◌-◌, ◌<◌, ◌≤◌, arith, length, rules}
-use Rattle.algebra.specs.Group.{sel}
-use Rattle.algebra.specs.Sum.{others, neq}
-use Rattle.block.specs.declared.Block.{Block}
+use Rattle.std.specs.Prelude.{◌≡◌, ◌-◌, ◌≤◌}
+use Rattle.algebra.specs.Sum.{others}
 use Rattle.block.specs.Group.{blocks}
-use Rattle.share.specs.Layout.{record_len, record-within}
 use Rattle.share.specs.Record.{mac_at, key_at}
-use Rattle.rounds.specs.Loops.{others-none, others-turn}
 use Rattle.haand_rows.proofs.keys_and_macs.Given as goal
 
 abbrev pub invariant-loop-k : goal.invariant-loop-k

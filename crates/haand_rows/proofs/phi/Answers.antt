@@ -1,4 +1,5 @@
-use Rattle.lists.specs.Kit.{ap, ap₂, ◌∙◌, Bool, ◌+◌, ◌*◌, ◌≤◌, arith, length, rules}
+use Rattle.std.specs.Prelude.{◌+◌, ◌*◌, ◌≤◌}
+use Rattle.lists.specs.Kit.{ap, ap₂, ◌∙◌, Bool, arith, length}
 use Rattle.algebra.specs.Group.{sel}
 use Rattle.algebra.specs.Sum.{others}
 use Rattle.block.specs.Group.{blocks}

@@ -1,5 +1,6 @@
-use Rattle.lists.specs.Kit.{◌≡◌, ap, ◌∙◌, List, ℕ, ◌+◌, ◌-◌, ◌*◌, ◌≤◌, arith, rules}
-use Rattle.lists.specs.Over.{Written, written-zero, written-turn, written-end}
+use Rattle.std.specs.Prelude.{◌≡◌, ◌+◌, ◌-◌, ◌*◌}
+use Rattle.lists.specs.Kit.{ap, ◌∙◌, List, ℕ, arith}
+use Rattle.lists.specs.Over.{written-zero, written-turn, written-end}
 use Rattle.algebra.specs.Sum.{others}
 use Rattle.block.specs.Group.{blocks}
 use Rattle.rounds.specs.Loops.{others-none, others-turn, row_of, length-row_of}

@@ -1,11 +1,11 @@
 -- The loop's invariant: the entries of the first k parties are written, and the sum has them.
-use Rattle.lists.specs.Kit.{◌≡◌, ap, ◌∙◌, List, ℕ, ◌+◌, ◌-◌, ◌*◌, ◌≤◌, arith, rules}
-use Rattle.lists.specs.Over.{Written, written-zero, written-turn, written-end}
+use Rattle.std.specs.Prelude.{◌≡◌, ◌-◌, ◌*◌, ◌≤◌}
+use Rattle.lists.specs.Over.{Written}
 use Rattle.algebra.specs.Sum.{others}
 use Rattle.block.specs.Group.{blocks}
-use Rattle.rounds.specs.Loops.{others-none, others-turn, row_of, length-row_of}
+use Rattle.rounds.specs.Loops.{row_of}
 use Rattle.haand_hash.specs.Window.{g_at}
-use Rattle.haand_rows.specs.Parts.{entry_at, length-entry_at}
+use Rattle.haand_rows.specs.Parts.{entry_at}
 use Rattle.haand_rows.proofs.put_entries.Given as goal
 
 abbrev pub invariant-loop-k : goal.invariant-loop-k

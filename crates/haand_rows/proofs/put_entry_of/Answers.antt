@@ -1,4 +1,5 @@
-use Rattle.lists.specs.Kit.{sym, ap, ◌∙◌, ◌≢◌, ◌+◌, ◌-◌, ◌*◌, ◌≤◌, arith, replicate, rules}
+use Rattle.std.specs.Prelude.{◌≢◌, ◌+◌, ◌-◌, ◌*◌, ◌≤◌}
+use Rattle.lists.specs.Kit.{sym, ap, ◌∙◌, arith, replicate}
 use Rattle.lists.specs.Over.{in-chunks}
 use Rattle.block.specs.Group.{blocks}
 use Rattle.rounds.specs.Loops.{sel-own, sel-other, row-own, row_other}

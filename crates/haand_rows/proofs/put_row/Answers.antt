@@ -1,4 +1,5 @@
-use Rattle.lists.specs.Kit.{ap, ◌∙◌, List, ◌++◌, ℕ, ◌+◌, ◌-◌, ◌*◌, arith, length, rules}
+use Rattle.std.specs.Prelude.{◌++◌, ◌+◌, ◌-◌, ◌*◌}
+use Rattle.lists.specs.Kit.{ap, ◌∙◌, List, ℕ, arith, length}
 use lib.ListN.{length-drop}
 use Rattle.lists.specs.Over.{cat, over-full}
 use Rattle.lists.specs.Sect.{get-rest}

@@ -1,9 +1,9 @@
-use Rattle.lists.specs.Kit.{◌≡◌, refl, sym, ap, subst, List, ℕ, ◌+◌, ◌-◌, ◌*◌, ◌≤◌, arith, length, rules}
+use Rattle.std.specs.Prelude.{◌≡◌, ◌+◌, ◌-◌, ◌*◌, ◌≤◌}
+use Rattle.lists.specs.Kit.{refl, sym, ap, subst, arith, length}
 use borrow.Rule.Slice.PartMut.{put_mid}
 use Rattle.lists.specs.Over.{Written, in-chunks}
 use Rattle.lists.specs.Rows.{even-zero, even-put, even-end}
 use Rattle.plan.specs.PlanLaws.{leaky-most}
-use Rattle.engine.specs.declared.Frame.{Frame}
 use Rattle.rounds.specs.Area.{leaky_len}
 use Rattle.rounds.specs.Loops.{lent-part}
 use Rattle.rounds.specs.Haand as R

@@ -1,4 +1,4 @@
-use Rattle.lists.specs.Kit.{refl, rules}
+use Rattle.lists.specs.Kit.{refl}
 use Rattle.rounds.specs.Area.{sizes, size_of, work_len}
 use Rattle.inputs.specs.Given.{buffers?}
 use Rattle.inputs.proofs.buffers_due.Goals as goal

@@ -1,4 +1,5 @@
-use Rattle.lists.specs.Kit.{refl, ap, ◌*◌, arith, rules}
+use Rattle.std.specs.Prelude.{◌*◌}
+use Rattle.lists.specs.Kit.{refl, ap, arith, rules}
 use Rattle.share.specs.Lent.{lent_len}
 use Rattle.inputs.specs.Given.{bytes_of}
 use Rattle.inputs.proofs.bytes_fault.Goals as goal

@@ -1,4 +1,3 @@
-use Rattle.lists.specs.Kit.{rules}
 use Rattle.inputs.specs.OpeningLaws.{tested}
 use Rattle.inputs.proofs.lengths_fault.Goals as goal
 

@@ -1,4 +1,4 @@
-use Rattle.lists.specs.Kit.{refl, rules}
+use Rattle.lists.specs.Kit.{refl}
 use Rattle.inputs.specs.Given.{lists?}
 use Rattle.inputs.proofs.lists_due.Goals as goal
 

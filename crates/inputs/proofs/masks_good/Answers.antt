@@ -1,7 +1,7 @@
-use Rattle.lists.specs.Kit.{◌≡◌, sym, ap, ◌∙◌, ◌+◌, ◌-◌, ◌*◌, ◌≤◌, arith, length, rules}
+use Rattle.std.specs.Prelude.{◌≡◌, ◌+◌, ◌-◌, ◌*◌, ◌≤◌}
+use Rattle.lists.specs.Kit.{sym, ap, ◌∙◌, arith, length, rules}
 use Rattle.lists.specs.All.{all_of, all-zero}
 use Rattle.lists.specs.Over.{in-chunks}
-use Rattle.engine.specs.Step.{frame}
 use Rattle.area.specs.Sizes.{size-masks}
 use Rattle.inputs.specs.Given.{row?, masks?}
 use Rattle.inputs.specs.OpeningLaws.{row_other, row-own}
@@ -32,7 +32,7 @@ loop-k-preserved c =
     let masks = c.args.masks.now in (
       search rules,
       elim c.if-i-k.branch [
-        then-i-k w ↦ w.good-is ∙ row_other c.args.f masks c.loop-k.k c.loop-k.good c.loop-k.invariant.1 c.leaky-count.result _ w.if-i-k.true c.leaky-count.ensures w.row_good-good.ensures
+        | then-i-k w ↦ w.good-is ∙ row_other c.args.f masks c.loop-k.k c.loop-k.good c.loop-k.invariant.1 c.leaky-count.result _ w.if-i-k.true c.leaky-count.ensures w.row_good-good.ensures
         | else-i-k w ↦ w.good-is ∙ row-own c.args.f masks c.loop-k.k c.loop-k.good c.loop-k.invariant.1 w.if-i-k.false
       ],
     )

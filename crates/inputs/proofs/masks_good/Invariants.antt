@@ -1,11 +1,7 @@
-use Rattle.lists.specs.Kit.{◌≡◌, sym, ap, ◌∙◌, ◌+◌, ◌-◌, ◌*◌, ◌≤◌, arith, length, rules}
-use mathlib.Core.Logic.{⊎_elim}
-use Rattle.lists.specs.All.{all_of, all-zero}
-use Rattle.lists.specs.Over.{in-chunks}
+use Rattle.std.specs.Prelude.{◌≡◌, ◌-◌, ◌≤◌}
+use Rattle.lists.specs.All.{all_of}
 use Rattle.engine.specs.Step.{frame}
-use Rattle.area.specs.Sizes.{size-masks}
-use Rattle.inputs.specs.Given.{row?, masks?}
-use Rattle.inputs.specs.OpeningLaws.{row_other, row-own}
+use Rattle.inputs.specs.Given.{row?}
 use Rattle.inputs.proofs.masks_good.Given as goal
 
 abbrev pub invariant-loop-k : goal.invariant-loop-k

@@ -1,6 +1,7 @@
-use Rattle.lists.specs.Kit.{◌≡◌, sym, ap, ◌∙◌, rules}
+use Rattle.std.specs.Prelude.{◌≡◌}
+use Rattle.lists.specs.Kit.{sym, ap, ◌∙◌}
 use Rattle.rounds.specs.Opening.{lengths_fault}
-use Rattle.inputs.specs.Given.{Lens, buffers?, found_at}
+use Rattle.inputs.specs.Given.{buffers?, found_at}
 use Rattle.inputs.specs.OpeningLaws.{or_left, or_right, due_of_lem}
 use Rattle.inputs.proofs.reason.Goals as goal
 use Rattle.inputs.proofs.reason.Goals.{After-lengths_fault-code}

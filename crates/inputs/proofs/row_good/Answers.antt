@@ -1,4 +1,5 @@
-use Rattle.lists.specs.Kit.{◌≡◌, refl, sym, ap, ◌∙◌, ◌+◌, ◌-◌, ◌≤◌, arith, get_or, rules}
+use Rattle.std.specs.Prelude.{◌≡◌, ◌+◌, ◌-◌}
+use Rattle.lists.specs.Kit.{refl, sym, ap, ◌∙◌, arith, get_or, rules}
 use lib.Dec.{leb}
 use Rattle.lists.specs.All.{all_of, all-zero, all_more}
 use Rattle.inputs.proofs.row_good.Goals as goal

@@ -1,6 +1,7 @@
-use Rattle.lists.specs.Kit.{◌≡◌, refl, sym, ap, ◌∙◌, ◌+◌, ◌-◌, ◌≤◌, arith, get_or, rules}
+use Rattle.std.specs.Prelude.{◌≡◌, ◌+◌, ◌-◌, ◌≤◌}
+use Rattle.lists.specs.Kit.{get_or}
 use lib.Dec.{leb}
-use Rattle.lists.specs.All.{all_of, all-zero, all_more}
+use Rattle.lists.specs.All.{all_of}
 use Rattle.inputs.proofs.row_good.Given as goal
 
 abbrev pub invariant-loop-t : goal.invariant-loop-t

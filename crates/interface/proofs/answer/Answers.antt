@@ -1,4 +1,4 @@
-use Rattle.lists.specs.Kit.{sym, ap, ◌∙◌, rules}
+use Rattle.lists.specs.Kit.{sym, ap, ◌∙◌}
 use Rattle.engine.specs.Step.{reply_of}
 use Rattle.interface.specs.Interface.{packed_of}
 use Rattle.interface.proofs.answer.Goals as goal

@@ -1,4 +1,4 @@
-use Rattle.lists.specs.Kit.{refl, arith, rules}
+use Rattle.lists.specs.Kit.{refl, arith}
 use Rattle.interface.specs.Interface.{bucket_of}
 use Rattle.interface.specs.InterfaceLaws.{bucket-small}
 use Rattle.interface.proofs.bucket_size.Goals as goal

@@ -1,4 +1,4 @@
-use Rattle.lists.specs.Kit.{sym, ap, ◌∙◌, get_or, rules}
+use Rattle.lists.specs.Kit.{sym, ap, ◌∙◌, get_or}
 use Rattle.lists.specs.Pick.{pick}
 use Rattle.interface.specs.InterfaceLaws.{due-short, due-is}
 use Rattle.interface.proofs.due.Goals as goal

@@ -1,4 +1,3 @@
-use Rattle.lists.specs.Kit.{rules}
 use Rattle.interface.specs.Interface.{joint_at}
 use Rattle.interface.proofs.joint_seed_at.Goals as goal
 

@@ -1,4 +1,4 @@
-use Rattle.lists.specs.Kit.{refl, ap, ◌∙◌, List, ℕ, arith, length, get_or, drop, rules}
+use Rattle.lists.specs.Kit.{refl, ap, ◌∙◌, List, ℕ, arith, length, get_or, drop}
 use Rattle.batches.specs.BatchLaws.{length-tally}
 use Rattle.engine.specs.declared.Session.{Session}
 use Rattle.interface.specs.Interface.{COUNTS, session_at}

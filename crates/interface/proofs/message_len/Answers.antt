@@ -1,4 +1,4 @@
-use Rattle.lists.specs.Kit.{refl, sym, ap, ap₂, ◌∙◌, rules}
+use Rattle.lists.specs.Kit.{refl, sym, ap, ap₂, ◌∙◌}
 use Rattle.lists.specs.Pick.{pick}
 use Rattle.plan.specs.Plan.{is_round, msg_len}
 use Rattle.plan.specs.PlanLaws.{in-range-true}

@@ -1,4 +1,4 @@
-use Rattle.lists.specs.Kit.{ap, ◌∙◌, List, ℕ, get_or, rules}
+use Rattle.lists.specs.Kit.{ap, ◌∙◌, List, ℕ, get_or}
 use Rattle.interface.specs.InterfaceLaws.{name-is, name-none}
 use Rattle.interface.proofs.name_byte.Goals as goal
 

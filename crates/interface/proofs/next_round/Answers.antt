@@ -1,4 +1,4 @@
-use Rattle.lists.specs.Kit.{refl, sym, arith, rules}
+use Rattle.lists.specs.Kit.{refl, sym, arith}
 use Rattle.interface.specs.Interface.{round_after}
 use Rattle.interface.specs.InterfaceLaws.{writes-small}
 use Rattle.interface.proofs.next_round.Goals as goal

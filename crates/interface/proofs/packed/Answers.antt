@@ -1,4 +1,4 @@
-use Rattle.lists.specs.Kit.{refl, rules}
+use Rattle.lists.specs.Kit.{refl}
 use Rattle.interface.specs.Interface.{packed_of}
 use Rattle.interface.proofs.packed.Goals as goal
 

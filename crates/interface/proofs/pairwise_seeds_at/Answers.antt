@@ -1,4 +1,3 @@
-use Rattle.lists.specs.Kit.{rules}
 use Rattle.interface.specs.Interface.{pairwise_at}
 use Rattle.interface.proofs.pairwise_seeds_at.Goals as goal
 

@@ -1,4 +1,3 @@
-use Rattle.lists.specs.Kit.{rules}
 use Rattle.lists.specs.Over.{sets-all}
 use Rattle.interface.specs.Interface.{head_of}
 use Rattle.interface.proofs.put_head.Goals as goal

@@ -1,4 +1,5 @@
-use Rattle.lists.specs.Kit.{◌≡◌, refl, ap, ◌∙◌, ◌++◌, ◌-◌, ◌≤◌, arith, length, get_or, take, drop, rules}
+use Rattle.std.specs.Prelude.{◌≡◌, ◌-◌}
+use Rattle.lists.specs.Kit.{refl, ap, ◌∙◌, arith, length, get_or, take}
 use lib.ListN.{length-set}
 use lib.Seq.{take-length}
 use Rattle.lists.specs.Over.{copy-turn, over-full}

@@ -1,7 +1,5 @@
-use Rattle.lists.specs.Kit.{◌≡◌, refl, ap, ◌∙◌, ◌++◌, ◌-◌, ◌≤◌, arith, length, get_or, take, drop, rules}
-use lib.ListN.{length-set}
-use lib.Seq.{take-length}
-use Rattle.lists.specs.Over.{copy-turn, over-full}
+use Rattle.std.specs.Prelude.{◌≡◌, ◌++◌, ◌-◌, ◌≤◌}
+use Rattle.lists.specs.Kit.{length, take, drop}
 use Rattle.interface.proofs.put_numbers.Given as goal
 
 -- the first j numbers are in place

@@ -1,4 +1,4 @@
-use Rattle.lists.specs.Kit.{refl, sym, ◌∙◌, rules}
+use Rattle.lists.specs.Kit.{refl, sym, ◌∙◌}
 use Rattle.plan.specs.PlanLaws.{parties-true}
 use Rattle.interface.specs.Interface.{record_bytes}
 use Rattle.interface.proofs.record_len.Goals as goal

@@ -1,4 +1,4 @@
-use Rattle.lists.specs.Kit.{refl, sym, ◌∙◌, rules}
+use Rattle.lists.specs.Kit.{refl, sym, ◌∙◌}
 use Rattle.plan.specs.PlanLaws.{in-range-true}
 use Rattle.interface.proofs.section_or_0.Goals as goal
 

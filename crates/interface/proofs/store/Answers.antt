@@ -1,4 +1,5 @@
-use Rattle.lists.specs.Kit.{◌≡◌, refl, ap, ◌∙◌, List, ℕ, ◌-◌, arith, length, rules}
+use Rattle.std.specs.Prelude.{◌≡◌, ◌-◌}
+use Rattle.lists.specs.Kit.{refl, ap, ◌∙◌, List, ℕ, arith, length}
 use borrow.Rule.Slice.PartMut.{put_mid}
 use Rattle.lists.specs.Over.{two-parts}
 use Rattle.lists.specs.Sect.{length-put}

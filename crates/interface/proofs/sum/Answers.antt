@@ -1,4 +1,3 @@
-use Rattle.lists.specs.Kit.{rules}
 use Rattle.interface.specs.InterfaceLaws.{sum-refused, sum_is}
 use Rattle.interface.proofs.sum.Goals as goal
 

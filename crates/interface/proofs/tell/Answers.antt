@@ -1,4 +1,4 @@
-use Rattle.lists.specs.Kit.{sym, ap, ◌∙◌, rules}
+use Rattle.lists.specs.Kit.{sym, ap, ◌∙◌}
 use Rattle.engine.specs.Step.{Reply, reply_of}
 use Rattle.interface.specs.Interface.{told_c}
 use Rattle.interface.specs.InterfaceLaws.{tells-last, tells-other, tells-refused}

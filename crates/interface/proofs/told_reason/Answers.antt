@@ -1,5 +1,4 @@
-use Rattle.lists.specs.Kit.{sym, ◌∙◌, rules}
-use borrow.Author.Tests.{not-true, not-false}
+use Rattle.lists.specs.Kit.{sym, ◌∙◌}
 use Rattle.interface.specs.InterfaceLaws.{told_over, told-turn, told-short}
 use Rattle.interface.proofs.told_reason.Goals as goal
 

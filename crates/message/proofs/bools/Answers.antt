@@ -1,5 +1,5 @@
-use Rattle.lists.specs.Kit.{◌≡◌, sym, true, ◌-◌, ◌≤◌, arith, drop, rules}
-use Rattle.message.specs.Format as F
+use Rattle.std.specs.Prelude.{◌≡◌, ◌-◌}
+use Rattle.lists.specs.Kit.{sym, true, arith, rules}
 use Rattle.message.proofs.Laws.{bools-none, bools-turn, bools-stop}
 use Rattle.message.proofs.bools.Goals as goal
 

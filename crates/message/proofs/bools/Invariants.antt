@@ -1,6 +1,6 @@
-use Rattle.lists.specs.Kit.{◌≡◌, sym, true, ◌-◌, ◌≤◌, arith, drop, rules}
+use Rattle.std.specs.Prelude.{◌≡◌, ◌-◌, ◌≤◌}
+use Rattle.lists.specs.Kit.{true, drop}
 use Rattle.message.specs.Format as F
-use Rattle.message.proofs.Laws.{bools-none, bools-turn, bools-stop}
 use Rattle.message.proofs.bools.Given as goal
 
 abbrev pub invariant-loop-k : goal.invariant-loop-k

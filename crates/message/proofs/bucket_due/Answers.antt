@@ -1,4 +1,4 @@
-use Rattle.lists.specs.Kit.{arith, rules}
+use Rattle.lists.specs.Kit.{arith}
 use Rattle.message.proofs.Laws.{due-not, due-both, bucket-head}
 use Rattle.message.proofs.bucket_due.Goals as goal
 

@@ -1,4 +1,5 @@
-use Rattle.lists.specs.Kit.{◌+◌, ◌≤◌, arith, length, rules}
+use Rattle.std.specs.Prelude.{◌+◌, ◌≤◌}
+use Rattle.lists.specs.Kit.{arith, length}
 use Rattle.message.proofs.Laws.{bucket-end, first-list, bucket-no, bucket-cut, bucket-yes, bucket-fits}
 use Rattle.message.proofs.dvalue_len.Goals as goal
 use Rattle.message.proofs.dvalue_len.Goals.{Else-ds-eq0}

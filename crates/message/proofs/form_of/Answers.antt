@@ -1,4 +1,4 @@
-use Rattle.lists.specs.Kit.{◌≡◌, ap, rules}
+use Rattle.lists.specs.Kit.{ap}
 use Rattle.lists.specs.Pick.{pick}
 use Rattle.message.proofs.Walk.{form-none, form-after, form-whole}
 use Rattle.message.proofs.form_of.Goals as goal

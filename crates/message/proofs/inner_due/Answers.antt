@@ -1,4 +1,4 @@
-use Rattle.lists.specs.Kit.{◌≡◌, sym, ap, ◌∙◌, ◌<◌, drop, rules}
+use Rattle.lists.specs.Kit.{sym, ap, ◌∙◌, drop}
 use Rattle.message.specs.declared.Kind.{Kind}
 use Rattle.message.specs.Format.{item_of, item_due}
 use Rattle.message.proofs.inner_due.Goals as goal

@@ -1,4 +1,5 @@
-use Rattle.lists.specs.Kit.{sym, ◌+◌, arith}
+use Rattle.std.specs.Prelude.{◌+◌}
+use Rattle.lists.specs.Kit.{sym, arith}
 use borrow.Author.Tests.{lt-leb}
 use Rattle.message.specs.Read as R
 use Rattle.message.proofs.Laws.{inside-test}

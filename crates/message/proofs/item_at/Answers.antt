@@ -1,7 +1,8 @@
-use Rattle.lists.specs.Kit.{◌≡◌, ap, ◌∙◌, ◌-◌, ◌<◌, ◌≤◌, arith, drop, rules}
+use Rattle.std.specs.Prelude.{◌≡◌, ◌-◌, ◌<◌}
+use Rattle.lists.specs.Kit.{ap, ◌∙◌, arith, drop, rules}
 use Rattle.message.specs.Format.{item_at, item_len}
 use Rattle.message.specs.FormatLaws.{decoded}
-use Rattle.message.proofs.Walk.{Walked, walked_start, walked-room, walked-turn, walked-item}
+use Rattle.message.proofs.Walk.{walked_start, walked-room, walked-turn, walked-item}
 use Rattle.message.proofs.item_at.Goals as goal
 
 pub loop-k-init : goal.loop-k-init

@@ -1,7 +1,5 @@
-use Rattle.lists.specs.Kit.{◌≡◌, ap, ◌∙◌, ◌-◌, ◌<◌, ◌≤◌, arith, drop, rules}
-use Rattle.message.specs.Format.{item_at, item_len}
-use Rattle.message.specs.FormatLaws.{decoded}
-use Rattle.message.proofs.Walk.{Walked, walked_start, walked-room, walked-turn, walked-item}
+use Rattle.std.specs.Prelude.{◌-◌, ◌≤◌}
+use Rattle.message.proofs.Walk.{Walked}
 use Rattle.message.proofs.item_at.Given as goal
 
 abbrev pub invariant-loop-k : goal.invariant-loop-k

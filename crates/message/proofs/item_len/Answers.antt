@@ -1,4 +1,4 @@
-use Rattle.lists.specs.Kit.{sym, ap, ◌∙◌, drop, rules}
+use Rattle.lists.specs.Kit.{sym, ap, ◌∙◌, drop}
 use Rattle.message.specs.declared.Kind.{Kind}
 use Rattle.message.specs.Format.{item_len}
 use Rattle.message.proofs.item_len.Goals as goal

@@ -1,4 +1,3 @@
-use Rattle.lists.specs.Kit.{rules}
 use Rattle.message.proofs.Laws.{items-end, items-yes, items-no}
 use Rattle.message.proofs.items_len.Goals as goal
 

@@ -1,4 +1,4 @@
-use Rattle.lists.specs.Kit.{refl, rules}
+use Rattle.lists.specs.Kit.{refl}
 use Rattle.message.proofs.Laws.{option-end, option-absent, option-bad, option-short, option-present}
 use Rattle.message.proofs.option_len.Goals as goal
 

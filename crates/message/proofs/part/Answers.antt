@@ -1,4 +1,5 @@
-use Rattle.lists.specs.Kit.{◌+◌, ◌≤◌, arith, length, rules}
+use Rattle.std.specs.Prelude.{◌+◌, ◌≤◌}
+use Rattle.lists.specs.Kit.{arith, length}
 use native.Mathlib.Nat.{add-sub_cancel_left}
 use borrow.Author.Tests.{leb-true}
 use Rattle.message.specs.Read as R

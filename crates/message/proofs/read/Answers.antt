@@ -1,4 +1,5 @@
-use Rattle.lists.specs.Kit.{◌≡◌, sym, subst, rules}
+use Rattle.std.specs.Prelude.{◌≡◌}
+use Rattle.lists.specs.Kit.{sym, subst}
 use Rattle.message.specs.declared.Kind.{Kind}
 use Rattle.message.specs.Format.{read_of, used_of, due_of}
 use Rattle.message.proofs.read.Goals as goal

@@ -1,6 +1,7 @@
-use Rattle.lists.specs.Kit.{◌≡◌, ◌∙◌, ◌+◌, ◌-◌, ◌≤◌, arith, length, rules}
-use Rattle.message.specs.FormatLaws.{decodes-short, inners_due}
-use Rattle.message.proofs.Walk.{Walked, walked_start, walked-room, walked-turn, walked_stop, inners-none, inners-turn, read-bad}
+use Rattle.std.specs.Prelude.{◌≡◌, ◌+◌, ◌-◌, ◌≤◌}
+use Rattle.lists.specs.Kit.{arith, length, rules}
+use Rattle.message.specs.FormatLaws.{decodes-short}
+use Rattle.message.proofs.Walk.{walked_start, walked-room, walked-turn, walked_stop, inners-none, inners-turn, read-bad}
 use Rattle.message.proofs.Walk.{read-end}
 use Rattle.message.proofs.read_each.Goals as goal
 use Rattle.message.proofs.read_each.Goals.{Else-len-eq0}

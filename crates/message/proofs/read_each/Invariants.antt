@@ -1,7 +1,7 @@
-use Rattle.lists.specs.Kit.{◌≡◌, ◌∙◌, ◌+◌, ◌-◌, ◌≤◌, arith, length, rules}
-use Rattle.message.specs.FormatLaws.{decodes-short, inners_due}
-use Rattle.message.proofs.Walk.{Walked, walked_start, walked-room, walked-turn, walked_stop, inners-none, inners-turn, read-bad}
-use Rattle.message.proofs.Walk.{read-end}
+use Rattle.std.specs.Prelude.{◌≡◌, ◌-◌, ◌≤◌}
+use Rattle.lists.specs.Kit.{length}
+use Rattle.message.specs.FormatLaws.{inners_due}
+use Rattle.message.proofs.Walk.{Walked}
 use Rattle.message.proofs.read_each.Given as goal
 
 abbrev pub invariant-loop-t : goal.invariant-loop-t

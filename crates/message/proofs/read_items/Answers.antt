@@ -1,10 +1,10 @@
-use Rattle.lists.specs.Kit.{◌≡◌, refl, sym, ◌∙◌, ℕ, ◌+◌, ◌-◌, ◌*◌, ◌<◌, ◌≤◌, arith, length, drop, rules}
-use Rattle.lists.specs.All.{not-true, not-false}
+use Rattle.std.specs.Prelude.{◌≡◌, ◌+◌, ◌-◌, ◌*◌, ◌<◌, ◌≤◌}
+use Rattle.lists.specs.Kit.{refl, sym, ◌∙◌, arith, length, drop}
 use Rattle.message.specs.declared.Kind.TheVariants.{Items}
 use Rattle.message.specs.Format.{bools, count_of}
 use Rattle.message.specs.FormatLaws.{vec-held}
 use Rattle.message.proofs.Laws.{bits_are}
-use Rattle.message.proofs.Walk.{Walked, walked_start, read-bad, fixed-over, fixed-room, fixed-turn, fixed-stop, fixed-end, plain-items}
+use Rattle.message.proofs.Walk.{walked_start, read-bad, fixed-over, fixed-room, fixed-turn, fixed-stop, fixed-end, plain-items}
 use Rattle.message.proofs.read_items.Goals as goal
 use Rattle.message.proofs.read_items.Goals.{After-bools, Else-used-eq0, In-loop-k}
 

@@ -1,4 +1,5 @@
-use Rattle.lists.specs.Kit.{◌+◌, ◌*◌, ◌<◌, arith, rules}
+use Rattle.std.specs.Prelude.{◌+◌, ◌*◌, ◌<◌}
+use Rattle.lists.specs.Kit.{arith}
 use Prim.Native.Nat.{◌^◌}
 use Rattle.message.proofs.Laws.{vec-short, vec-over, vec-room, vec-whole}
 use Rattle.message.proofs.vec_len.Goals as goal

@@ -1,4 +1,3 @@
-use Rattle.lists.specs.Kit.{rules}
 use Rattle.engine.specs.Step.{reply_of}
 use Rattle.rounds.specs.Combine.{args}
 use Rattle.interface.specs.InterfaceLaws.{combines, combine-named}

@@ -1,6 +1,5 @@
-use Rattle.lists.specs.Kit.{ap, ◌∙◌, arith, false, length, rules}
+use Rattle.lists.specs.Kit.{ap, ◌∙◌, arith, false, length}
 use Rattle.engine.specs.Step.{reply_of}
-use Rattle.rounds.specs.Opening.{Args}
 use Rattle.inputs.specs.Given.{args}
 use Rattle.inputs.specs.OpeningLaws.{counted, lengths-as}
 use Rattle.interface.specs.InterfaceLaws.{opens_not, opens, opens-refused, opened-narrow}

@@ -1,6 +1,7 @@
-use Rattle.lists.specs.Kit.{sym, ap, subst, ◌∙◌, ◌≤◌, rules}
+use Rattle.std.specs.Prelude.{◌≤◌}
+use Rattle.lists.specs.Kit.{sym, ap, subst, ◌∙◌}
 use Rattle.engine.specs.declared.Session.{Session}
-use Rattle.engine.specs.Step.{Lent, Reply, reply_of, Outcome, round_spec}
+use Rattle.engine.specs.Step.{Reply, reply_of, Outcome, round_spec}
 use Rattle.engine.specs.Plain.{protocol_of}
 use Rattle.rounds.specs.Table.{table}
 use Rattle.admit.specs.Admit.{given}

@@ -1,4 +1,5 @@
-use Rattle.lists.specs.Kit.{◌≤◌, arith, length, rules}
+use Rattle.std.specs.Prelude.{◌≤◌}
+use Rattle.lists.specs.Kit.{arith, length}
 use Rattle.area.specs.GivenLaws.{section-inside}
 use Rattle.inputs.specs.Given.{EMPTY}
 use Rattle.opening.specs.FilledLaws.{clears}

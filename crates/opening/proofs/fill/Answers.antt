@@ -1,4 +1,4 @@
-use Rattle.lists.specs.Kit.{refl, rules}
+use Rattle.lists.specs.Kit.{refl}
 use Rattle.opening.proofs.fill.Goals as goal
 
 pub returns : goal.returns

@@ -1,10 +1,8 @@
-use Rattle.lists.specs.Kit.{◌≡◌, sym, ap, ◌∙◌, List, ℕ, ◌+◌, ◌-◌, ◌*◌, ◌≤◌, arith, length, rules}
-use Rattle.lists.specs.Over.{Written, in-chunks}
-use Rattle.lists.specs.Rows.{even-zero, even-turn, even-end}
-use Rattle.share.specs.Record.{record_len}
+use Rattle.std.specs.Prelude.{◌-◌, ◌*◌, ◌≤◌}
+use Rattle.lists.specs.Kit.{List, ℕ}
+use Rattle.lists.specs.Over.{Written}
 use Rattle.share.specs.Share.{record_of}
-use Rattle.share.specs.Lent.{lent_len, lent_at, kept_of}
-use Rattle.rounds.specs.Loops.{lent-part}
+use Rattle.share.specs.Lent.{lent_len, lent_at}
 use Rattle.opening.proofs.keep_all.Given as goal
 
 -- what is kept of record t

@@ -1,10 +1,11 @@
-use Rattle.lists.specs.Kit.{◌≡◌, sym, ap, subst, ◌∙◌, ◌-◌, ◌*◌, length, rules}
+use Rattle.std.specs.Prelude.{◌≡◌, ◌-◌, ◌*◌}
+use Rattle.lists.specs.Kit.{sym, ap, subst, ◌∙◌, length, rules}
 use Rattle.batches.specs.Batches.{total, counts_fault}
 use Rattle.batches.specs.BatchLaws.{taken, sum-taken}
 use Rattle.plan.specs.Plan.{msg_len}
 use Rattle.engine.specs.declared.Frame.{Frame}
 use Rattle.engine.specs.Step.{frame, reply_of}
-use Rattle.rounds.specs.Opening.{Args, party}
+use Rattle.rounds.specs.Opening.{party}
 use Rattle.area.specs.Given.{Work}
 use Rattle.inputs.specs.Given.{args, lens, found, Due, Seeds, Lists}
 use Rattle.inputs.specs.OpeningLaws.{counted, found_as, taken-counts, refuses, due}

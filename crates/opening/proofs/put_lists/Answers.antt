@@ -1,4 +1,5 @@
-use Rattle.lists.specs.Kit.{refl, sym, ap, ◌∙◌, ◌*◌, arith, rules}
+use Rattle.std.specs.Prelude.{◌*◌}
+use Rattle.lists.specs.Kit.{refl, sym, ap, ◌∙◌, arith}
 use Rattle.share.specs.Record.{record_len}
 use Rattle.share.specs.Lent.{lent_len}
 use Rattle.area.specs.Given.{Work}

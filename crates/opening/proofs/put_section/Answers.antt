@@ -1,4 +1,5 @@
-use Rattle.lists.specs.Kit.{sym, ap, ◌∙◌, List, ℕ, ◌-◌, rules}
+use Rattle.std.specs.Prelude.{◌-◌}
+use Rattle.lists.specs.Kit.{sym, ap, ◌∙◌, List, ℕ}
 use Rattle.lists.specs.Sect.{get}
 use Rattle.fill.specs.Copied.{copied}
 use Rattle.rounds.specs.Area.{keep}

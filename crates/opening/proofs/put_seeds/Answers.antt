@@ -1,4 +1,4 @@
-use Rattle.lists.specs.Kit.{refl, rules}
+use Rattle.lists.specs.Kit.{refl}
 use Rattle.inputs.specs.Given.{with_seeds}
 use Rattle.opening.proofs.put_seeds.Goals as goal
 

@@ -1,5 +1,4 @@
 -- An arm for each round but `fabitn` for whose messages something is kept.
-use Rattle.lists.specs.Kit.{rules}
 use Rattle.rounds.specs.Table.{held}
 use Rattle.plain.specs.SendLaws.{held_at, held_none}
 use Rattle.plain.proofs.hold.Goals as goal

@@ -1,5 +1,5 @@
 -- An arm for each round that has a content check.
-use Rattle.lists.specs.Kit.{refl, List, ℕ, arith, rules}
+use Rattle.lists.specs.Kit.{refl, arith}
 use Rattle.plan.specs.Plan.{leaky, kind_of, count_due}
 use Rattle.rounds.specs.Mail.{letter}
 use Rattle.rounds.specs.Table.{judge}

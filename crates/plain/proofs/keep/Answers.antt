@@ -1,10 +1,9 @@
 -- An arm for each round of which something is kept.
-use Rattle.lists.specs.Kit.{refl, List, ℕ, arith, rules}
+use Rattle.lists.specs.Kit.{refl, arith}
 use Rattle.plan.specs.Plan.{leaky, kind_of, count_due}
 use Rattle.rounds.specs.Mail.{letter}
 use Rattle.rounds.specs.DmLaws.{ver-checked}
 use Rattle.rounds.specs.Table.{judge, kept}
-use Rattle.area.specs.Given.{Work}
 use Rattle.area.specs.Sizes.{size-comms, size-pair-comms}
 use Rattle.plain.specs.ReceiveLaws.{received-at, arrived-at, clean_at, kept_at, kept-none}
 use Rattle.plain.proofs.keep.Goals as goal

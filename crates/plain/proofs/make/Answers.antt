@@ -1,6 +1,5 @@
 -- `fabitn`, and all other rounds.
-use Rattle.lists.specs.Kit.{sym, ap, subst, ◌∙◌, List, ℕ, rules}
-use Rattle.engine.specs.Step.{Loan}
+use Rattle.lists.specs.Kit.{sym, ap, subst, ◌∙◌, List, ℕ}
 use Rattle.engine.specs.Area.{to_others}
 use Rattle.rounds.specs.Table.{held, written}
 use Rattle.plain.specs.Held.{Held}

@@ -1,5 +1,6 @@
 -- An arm for each plain round but `fabitn`.
-use Rattle.lists.specs.Kit.{◌≡◌, ℕ, ◌-◌, ◌*◌, length, rules}
+use Rattle.std.specs.Prelude.{◌≡◌, ◌-◌, ◌*◌}
+use Rattle.lists.specs.Kit.{ℕ, length}
 use Rattle.plan.specs.Plan.{msg_len}
 use Rattle.rounds.specs.Table.{written}
 use Rattle.plain.specs.SendLaws.{due-at, wrote_at, no-rest}

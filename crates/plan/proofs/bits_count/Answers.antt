@@ -1,5 +1,5 @@
 -- `plan::bits_count` meets its contract.
-use Rattle.lists.specs.Kit.{refl, arith, rules}
+use Rattle.lists.specs.Kit.{refl, arith}
 use Rattle.plan.specs.Plan.{bits_count}
 use Rattle.plan.specs.PlanLaws.{leaky-most}
 use Rattle.plan.proofs.bits_count.Goals as goal

@@ -1,8 +1,8 @@
 -- `plan::bits_len` meets its contract.
-use Rattle.lists.specs.Kit.{refl, sym, ◌∙◌, arith, rules}
+use Rattle.lists.specs.Kit.{refl, sym, ◌∙◌, arith}
 use native.Mathlib.Nat.{mul-le-mul}
 use Rattle.share.specs.LentLaws.{lent-most}
-use Rattle.plan.specs.Plan.{bits_len, InRange}
+use Rattle.plan.specs.Plan.{bits_len}
 use Rattle.plan.specs.PlanLaws.{in-range-true, bits_most}
 use Rattle.plan.proofs.bits_len.Goals as goal
 

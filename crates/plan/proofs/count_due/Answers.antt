@@ -1,8 +1,8 @@
 -- `plan::count_due` meets its contract.
-use Rattle.lists.specs.Kit.{refl, sym, rules}
+use Rattle.lists.specs.Kit.{refl, sym}
 use mathlib.Core.Logic.{⊎_elim, inl, inr}
 use Rattle.plan.specs.Plan.{count_due}
-use Rattle.plan.specs.PlanLaws.{Rest, count-rest}
+use Rattle.plan.specs.PlanLaws.{count-rest}
 use Rattle.plan.proofs.count_due.Goals as goal
 
 pub returns-in-1 : goal.returns-in-1

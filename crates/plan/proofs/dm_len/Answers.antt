@@ -1,5 +1,5 @@
 -- `plan::dm_len` meets its contract.
-use Rattle.lists.specs.Kit.{refl, rules}
+use Rattle.lists.specs.Kit.{refl}
 use Rattle.plan.specs.Plan.{dm_len}
 use Rattle.plan.proofs.dm_len.Goals as goal
 

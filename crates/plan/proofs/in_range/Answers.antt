@@ -1,5 +1,5 @@
 -- `plan::in_range` meets its contract.
-use Rattle.lists.specs.Kit.{refl, rules}
+use Rattle.lists.specs.Kit.{refl}
 use Rattle.plan.specs.Plan.{in_range}
 use Rattle.plan.proofs.in_range.Goals as goal
 

@@ -1,5 +1,5 @@
 -- `plan::is_round` meets its contract.
-use Rattle.lists.specs.Kit.{refl, rules}
+use Rattle.lists.specs.Kit.{refl}
 use Rattle.engine.specs.Order.{round_in}
 use Rattle.plan.proofs.is_round.Goals as goal
 

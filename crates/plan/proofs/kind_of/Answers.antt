@@ -1,8 +1,8 @@
 -- `plan::kind_of` meets its contract.
-use Rattle.lists.specs.Kit.{refl, sym, arith, rules}
+use Rattle.lists.specs.Kit.{refl, sym, arith}
 use mathlib.Core.Logic.{⊎_elim, inl, inr}
 use Rattle.plan.specs.Plan.{kind_of}
-use Rattle.plan.specs.PlanLaws.{bucket-low, Rest, kind-rest}
+use Rattle.plan.specs.PlanLaws.{bucket-low, kind-rest}
 use Rattle.plan.proofs.kind_of.Goals as goal
 
 pub overflow_sub-result : goal.overflow_sub-result

@@ -1,5 +1,5 @@
 -- `plan::leaky` meets its contract.
-use Rattle.lists.specs.Kit.{refl, arith, rules}
+use Rattle.lists.specs.Kit.{refl, arith}
 use Rattle.plan.specs.Plan.{leaky}
 use Rattle.plan.specs.PlanLaws.{leaky-most}
 use Rattle.plan.proofs.leaky.Goals as goal

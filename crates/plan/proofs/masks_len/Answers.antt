@@ -1,7 +1,7 @@
 -- `plan::masks_len` meets its contract.
-use Rattle.lists.specs.Kit.{refl, sym, ◌∙◌, arith, rules}
+use Rattle.lists.specs.Kit.{refl, sym, ◌∙◌, arith}
 use native.Mathlib.Nat.{mul-le-mul}
-use Rattle.plan.specs.Plan.{masks_len, InRange}
+use Rattle.plan.specs.Plan.{masks_len}
 use Rattle.plan.specs.PlanLaws.{in-range-true, leaky-most}
 use Rattle.plan.proofs.masks_len.Goals as goal
 

@@ -1,5 +1,5 @@
 -- `plan::msg_len` meets its contract.
-use Rattle.lists.specs.Kit.{refl, rules}
+use Rattle.lists.specs.Kit.{refl}
 use Rattle.plan.specs.Plan.{msg_len}
 use Rattle.plan.specs.PlanLaws.{listed}
 use Rattle.plan.proofs.msg_len.Goals as goal

@@ -1,5 +1,5 @@
 -- `plan::next_round` meets its contract.
-use Rattle.lists.specs.Kit.{arith, rules}
+use Rattle.lists.specs.Kit.{arith}
 use Rattle.lists.specs.Pick.{tests}
 use Rattle.engine.specs.Order.{next_in}
 use Rattle.plan.specs.PlanLaws.{next-skips, next-on}

@@ -1,5 +1,5 @@
 -- `plan::other` meets its contract.
-use Rattle.lists.specs.Kit.{arith, rules}
+use Rattle.lists.specs.Kit.{arith}
 use Rattle.lists.specs.Pick.{tests}
 use Rattle.engine.specs.Area.{nth}
 use Rattle.plan.proofs.other.Goals as goal

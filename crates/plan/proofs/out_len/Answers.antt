@@ -1,5 +1,6 @@
 -- `plan::out_len` meets its contract.
-use Rattle.lists.specs.Kit.{refl, sym, ◌∙◌, ◌-◌, ◌≤◌, arith, rules}
+use Rattle.std.specs.Prelude.{◌-◌, ◌≤◌}
+use Rattle.lists.specs.Kit.{refl, sym, ◌∙◌, arith}
 use native.Mathlib.Nat.{mul-le-mul}
 use borrow.Author.Tests.{ne_eqb}
 use Rattle.plan.specs.Plan.{out_len, InRange}

@@ -1,5 +1,5 @@
 -- `plan::pairs_len` meets its contract.
-use Rattle.lists.specs.Kit.{refl, sym, ◌∙◌, arith, rules}
+use Rattle.lists.specs.Kit.{refl, sym, ◌∙◌, arith}
 use Rattle.plan.specs.Plan.{pairs_len}
 use Rattle.plan.specs.PlanLaws.{parties-true}
 use Rattle.plan.proofs.pairs_len.Goals as goal

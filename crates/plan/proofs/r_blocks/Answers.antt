@@ -1,5 +1,5 @@
 -- `plan::r_blocks` meets its contract.
-use Rattle.lists.specs.Kit.{refl, arith, rules}
+use Rattle.lists.specs.Kit.{refl, arith}
 use Rattle.plan.specs.Plan.{r_blocks}
 use Rattle.plan.specs.PlanLaws.{bits_most}
 use Rattle.plan.proofs.r_blocks.Goals as goal

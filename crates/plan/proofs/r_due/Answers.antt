@@ -1,7 +1,7 @@
 -- `plan::r_due` meets its contract.
-use Rattle.lists.specs.Kit.{refl, sym, ◌∙◌, rules}
+use Rattle.lists.specs.Kit.{refl, sym, ◌∙◌}
 use borrow.Author.Tests.{ne_eqb}
-use Rattle.plan.specs.Plan.{r_due, InRange}
+use Rattle.plan.specs.Plan.{r_due}
 use Rattle.plan.specs.PlanLaws.{in-range-true}
 use Rattle.plan.proofs.r_due.Goals as goal
 

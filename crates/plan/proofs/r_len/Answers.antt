@@ -1,5 +1,5 @@
 -- `plan::r_len` meets its contract.
-use Rattle.lists.specs.Kit.{refl, arith, rules}
+use Rattle.lists.specs.Kit.{refl, arith}
 use Rattle.plan.specs.Plan.{r_len}
 use Rattle.plan.specs.PlanLaws.{r-blocks-most}
 use Rattle.plan.proofs.r_len.Goals as goal

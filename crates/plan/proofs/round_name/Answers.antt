@@ -1,5 +1,5 @@
 -- `plan::round_name` meets its contract.
-use Rattle.lists.specs.Kit.{sym, ap, ◌∙◌, [], arith, get_or, rules}
+use Rattle.lists.specs.Kit.{sym, ap, ◌∙◌, [], get_or}
 use borrow.Author.Tests.{le-leb, lt-leb}
 use Rattle.lists.specs.Pick.{pick}
 use Rattle.plan.specs.Names.{padded, names, round_name}

@@ -1,5 +1,6 @@
 -- `plan::sent` meets its contract.
-use Rattle.lists.specs.Kit.{refl, sym, ◌∙◌, ◌-◌, ◌≤◌, arith, rules}
+use Rattle.std.specs.Prelude.{◌-◌, ◌≤◌}
+use Rattle.lists.specs.Kit.{refl, sym, ◌∙◌, arith}
 use native.Mathlib.Nat.{mul-le-mul}
 use Rattle.plan.specs.Plan.{sent, InRange}
 use Rattle.plan.specs.PlanLaws.{in-range-true, sent-most}

@@ -1,4 +1,5 @@
-use Rattle.lists.specs.Kit.{◌≡◌, refl, sym, ap, ◌∙◌, ℕ, ◌+◌, ◌-◌, ◌≤◌, arith, rules}
+use Rattle.std.specs.Prelude.{◌+◌, ◌-◌}
+use Rattle.lists.specs.Kit.{refl, sym, ap, ◌∙◌, arith, rules}
 use Rattle.plan.specs.Plan.{sent_up_to}
 use Rattle.plan.specs.PlanLaws.{sent-with, sent-without, sent-most, msg-most}
 use Rattle.plan.proofs.sent_to_one.Goals as goal
@@ -17,7 +18,7 @@ pub loop-k-preserved : goal.loop-k-preserved
 loop-k-preserved c = (
   omega arith,
   elim c.if-is_round.branch [
-    then-is_round w ↦ w.sum-is
+    | then-is_round w ↦ w.sum-is
         ∙ sent-with c.args.n c.args.l c.loop-k.k c.loop-k.sum c.loop-k.invariant.1 _ (sym c.is_round.ensures ∙ w.if-is_round.true) w.msg_len-sum.ensures
     | else-is_round w ↦ w.sum-is
         ∙ sent-without c.args.n c.args.l c.loop-k.k c.loop-k.sum c.loop-k.invariant.1 (sym c.is_round.ensures ∙ w.if-is_round.false)

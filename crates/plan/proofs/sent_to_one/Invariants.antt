@@ -1,8 +1,6 @@
 -- `plan::sent_to_one` meets its contract: at turn k the sum is that of rounds 1 to k.
-use Rattle.lists.specs.Kit.{◌≡◌, refl, sym, ap, ◌∙◌, ℕ, ◌+◌, ◌-◌, ◌≤◌, arith, rules}
-use mathlib.Core.Logic.{⊎_elim}
+use Rattle.std.specs.Prelude.{◌≡◌, ◌-◌, ◌≤◌}
 use Rattle.plan.specs.Plan.{sent_up_to}
-use Rattle.plan.specs.PlanLaws.{sent-with, sent-without, sent-most, msg-most}
 use Rattle.plan.proofs.sent_to_one.Given as goal
 
 abbrev pub invariant-loop-k : goal.invariant-loop-k

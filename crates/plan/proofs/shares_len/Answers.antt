@@ -1,8 +1,8 @@
 -- `plan::shares_len` meets its contract.
-use Rattle.lists.specs.Kit.{refl, sym, ◌∙◌, arith, rules}
+use Rattle.lists.specs.Kit.{refl, sym, ◌∙◌, arith}
 use native.Mathlib.Nat.{mul-le-mul}
 use Rattle.share.specs.LentLaws.{lent-most}
-use Rattle.plan.specs.Plan.{shares_len, InRange}
+use Rattle.plan.specs.Plan.{shares_len}
 use Rattle.plan.specs.PlanLaws.{in-range-true}
 use Rattle.plan.proofs.shares_len.Goals as goal
 

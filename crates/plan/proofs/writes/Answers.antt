@@ -1,5 +1,6 @@
 -- `plan::writes` meets its contract.
-use Rattle.lists.specs.Kit.{refl, sym, ap, ◌∙◌, ◌||◌, rules}
+use Rattle.std.specs.Prelude.{◌||◌}
+use Rattle.lists.specs.Kit.{refl, sym, ap, ◌∙◌}
 use lib.Dec.{eqb}
 use Rattle.plan.specs.Plan.{writes}
 use Rattle.plan.proofs.writes.Goals as goal

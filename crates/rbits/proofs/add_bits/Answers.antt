@@ -1,7 +1,8 @@
-use Rattle.lists.specs.Kit.{ap, ◌-◌, ◌≤◌, arith, rules}
+use Rattle.std.specs.Prelude.{◌-◌}
+use Rattle.lists.specs.Kit.{ap, arith}
 use lib.Bits.{bit_xor, bit_and}
 use Rattle.rbits.specs.Tables.{half_at, masked_at}
-use Rattle.rbits.specs.LoopLaws.{Filled, filled_zero, filled-turn, filled-get, filled-end}
+use Rattle.rbits.specs.LoopLaws.{filled_zero, filled-turn, filled-get, filled-end}
 use Rattle.rbits.proofs.add_bits.Goals as goal
 
 pub loop-j-init : goal.loop-j-init

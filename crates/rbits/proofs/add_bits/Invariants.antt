@@ -1,8 +1,7 @@
 -- The loop's invariant: the words of the first j strings have the chosen digits added.
-use Rattle.lists.specs.Kit.{ap, ◌-◌, ◌≤◌, arith, rules}
-use lib.Bits.{bit_xor, bit_and}
-use Rattle.rbits.specs.Tables.{half_at, masked_at}
-use Rattle.rbits.specs.LoopLaws.{Filled, filled_zero, filled-turn, filled-get, filled-end}
+use Rattle.std.specs.Prelude.{◌-◌, ◌≤◌}
+use Rattle.rbits.specs.Tables.{masked_at}
+use Rattle.rbits.specs.LoopLaws.{Filled}
 use Rattle.rbits.proofs.add_bits.Given as goal
 
 abbrev pub invariant-loop-j : goal.invariant-loop-j

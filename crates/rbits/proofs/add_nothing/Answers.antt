@@ -1,4 +1,4 @@
-use Rattle.lists.specs.Kit.{get_or, rules}
+use Rattle.lists.specs.Kit.{get_or}
 use lib.Bits.{xor_zero_r}
 use lib.Seq.{set-get_or}
 use Rattle.rbits.proofs.add_nothing.Goals as goal

@@ -1,5 +1,6 @@
 -- A record's bit lies within; past the last record it is 0.
-use Rattle.lists.specs.Kit.{◌∙◌, ◌+◌, ◌*◌, ◌≤◌, arith, length, get_or, rules}
+use Rattle.std.specs.Prelude.{◌+◌, ◌*◌, ◌≤◌}
+use Rattle.lists.specs.Kit.{◌∙◌, arith, length, get_or}
 use borrow.Author.Tests.{lt-ltb, le-ltb}
 use Rattle.lists.specs.Over.{in-record}
 use Rattle.rbits.specs.Tables.{record_bit}

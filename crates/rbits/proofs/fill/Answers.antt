@@ -1,5 +1,6 @@
-use Rattle.lists.specs.Kit.{◌≡◌, ◌∙◌, List, ℕ, ◌+◌, ◌-◌, ◌*◌, ◌<◌, ◌≤◌, arith, rules}
-use Rattle.lists.specs.Over.{Written, written-zero, written-turn, written-end}
+use Rattle.std.specs.Prelude.{◌≡◌, ◌+◌, ◌-◌, ◌*◌, ◌<◌}
+use Rattle.lists.specs.Kit.{◌∙◌, List, ℕ, arith}
+use Rattle.lists.specs.Over.{written-zero, written-turn, written-end}
 use Rattle.block.specs.declared.Block.{Block}
 use Rattle.rbits.specs.Tables.{record_block, table4, tables}
 use Rattle.rbits.specs.TableLaws.{table4-at, length-table4}

@@ -1,9 +1,7 @@
 -- The loop's invariant: the first k tables are written.
-use Rattle.lists.specs.Kit.{◌≡◌, ◌∙◌, List, ℕ, ◌+◌, ◌-◌, ◌*◌, ◌<◌, ◌≤◌, arith, rules}
-use Rattle.lists.specs.Over.{Written, written-zero, written-turn, written-end}
-use Rattle.block.specs.declared.Block.{Block}
-use Rattle.rbits.specs.Tables.{record_block, table4, tables}
-use Rattle.rbits.specs.TableLaws.{table4-at, length-table4}
+use Rattle.std.specs.Prelude.{◌+◌, ◌-◌, ◌*◌, ◌≤◌}
+use Rattle.lists.specs.Over.{Written}
+use Rattle.rbits.specs.Tables.{record_block, table4}
 use Rattle.rbits.proofs.fill.Given as goal
 
 abbrev pub invariant-loop-k : goal.invariant-loop-k

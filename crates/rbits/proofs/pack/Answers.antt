@@ -1,4 +1,5 @@
-use Rattle.lists.specs.Kit.{◌≡◌, refl, ap, ◌∙◌, ◌+◌, ◌-◌, ◌*◌, ◌≤◌, arith, rules}
+use Rattle.std.specs.Prelude.{◌≡◌, ◌+◌, ◌-◌, ◌*◌}
+use Rattle.lists.specs.Kit.{refl, ap, ◌∙◌, arith}
 use Prim.Native.Nat.{◌%◌, ◌^◌}
 use Rattle.rbits.specs.Tables.{record_bit, packed}
 use Rattle.rbits.proofs.BitLaws.{packed-fits, packed-turn}

@@ -1,8 +1,6 @@
 -- The loop's invariant: w has the first e bits.
-use Rattle.lists.specs.Kit.{◌≡◌, refl, ap, ◌∙◌, ◌+◌, ◌-◌, ◌*◌, ◌≤◌, arith, rules}
-use Prim.Native.Nat.{◌%◌, ◌^◌}
+use Rattle.std.specs.Prelude.{◌≡◌, ◌+◌, ◌-◌, ◌≤◌}
 use Rattle.rbits.specs.Tables.{record_bit, packed}
-use Rattle.rbits.proofs.BitLaws.{packed-fits, packed-turn}
 use Rattle.rbits.proofs.pack.Given as goal
 
 abbrev pub invariant-loop-e : goal.invariant-loop-e

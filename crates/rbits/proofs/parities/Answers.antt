@@ -1,7 +1,8 @@
-use Rattle.lists.specs.Kit.{◌≡◌, refl, ◌-◌, ◌≤◌, arith, length, get_or, rules}
+use Rattle.std.specs.Prelude.{◌-◌}
+use Rattle.lists.specs.Kit.{refl, arith, get_or}
 use lib.Count.{ones}
 use Rattle.algebra.specs.Group.{odd, num}
-use Rattle.rbits.specs.LoopLaws.{Filled, filled_zero, filled-turn, filled-end}
+use Rattle.rbits.specs.LoopLaws.{filled_zero, filled-turn, filled-end}
 use Rattle.rbits.specs.DigitLaws.{num-mod}
 use Rattle.rbits.proofs.parities.Goals as goal
 

@@ -1,9 +1,9 @@
 -- The loop's invariant: the bits of the first j strings are written.
-use Rattle.lists.specs.Kit.{◌≡◌, refl, ◌-◌, ◌≤◌, arith, length, get_or, rules}
+use Rattle.std.specs.Prelude.{◌≡◌, ◌-◌, ◌≤◌}
+use Rattle.lists.specs.Kit.{length, get_or}
 use lib.Count.{ones}
 use Rattle.algebra.specs.Group.{odd, num}
-use Rattle.rbits.specs.LoopLaws.{Filled, filled_zero, filled-turn, filled-end}
-use Rattle.rbits.specs.DigitLaws.{num-mod}
+use Rattle.rbits.specs.LoopLaws.{Filled}
 use Rattle.rbits.proofs.parities.Given as goal
 
 abbrev pub invariant-loop-j : goal.invariant-loop-j

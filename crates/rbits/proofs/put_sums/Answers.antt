@@ -1,4 +1,4 @@
-use Rattle.lists.specs.Kit.{arith, rules}
+use Rattle.lists.specs.Kit.{arith}
 use lib.ListN.{length-set}
 use Rattle.lists.specs.Over.{cat, sets-all}
 use Rattle.block.specs.Block.{xor_of}

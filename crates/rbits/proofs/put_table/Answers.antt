@@ -1,4 +1,4 @@
-use Rattle.lists.specs.Kit.{◌∙◌, arith, rules}
+use Rattle.lists.specs.Kit.{◌∙◌, arith}
 use Rattle.lists.specs.Over.{over-put, over-full}
 use Rattle.block.specs.Block.{zero_of}
 use Rattle.block.specs.Group.{blocks}

@@ -1,5 +1,6 @@
 -- A record's Block lies within; past the last record it is zero.
-use Rattle.lists.specs.Kit.{◌∙◌, ◌+◌, ◌*◌, ◌≤◌, arith, length, rules}
+use Rattle.std.specs.Prelude.{◌+◌, ◌*◌, ◌≤◌}
+use Rattle.lists.specs.Kit.{◌∙◌, arith, length}
 use borrow.Author.Tests.{lt-ltb, le-ltb}
 use Rattle.lists.specs.Over.{in-record}
 use Rattle.rbits.specs.Tables.{record_block}

@@ -1,4 +1,4 @@
-use Rattle.lists.specs.Kit.{sym, rules}
+use Rattle.lists.specs.Kit.{sym}
 use Rattle.records.proofs.check_records.Goals as goal
 
 pub returns-then-none_faulty : goal.returns-then-none_faulty

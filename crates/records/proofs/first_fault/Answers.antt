@@ -1,4 +1,5 @@
-use Rattle.lists.specs.Kit.{◌≡◌, sym, ap, ◌∙◌, ◌+◌, ◌-◌, ◌*◌, ◌≤◌, arith, length, rules}
+use Rattle.std.specs.Prelude.{◌≡◌, ◌+◌, ◌-◌, ◌*◌, ◌≤◌}
+use Rattle.lists.specs.Kit.{sym, ap, ◌∙◌, arith, length, rules}
 use Rattle.lists.specs.Over.{in-record}
 use Rattle.share.specs.Lent.{lent_len, record_fault, records_fault}
 use Rattle.share.specs.LentLaws.{faults-zero, faults-turn, faults-stay}

@@ -1,9 +1,8 @@
-use Rattle.lists.specs.Kit.{◌≡◌, sym, ap, ap₂, ◌∙◌, List, Bool, false, ℕ, ◌+◌, ◌-◌, ◌≤◌, arith, length, get_or, rules}
+use Rattle.std.specs.Prelude.{◌≡◌, ◌+◌, ◌-◌, ◌≤◌}
+use Rattle.lists.specs.Kit.{List, Bool, ℕ, get_or}
 use lib.Dec.{eqb}
-use Rattle.lists.specs.All.{all_of, all-zero, all_more}
+use Rattle.lists.specs.All.{all_of}
 use Rattle.share.specs.Lent.{LABEL, label_of}
-use Rattle.share.specs.Lent as L
-use Rattle.share.specs.LentLaws.{head-within, label-behind}
 use Rattle.records.proofs.labelled.Given as goal
 
 -- byte k of the label is as due

@@ -1,11 +1,9 @@
-use Rattle.lists.specs.Kit.{◌≡◌, refl, sym, ap, ap₂, subst, ◌∙◌, List, false, ◌&&◌, ℕ, ◌+◌, ◌-◌, ◌*◌, ◌≤◌, arith, length, get_or}
-use Rattle.lists.specs.Kit.{replicate, rules}
-use lib.Dec.{leb}
-use Rattle.lists.specs.Over.{in-record, over-full}
-use Rattle.share.specs.Layout.{ENTRY, mac_off, entry-within, record-most}
-use Rattle.share.specs.Lent.{LABEL, lent_len, lent_head}
-use Rattle.share.specs.LentLaws.{lent_longer, head-within, length-lent-head}
-use Rattle.records.specs.Seen.{ored, Shown, shown-none, shown-turn, passes, seen_all}
+use Rattle.std.specs.Prelude.{◌≡◌, ◌+◌, ◌-◌, ◌≤◌}
+use Rattle.lists.specs.Kit.{false, length}
+use Rattle.lists.specs.Kit.{replicate}
+use Rattle.share.specs.Layout.{ENTRY, mac_off}
+use Rattle.share.specs.Lent.{LABEL, lent_head}
+use Rattle.records.specs.Seen.{Shown}
 use Rattle.records.proofs.none_faulty.Given as goal
 
 abbrev pub invariant-loop-t : goal.invariant-loop-t

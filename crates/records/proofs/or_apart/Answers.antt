@@ -1,4 +1,5 @@
-use Rattle.lists.specs.Kit.{◌≡◌, refl, ap, ◌∙◌, List, ◌++◌, ℕ, ◌+◌, ◌-◌, ◌<◌, ◌≤◌, arith, length, get_or, drop, rules}
+use Rattle.std.specs.Prelude.{◌+◌, ◌-◌, ◌<◌}
+use Rattle.lists.specs.Kit.{refl, ap, ◌∙◌, List, ℕ, arith, length, get_or}
 use lib.ListN.{length-set}
 use lib.Bits.{bit_or, bit_xor}
 use Rattle.lists.specs.Over.{tab, length-tab, tab-zero, tab-turn, tab-end, over-get}

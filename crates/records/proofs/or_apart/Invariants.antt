@@ -1,8 +1,7 @@
-use Rattle.lists.specs.Kit.{◌≡◌, refl, ap, ◌∙◌, List, ◌++◌, ℕ, ◌+◌, ◌-◌, ◌<◌, ◌≤◌, arith, length, get_or, drop, rules}
-use lib.ListN.{length-set}
+use Rattle.std.specs.Prelude.{◌≡◌, ◌++◌, ◌+◌, ◌-◌, ◌≤◌}
+use Rattle.lists.specs.Kit.{List, ℕ, length, get_or, drop}
 use lib.Bits.{bit_or, bit_xor}
-use Rattle.lists.specs.Over.{tab, length-tab, tab-zero, tab-turn, tab-end, over-get}
-use Rattle.records.specs.Seen.{ored}
+use Rattle.lists.specs.Over.{tab}
 use Rattle.records.proofs.or_apart.Given as goal
 
 abbrev pub both : List ℕ → List ℕ → ℕ → List ℕ → ℕ → ℕ

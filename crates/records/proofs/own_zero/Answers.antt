@@ -1,4 +1,5 @@
-use Rattle.lists.specs.Kit.{◌+◌, arith, rules}
+use Rattle.std.specs.Prelude.{◌+◌}
+use Rattle.lists.specs.Kit.{arith}
 use Rattle.share.specs.Record.{own_zero}
 use Rattle.share.specs.LentLaws.{lent_longer}
 use Rattle.records.proofs.own_zero.Goals as goal

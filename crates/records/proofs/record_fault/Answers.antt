@@ -1,5 +1,5 @@
-use Rattle.lists.specs.Kit.{sym, ◌∙◌, ◌+◌, arith, rules}
-use Rattle.lists.specs.All.{not-true, not-false}
+use Rattle.std.specs.Prelude.{◌+◌}
+use Rattle.lists.specs.Kit.{sym, ◌∙◌, arith}
 use Rattle.share.specs.Layout.{record-within}
 use Rattle.share.specs.LentLaws.{lent_longer, head-within, fault-bit, fault-label, fault-own, fault-none}
 use Rattle.records.proofs.record_fault.Goals as goal

@@ -1,4 +1,5 @@
-use Rattle.lists.specs.Kit.{◌≡◌, ap, sym, ◌∙◌, ℕ, ◌+◌, ◌-◌, ◌≤◌, arith, length, get_or, rules}
+use Rattle.std.specs.Prelude.{◌≡◌, ◌+◌, ◌-◌}
+use Rattle.lists.specs.Kit.{ap, sym, ◌∙◌, ℕ, arith, get_or}
 use lib.Dec.{eqb}
 use Rattle.lists.specs.All.{all_of, all-zero, all_more}
 use Rattle.records.proofs.zeros.Goals as goal

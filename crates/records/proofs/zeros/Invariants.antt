@@ -1,6 +1,7 @@
-use Rattle.lists.specs.Kit.{◌≡◌, ap, sym, ◌∙◌, ℕ, ◌+◌, ◌-◌, ◌≤◌, arith, length, get_or, rules}
+use Rattle.std.specs.Prelude.{◌≡◌, ◌+◌, ◌-◌, ◌≤◌}
+use Rattle.lists.specs.Kit.{length, get_or}
 use lib.Dec.{eqb}
-use Rattle.lists.specs.All.{all_of, all-zero, all_more}
+use Rattle.lists.specs.All.{all_of}
 use Rattle.records.proofs.zeros.Given as goal
 
 abbrev pub invariant-loop-k : goal.invariant-loop-k

@@ -1,4 +1,5 @@
-use Rattle.lists.specs.Kit.{◌≡◌, sym, ap, ap₂, ◌∙◌, List, ◌++◌, Bool, not, ◌&&◌, ℕ, ◌+◌, ◌-◌, ◌<◌, ◌≤◌, arith, length, take, drop, rules}
+use Rattle.std.specs.Prelude.{◌≡◌, ◌++◌, ◌&&◌, ◌+◌, ◌-◌, ◌<◌, ◌≤◌}
+use Rattle.lists.specs.Kit.{sym, ap, ap₂, ◌∙◌, List, Bool, not, ℕ, arith, length, take, drop, rules}
 use mathlib.Core.Bool.{beq}
 use lib.ListN.{length-append, length-drop}
 use lib.Seq.{length-take-le, drop-drop, drop_at}

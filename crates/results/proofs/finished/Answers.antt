@@ -1,5 +1,5 @@
-use Rattle.lists.specs.Kit.{ap, ap₂, ◌∙◌, rules}
-use Rattle.algebra.specs.Group.{XorGroup, sel}
+use Rattle.lists.specs.Kit.{ap, ap₂, ◌∙◌}
+use Rattle.algebra.specs.Group.{sel}
 use Rattle.block.specs.Group.{blocks}
 use Rattle.share.specs.Share.{share_at}
 use Rattle.results.specs.FinishLaws.{finish-mac, finish-key}

@@ -1,8 +1,7 @@
-use Rattle.lists.specs.Kit.{◌≡◌, refl, ap₂, ◌∙◌, List, [], Bool, ℕ, ◌+◌, ◌-◌, ◌<◌, ◌≤◌, arith, length, rules}
-use Rattle.share.specs.Layout.{ENTRY, entry-within, record-within}
-use Rattle.share.specs.Share.{Share, share_at, entry_bytes, entry_of}
-use Rattle.share.specs.ShareLaws.{length-entry_of}
-use Rattle.share.specs.Entered.{Entered, entered-none, entered-turn, entered-head}
+use Rattle.std.specs.Prelude.{◌-◌, ◌≤◌}
+use Rattle.lists.specs.Kit.{List, Bool, ℕ}
+use Rattle.share.specs.Share.{Share, share_at, entry_of}
+use Rattle.share.specs.Entered.{Entered}
 use Rattle.rounds.specs.Beaver as R
 use Rattle.faand.specs.declared.Records.{Records}
 use Rattle.results.proofs.put_entries.Given as goal

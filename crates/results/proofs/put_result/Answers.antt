@@ -1,4 +1,5 @@
-use Rattle.lists.specs.Kit.{List, ℕ, ◌+◌, ◌<◌, ◌≤◌, arith, length, rules}
+use Rattle.std.specs.Prelude.{◌+◌, ◌<◌, ◌≤◌}
+use Rattle.lists.specs.Kit.{List, ℕ, arith, length}
 use Rattle.share.specs.Layout.{record_len, record-some}
 use Rattle.results.specs.FinishLaws.{result-read}
 use Rattle.results.proofs.put_result.Goals as goal

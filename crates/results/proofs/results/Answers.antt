@@ -1,5 +1,6 @@
-use Rattle.lists.specs.Kit.{◌≡◌, sym, ap, ◌∙◌, List, ℕ, ◌+◌, ◌-◌, ◌*◌, ◌≤◌, arith, length, rules}
-use Rattle.lists.specs.Over.{Written, in-chunks}
+use Rattle.std.specs.Prelude.{◌≡◌, ◌+◌, ◌-◌, ◌*◌, ◌≤◌}
+use Rattle.lists.specs.Kit.{sym, ap, ◌∙◌, arith, length}
+use Rattle.lists.specs.Over.{in-chunks}
 use Rattle.lists.specs.Rows.{even-zero, even-turn, even-end}
 use Rattle.share.specs.Lent.{lent_len}
 use Rattle.rounds.specs.Area.{at}

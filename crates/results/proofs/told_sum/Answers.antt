@@ -1,8 +1,7 @@
-use Rattle.lists.specs.Kit.{◌≡◌, ap, ◌∙◌, List, Bool, ℕ, ◌-◌, ◌≤◌, arith, get_or, rules}
-use Rattle.algebra.specs.Group.{bits, odd, xor-addb}
+use Rattle.std.specs.Prelude.{◌≡◌, ◌-◌}
+use Rattle.lists.specs.Kit.{ap, ◌∙◌, arith}
+use Rattle.algebra.specs.Group.{bits, xor-addb}
 use Rattle.algebra.specs.Sum.{others}
-use Rattle.rounds.specs.declared.Mail.{Mail}
-use Rattle.rounds.specs.Mail.{letter}
 use Rattle.rounds.specs.Loops.{others-none, others-turn}
 use Rattle.results.proofs.told_sum.Goals as goal
 use Rattle.results.proofs.told_sum.Invariants.{bit}

@@ -1,10 +1,10 @@
 -- The loop's invariant: the sum has the first k parties.
-use Rattle.lists.specs.Kit.{◌≡◌, ap, ◌∙◌, List, Bool, ℕ, ◌-◌, ◌≤◌, arith, get_or, rules}
-use Rattle.algebra.specs.Group.{bits, odd, xor-addb}
+use Rattle.std.specs.Prelude.{◌≡◌, ◌-◌, ◌≤◌}
+use Rattle.lists.specs.Kit.{List, Bool, ℕ, get_or}
+use Rattle.algebra.specs.Group.{bits, odd}
 use Rattle.algebra.specs.Sum.{others}
 use Rattle.rounds.specs.declared.Mail.{Mail}
 use Rattle.rounds.specs.Mail.{letter}
-use Rattle.rounds.specs.Loops.{others-none, others-turn}
 use Rattle.results.proofs.told_sum.Given as goal
 
 -- the bit of party k

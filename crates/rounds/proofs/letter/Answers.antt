@@ -1,4 +1,3 @@
-use borrow.Author.Rules.{rules}
 use borrow.Author.Tests.{le-leb}
 use Rattle.message.specs.Read as R
 use Rattle.rounds.specs.Mail as Mail

@@ -1,6 +1,7 @@
-use Rattle.lists.specs.Kit.{List, ◌++◌, ℕ, ◌+◌, ◌-◌, ◌*◌, ◌≤◌, arith, length, rules}
+use Rattle.std.specs.Prelude.{◌++◌, ◌+◌, ◌-◌, ◌*◌, ◌≤◌}
+use Rattle.lists.specs.Kit.{arith, length}
 use native.Mathlib.Nat.{zero-mul}
-use Rattle.lists.specs.Over.{Written, in-chunks, length-take-drop}
+use Rattle.lists.specs.Over.{in-chunks, length-take-drop}
 use Rattle.block.specs.Block.{le8}
 use Rattle.engine.specs.Area.{to_others}
 use Rattle.lists.specs.Rows.{even-zero, even-turn, even-end}

@@ -1,10 +1,8 @@
 -- The loop's invariant: the stretches of the first q other parties are written.
-use Rattle.lists.specs.Kit.{List, ◌++◌, ℕ, ◌+◌, ◌-◌, ◌*◌, ◌≤◌, arith, length, rules}
-use native.Mathlib.Nat.{zero-mul}
-use Rattle.lists.specs.Over.{Written, in-chunks, length-take-drop}
+use Rattle.std.specs.Prelude.{◌++◌, ◌+◌, ◌-◌, ◌*◌, ◌≤◌}
+use Rattle.lists.specs.Kit.{length}
+use Rattle.lists.specs.Over.{Written}
 use Rattle.block.specs.Block.{le8}
-use Rattle.engine.specs.Area.{to_others}
-use Rattle.lists.specs.Rows.{even-zero, even-turn, even-end}
 use Rattle.rounds.proofs.write_same.Given as goal
 
 abbrev pub invariant-loop-q : goal.invariant-loop-q

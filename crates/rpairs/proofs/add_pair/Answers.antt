@@ -1,5 +1,5 @@
 -- The first entries of both tables are nothing, and adding them changes nothing.
-use Rattle.lists.specs.Kit.{ap, ◌∙◌, List, ℕ, arith, rules}
+use Rattle.lists.specs.Kit.{ap, ◌∙◌, List, ℕ, arith}
 use Rattle.rbits.specs.Chosen.{words_of}
 use Rattle.rbits.specs.TableLaws.{tables-first}
 use Rattle.rpairs.specs.Added.{added_from}

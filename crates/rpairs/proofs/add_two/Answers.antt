@@ -1,6 +1,7 @@
-use Rattle.lists.specs.Kit.{◌-◌, ◌≤◌, arith, rules}
+use Rattle.std.specs.Prelude.{◌-◌}
+use Rattle.lists.specs.Kit.{arith}
 use lib.ListN.{length-set}
-use Rattle.rpairs.specs.AddedLaws.{Partly, partly-zero, partly-turn, partly-end}
+use Rattle.rpairs.specs.AddedLaws.{partly-zero, partly-turn, partly-end}
 use Rattle.rpairs.proofs.add_two.Goals as goal
 
 pub loop-j-init : goal.loop-j-init

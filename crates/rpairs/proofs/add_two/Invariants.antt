@@ -1,7 +1,6 @@
 -- The loop's invariant: the sums of the first j strings have what is chosen added, in both lists.
-use Rattle.lists.specs.Kit.{◌-◌, ◌≤◌, arith, rules}
-use lib.ListN.{length-set}
-use Rattle.rpairs.specs.AddedLaws.{Partly, partly-zero, partly-turn, partly-end}
+use Rattle.std.specs.Prelude.{◌-◌, ◌≤◌}
+use Rattle.rpairs.specs.AddedLaws.{Partly}
 use Rattle.rpairs.proofs.add_two.Given as goal
 
 abbrev pub invariant-loop-j : goal.invariant-loop-j

@@ -1,4 +1,5 @@
-use Rattle.lists.specs.Kit.{◌≡◌, refl, ap, ◌∙◌, ◌+◌, ◌-◌, ◌*◌, ◌<◌, ◌≤◌, arith, rules}
+use Rattle.std.specs.Prelude.{◌≡◌, ◌+◌, ◌-◌, ◌*◌, ◌<◌}
+use Rattle.lists.specs.Kit.{refl, ap, ◌∙◌, arith}
 use Prim.Native.Nat.{◌/◌, ◌^◌}
 use lib.Bits.{bit_and, mask_lt}
 use Rattle.algebra.specs.Sum.{sum}

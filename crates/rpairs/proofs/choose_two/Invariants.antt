@@ -1,12 +1,8 @@
 -- The loop's invariant: a and b, and c and d, are the words of the sums of the first k entries.
-use Rattle.lists.specs.Kit.{◌≡◌, refl, ap, ◌∙◌, ◌+◌, ◌-◌, ◌*◌, ◌<◌, ◌≤◌, arith, rules}
-use Prim.Native.Nat.{◌/◌, ◌^◌}
-use lib.Bits.{bit_and, mask_lt}
+use Rattle.std.specs.Prelude.{◌≡◌, ◌-◌, ◌≤◌}
 use Rattle.algebra.specs.Sum.{sum}
-use Rattle.block.specs.Block.{zero_of}
 use Rattle.block.specs.Group.{blocks}
-use Rattle.rbits.specs.Tables.{entry, lookup}
-use Rattle.rbits.specs.TableLaws.{lookup-turn}
+use Rattle.rbits.specs.Tables.{entry}
 use Rattle.rpairs.proofs.choose_two.Given as goal
 
 abbrev pub invariant-loop-k : goal.invariant-loop-k

@@ -1,4 +1,5 @@
-use Rattle.lists.specs.Kit.{◌≡◌, sym, ap, ◌∙◌, subst, ◌-◌, ◌*◌, ◌<◌, ◌≤◌, arith, length, rules}
+use Rattle.std.specs.Prelude.{◌≡◌, ◌-◌, ◌*◌, ◌<◌, ◌≤◌}
+use Rattle.lists.specs.Kit.{sym, ap, ◌∙◌, subst, arith, length}
 use Rattle.share.specs.Record.{mac_off, key_off}
 use Rattle.engine.specs.Area.{nth-below}
 use Rattle.rbits.specs.Chosen.{words_of}

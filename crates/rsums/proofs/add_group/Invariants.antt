@@ -1,10 +1,9 @@
 -- The loop's invariant: both lists have what is chosen for the first q of the other parties.
-use Rattle.lists.specs.Kit.{◌≡◌, sym, ap, ◌∙◌, subst, ◌-◌, ◌*◌, ◌<◌, ◌≤◌, arith, length, rules}
+use Rattle.std.specs.Prelude.{◌≡◌, ◌-◌, ◌≤◌}
+use Rattle.lists.specs.Kit.{length}
 use Rattle.share.specs.Record.{mac_off, key_off}
-use Rattle.engine.specs.Area.{nth-below}
 use Rattle.rbits.specs.Chosen.{words_of}
 use Rattle.rsums.specs.Sums.{grown}
-use Rattle.rsums.specs.SumsLaws.{macs-within, keys-within, grown-none, grown-turn}
 use Rattle.rsums.proofs.add_group.Given as goal
 
 abbrev pub invariant-loop-q : goal.invariant-loop-q

@@ -1,8 +1,9 @@
-use Rattle.lists.specs.Kit.{sym, subst, ◌-◌, ◌*◌, ◌<◌, ◌≤◌, arith, length, rules}
+use Rattle.std.specs.Prelude.{◌-◌, ◌*◌, ◌<◌, ◌≤◌}
+use Rattle.lists.specs.Kit.{sym, subst, arith, length}
 use Rattle.share.specs.Layout.{record-some}
 use Rattle.draw.specs.Strings.{strings}
 use Rattle.draw.specs.StringLaws.{strings-whole, bytes-strings}
-use Rattle.rsums.specs.SumsLaws.{Grouped, grouped-none, grouped-turn, grouped-end}
+use Rattle.rsums.specs.SumsLaws.{grouped-none, grouped-turn, grouped-end}
 use Rattle.rsums.proofs.sums.Goals as goal
 use Rattle.rsums.proofs.sums.Goals.{After-keys-in-loop-g-1, At-loop-g}
 

@@ -1,9 +1,7 @@
 -- The loop's invariant: all sums over the first g groups; and behind the first of a window's two groups, the window.
-use Rattle.lists.specs.Kit.{sym, subst, ◌-◌, ◌*◌, ◌<◌, ◌≤◌, arith, length, rules}
-use Rattle.share.specs.Layout.{record-some}
+use Rattle.std.specs.Prelude.{◌-◌, ◌*◌}
 use Rattle.draw.specs.Strings.{strings}
-use Rattle.draw.specs.StringLaws.{strings-whole, bytes-strings}
-use Rattle.rsums.specs.SumsLaws.{Grouped, grouped-none, grouped-turn, grouped-end}
+use Rattle.rsums.specs.SumsLaws.{Grouped}
 use Rattle.rsums.proofs.sums.Given as goal
 
 abbrev pub invariant-loop-g : goal.invariant-loop-g

@@ -1,4 +1,4 @@
-use Rattle.lists.specs.Kit.{◌≡◌, refl, sym, subst, ◌∙◌, List, ℕ, rules}
+use Rattle.lists.specs.Kit.{refl, sym, subst, ◌∙◌}
 use Rattle.engine.specs.Step.{mask}
 use Rattle.rounds.specs.Mail.{letter}
 use Rattle.rounds.specs.FaultLaws.{Finds}

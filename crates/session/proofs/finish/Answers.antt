@@ -1,4 +1,4 @@
-use Rattle.lists.specs.Kit.{◌≡◌, sym, ◌∙◌, rules}
+use Rattle.lists.specs.Kit.{sym, ◌∙◌}
 use Rattle.rounds.specs.Mail.{letter}
 use Rattle.session.specs.SessionLaws.{last-received, results-masked}
 use Rattle.session.proofs.finish.Goals as goal

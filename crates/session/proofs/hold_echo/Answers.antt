@@ -1,4 +1,4 @@
-use Rattle.lists.specs.Kit.{◌≡◌, ap, ◌∙◌, List, ℕ, rules}
+use Rattle.lists.specs.Kit.{ap, ◌∙◌, List, ℕ}
 use lib.Dec.{eqb}
 use Rattle.lists.specs.Pick.{pick}
 use Rattle.engine.specs.Step.{mask}

@@ -1,4 +1,4 @@
-use Rattle.lists.specs.Kit.{◌≡◌, sym, ◌∙◌, rules}
+use Rattle.lists.specs.Kit.{sym, ◌∙◌}
 use Rattle.session.specs.SessionLaws.{zero-takes, other-leaves}
 use Rattle.session.proofs.keep_clean.Goals as goal
 

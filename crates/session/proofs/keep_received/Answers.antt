@@ -1,4 +1,4 @@
-use Rattle.lists.specs.Kit.{◌≡◌, sym, ◌∙◌, rules}
+use Rattle.lists.specs.Kit.{sym, ◌∙◌}
 use Rattle.session.specs.SessionLaws.{plain-takes, echo-leaves}
 use Rattle.session.proofs.keep_received.Goals as goal
 

@@ -1,5 +1,6 @@
-use Rattle.lists.specs.Kit.{◌≡◌, sym, ap, subst, ◌∙◌, true, arith, rules}
-use Rattle.engine.specs.Step.{Lent, reply_of, mask, part, parts_in, fault_of}
+use Rattle.std.specs.Prelude.{◌≡◌}
+use Rattle.lists.specs.Kit.{sym, ap, subst, ◌∙◌, true, arith}
+use Rattle.engine.specs.Step.{reply_of, mask, part, parts_in, fault_of}
 use Rattle.engine.specs.StepLaws.{or-zero}
 use Rattle.engine.specs.Plain.{rule_of}
 use Rattle.rounds.specs.declared.Mail.{Mail}

@@ -1,6 +1,7 @@
-use Rattle.lists.specs.Kit.{◌≡◌, sym, ap, ap₂, subst, ◌∙◌, List, true, ℕ, ◌-◌, ◌*◌, ◌<◌, ◌≢◌, arith, rules}
+use Rattle.std.specs.Prelude.{◌≡◌, ◌-◌, ◌*◌, ◌<◌, ◌≢◌}
+use Rattle.lists.specs.Kit.{sym, ap, ap₂, subst, ◌∙◌, List, true, ℕ, arith}
 use Rattle.plan.specs.Plan.{next_round, msg_len}
-use Rattle.engine.specs.Step.{Fault, Loan, mask}
+use Rattle.engine.specs.Step.{Fault, mask}
 use Rattle.engine.specs.Area.{to_others}
 use Rattle.rounds.specs.Mail.{letter}
 use Rattle.rounds.specs.Echo.{echo_msg}

@@ -1,4 +1,3 @@
-use Rattle.lists.specs.Kit.{rules}
 use Rattle.session.specs.SessionLaws.{to-echo-is}
 use Rattle.session.proofs.to_echo.Goals as goal
 

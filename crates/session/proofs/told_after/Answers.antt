@@ -1,4 +1,3 @@
-use Rattle.lists.specs.Kit.{rules}
 use Rattle.session.specs.CallLaws.{told-last, told-other}
 use Rattle.session.proofs.told_after.Goals as goal
 

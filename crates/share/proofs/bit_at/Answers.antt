@@ -1,4 +1,3 @@
-use borrow.Author.Rules.{rules}
 use Rattle.share.specs.Record.{bit_at}
 use Rattle.share.proofs.bit_at.Goals as goal
 

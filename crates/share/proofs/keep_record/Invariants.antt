@@ -1,11 +1,7 @@
-use Rattle.lists.specs.Kit.{◌≡◌, refl, ap, ap₂, ◌∙◌, ◌++◌, Bool, ◌+◌, ◌-◌, ◌≤◌, arith, length, rules}
-use Rattle.lists.specs.Over.{cat}
-use Rattle.share.specs.Layout.{ENTRY, head_of, record_len, entry-within, record-within, record-some}
-use Rattle.share.specs.Share.{entry_bytes, entry_of, record_of}
-use Rattle.share.specs.Lent.{LABEL, lent_at}
-use Rattle.share.specs.LentLaws.{lent_longer}
-use Rattle.share.specs.ShareLaws.{length-entry_of}
-use Rattle.share.specs.Entered.{Entered, entered-none, entered-turn, entered-head, entered-long, headed}
+use Rattle.std.specs.Prelude.{◌-◌, ◌≤◌}
+use Rattle.share.specs.Share.{entry_of}
+use Rattle.share.specs.Lent.{lent_at}
+use Rattle.share.specs.Entered.{Entered}
 use Rattle.share.proofs.keep_record.Given as goal
 
 abbrev pub invariant-loop-k : goal.invariant-loop-k

@@ -1,4 +1,5 @@
-use Rattle.lists.specs.Kit.{ap, ◌∙◌, ◌+◌, arith, rules}
+use Rattle.std.specs.Prelude.{◌+◌}
+use Rattle.lists.specs.Kit.{ap, ◌∙◌, arith}
 use Rattle.block.specs.Block.{block_at}
 use Rattle.share.specs.Layout.{entry-last, key-behind}
 use Rattle.share.specs.Record.{key_at}

@@ -1,4 +1,4 @@
-use Rattle.lists.specs.Kit.{arith, rules}
+use Rattle.lists.specs.Kit.{arith}
 use Rattle.share.specs.Layout.{key_off}
 use Rattle.share.proofs.key_off.Goals as goal
 

@@ -1,4 +1,4 @@
-use Rattle.lists.specs.Kit.{arith, rules}
+use Rattle.lists.specs.Kit.{arith}
 use Rattle.share.specs.Lent.{lent_len}
 use Rattle.share.proofs.lent_len.Goals as goal
 

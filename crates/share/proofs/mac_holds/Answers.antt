@@ -1,5 +1,5 @@
-use Rattle.lists.specs.Kit.{ap, ap₂, ◌∙◌, Bool, rules}
-use Rattle.algebra.specs.Group.{XorGroup, sel}
+use Rattle.lists.specs.Kit.{ap, ap₂, ◌∙◌, Bool}
+use Rattle.algebra.specs.Group.{sel}
 use Rattle.block.specs.Block.{eq_block}
 use Rattle.block.specs.Group.{blocks}
 use Rattle.share.proofs.mac_holds.Goals as goal

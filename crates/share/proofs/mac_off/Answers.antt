@@ -1,4 +1,4 @@
-use Rattle.lists.specs.Kit.{arith, rules}
+use Rattle.lists.specs.Kit.{arith}
 use Rattle.share.specs.Layout.{mac_off}
 use Rattle.share.proofs.mac_off.Goals as goal
 

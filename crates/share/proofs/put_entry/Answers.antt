@@ -1,4 +1,5 @@
-use Rattle.lists.specs.Kit.{◌∙◌, ◌++◌, arith, rules}
+use Rattle.std.specs.Prelude.{◌++◌}
+use Rattle.lists.specs.Kit.{◌∙◌, arith}
 use Rattle.lists.specs.Over.{over-put, over-full}
 use Rattle.block.specs.Block.{bytes_of}
 use Rattle.block.specs.Trip.{length-bytes_of}

@@ -1,4 +1,5 @@
-use Rattle.lists.specs.Kit.{◌≡◌, sym, ap₂, ◌∙◌, ◌++◌, rules}
+use Rattle.std.specs.Prelude.{◌++◌}
+use Rattle.lists.specs.Kit.{sym, ap₂, ◌∙◌}
 use Rattle.block.specs.declared.Block.{Block}
 use Rattle.block.specs.Block.{bytes_of}
 use Rattle.share.specs.ShareLaws.{entry-own, entry_other, zero-pair}

@@ -1,4 +1,4 @@
-use Rattle.lists.specs.Kit.{◌≡◌, ap, ◌∙◌, List, ℕ, ◌<◌, arith, set, rules}
+use Rattle.lists.specs.Kit.{ap, ◌∙◌, set, rules}
 use Rattle.share.specs.Layout.{mac_off}
 use Rattle.share.proofs.Laws.{set-head}
 use Rattle.share.proofs.put_head.Goals as goal

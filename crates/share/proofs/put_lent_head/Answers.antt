@@ -1,7 +1,7 @@
-use Rattle.lists.specs.Kit.{◌≡◌, ap, ap₂, ◌∙◌, List, ◌++◌, ℕ, ◌+◌, length, drop, replicate, set, rules}
+use Rattle.std.specs.Prelude.{◌≡◌, ◌++◌, ◌+◌}
+use Rattle.lists.specs.Kit.{ap, ap₂, ◌∙◌, List, ℕ, length, drop, replicate, set, rules}
 use borrow.Rule.Slice.PartMut.{put_mid, post_of}
 use Rattle.lists.specs.Over.{over-put}
-use Rattle.algebra.specs.Group.{XorGroup}
 use Rattle.block.specs.Block.{bytes_of}
 use Rattle.block.specs.Group.{blocks}
 use Rattle.block.specs.Trip.{length-bytes_of}

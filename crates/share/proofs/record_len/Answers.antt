@@ -1,4 +1,4 @@
-use Rattle.lists.specs.Kit.{arith, rules}
+use Rattle.lists.specs.Kit.{arith}
 use Rattle.share.specs.Layout.{record_len}
 use Rattle.share.proofs.record_len.Goals as goal
 

@@ -1,4 +1,4 @@
-use Rattle.lists.specs.Kit.{ap₂, ◌∙◌, Bool, not, rules}
+use Rattle.lists.specs.Kit.{ap₂, ◌∙◌, Bool, not}
 use Rattle.algebra.specs.Group.{xor-addb}
 use mathlib.Core.Bool.{beq}
 use Rattle.share.specs.Record.{bit_at}

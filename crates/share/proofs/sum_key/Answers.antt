@@ -1,5 +1,4 @@
-use Rattle.lists.specs.Kit.{ap₂, ◌∙◌, rules}
-use Rattle.algebra.specs.Group.{XorGroup}
+use Rattle.lists.specs.Kit.{ap₂, ◌∙◌}
 use Rattle.block.specs.Group.{blocks}
 use Rattle.share.specs.Share.{share_at, shares}
 use Rattle.share.proofs.sum_key.Goals as goal

@@ -1,7 +1,5 @@
-use Rattle.lists.specs.Kit.{◌-◌, arith, rules}
-use borrow.Author.Tests.{ltb-true, ltb-false}
+use Rattle.std.specs.Prelude.{◌-◌}
 use Rattle.shuffle.specs.Turns.{Taken}
-use Rattle.shuffle.proofs.TurnLaws.{taken-zero, taken-turn, taken-all, taken-end}
 use Rattle.shuffle.proofs.block.Given as goal
 
 abbrev pub invariant-loop-q : goal.invariant-loop-q

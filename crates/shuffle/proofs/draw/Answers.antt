@@ -1,5 +1,6 @@
-use Rattle.lists.specs.Kit.{◌∙◌, ◌-◌, arith, rules}
-use Rattle.shuffle.specs.Turns.{size, Blocks}
+use Rattle.std.specs.Prelude.{◌-◌}
+use Rattle.lists.specs.Kit.{◌∙◌, arith, rules}
+use Rattle.shuffle.specs.Turns.{size}
 use Rattle.shuffle.proofs.TurnLaws.{less-falls, blocks-zero, window-turn, drawn}
 use Rattle.shuffle.proofs.draw.Goals as goal
 

@@ -1,6 +1,5 @@
-use Rattle.lists.specs.Kit.{◌∙◌, ◌-◌, arith, rules}
+use Rattle.std.specs.Prelude.{◌-◌}
 use Rattle.shuffle.specs.Turns.{size, Blocks}
-use Rattle.shuffle.proofs.TurnLaws.{less-falls, blocks-zero, window-turn, drawn}
 use Rattle.shuffle.proofs.draw.Given as goal
 
 abbrev pub invariant-loop-at : goal.invariant-loop-at

@@ -1,5 +1,4 @@
 use native.Mathlib.Nat.{mod-le}
-use Rattle.lists.specs.Kit.{rules}
 use Rattle.shuffle.proofs.TurnLaws.{fits-is}
 use Rattle.shuffle.proofs.fits.Goals as goal
 

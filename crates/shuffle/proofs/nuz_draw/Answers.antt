@@ -1,4 +1,3 @@
-use borrow.Author.Rules.{rules}
 use Rattle.shuffle.proofs.nuz_draw.Goals as goal
 
 pub returns : goal.returns

@@ -1,8 +1,6 @@
-use Rattle.lists.specs.Kit.{ap, ◌∙◌, ◌+◌, ◌-◌, ◌*◌, ◌≤◌, arith, rules}
-use Rattle.lists.specs.Over.{Written, written-zero, written-turn, written-end, length-take-drop}
+use Rattle.std.specs.Prelude.{◌-◌, ◌*◌, ◌≤◌}
+use Rattle.lists.specs.Over.{Written}
 use Rattle.word.specs.Word.{le4}
-use Rattle.word.specs.WordLaws.{length-le4}
-use Rattle.shuffle.proofs.TurnLaws.{started}
 use Rattle.shuffle.proofs.start.Given as goal
 
 abbrev pub invariant-loop-t : goal.invariant-loop-t

@@ -1,5 +1,6 @@
 use native.Mathlib.Nat.{mod-lt}
-use Rattle.lists.specs.Kit.{◌+◌, arith, rules}
+use Rattle.std.specs.Prelude.{◌+◌}
+use Rattle.lists.specs.Kit.{arith, rules}
 use Rattle.shuffle.proofs.TurnLaws.{went-used, went-passed, some_left}
 use Rattle.shuffle.proofs.step.Goals as goal
 

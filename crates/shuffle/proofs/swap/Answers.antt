@@ -1,4 +1,4 @@
-use Rattle.lists.specs.Kit.{ap, ◌∙◌, rules}
+use Rattle.lists.specs.Kit.{ap, ◌∙◌}
 use Rattle.word.specs.Word.{le4}
 use Rattle.shuffle.proofs.TurnLaws.{kept-swap}
 use Rattle.shuffle.proofs.swap.Goals as goal

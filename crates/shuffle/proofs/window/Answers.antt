@@ -1,4 +1,5 @@
-use Rattle.lists.specs.Kit.{◌≡◌, subst, [], get_or, ◌-◌, ◌≤◌, arith, rules}
+use Rattle.std.specs.Prelude.{◌≡◌, ◌-◌}
+use Rattle.lists.specs.Kit.{subst, [], get_or, arith, rules}
 use Rattle.chacha20_lanes.specs.declared.Lane.{Lane}
 use Rattle.shuffle.specs.Turns.{Blocks}
 use Rattle.shuffle.proofs.TurnLaws.{blocks-zero, lane-at, lane-turn}

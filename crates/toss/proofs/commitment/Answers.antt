@@ -1,4 +1,5 @@
-use Rattle.lists.specs.Kit.{◌≡◌, sym, ap, ◌∙◌, replicate, rules}
+use Rattle.std.specs.Prelude.{◌≡◌}
+use Rattle.lists.specs.Kit.{sym, ap, ◌∙◌, replicate}
 use Prim.Native.Nat.{◌/◌, ◌%◌}
 use Rattle.fill.specs.Copied.{copied}
 use Rattle.blake3.specs.Tree.{bytes, digest, hash}

@@ -1,4 +1,5 @@
-use Rattle.lists.specs.Kit.{refl, ap, List, ℕ, ◌+◌, arith, rules}
+use Rattle.std.specs.Prelude.{◌+◌}
+use Rattle.lists.specs.Kit.{refl, ap, List, ℕ, arith}
 use Rattle.blake3.specs.Tree.{bytes}
 use Rattle.blake3.specs.ByteLaws.{length-bytes}
 use Rattle.encode.specs.Stretch.{stretch-count, stretch-turn, stretch-end}

@@ -1,4 +1,3 @@
-use Rattle.lists.specs.Kit.{rules}
 use Rattle.lists.specs.Rows.{length-row, row-part}
 use Rattle.toss.proofs.seed_for.Goals as goal
 

@@ -1,4 +1,5 @@
-use Rattle.lists.specs.Kit.{sym, ap, ◌∙◌, List, ◌++◌, ℕ, ◌+◌, ◌-◌, ◌*◌, arith, length, rules}
+use Rattle.std.specs.Prelude.{◌++◌, ◌+◌, ◌-◌, ◌*◌}
+use Rattle.lists.specs.Kit.{sym, ap, ◌∙◌, List, ℕ, arith, length}
 use Rattle.lists.specs.Over.{cat}
 use Rattle.block.specs.Block.{le8}
 use Rattle.blake3.specs.ByteLaws.{length-bytes}

@@ -1,12 +1,7 @@
-use Rattle.lists.specs.Kit.{◌≡◌, refl, ap, ◌∙◌, ◌+◌, ◌-◌, ◌*◌, ◌≤◌, arith, length, rules}
-use Rattle.lists.specs.Rows.{chunk, length-row}
-use Rattle.plan.specs.Plan.{msg_len, list_len, count_due, kind_of}
-use Rattle.engine.specs.Area.{nth-below}
-use Rattle.rounds.specs.Area.{PAIRS}
-use Rattle.rounds.specs.Loops.{Sent, sent-none, sent-in, sent_back, sent-end}
+use Rattle.std.specs.Prelude.{◌-◌, ◌≤◌}
+use Rattle.lists.specs.Rows.{chunk}
+use Rattle.rounds.specs.Loops.{Sent}
 use Rattle.rounds.specs.Toss.{comm_msg}
-use Rattle.area.specs.GivenLaws.{lent_length}
-use Rattle.area.specs.Sizes.{size-pairs}
 use Rattle.toss.proofs.write_pair_commitments.Given as goal
 
 abbrev pub invariant-loop-q : goal.invariant-loop-q

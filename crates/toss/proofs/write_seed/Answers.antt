@@ -1,4 +1,5 @@
-use Rattle.lists.specs.Kit.{◌≡◌, refl, sym, ap, ◌∙◌, List, ℕ, ◌+◌, ◌-◌, ◌*◌, arith, length, rules}
+use Rattle.std.specs.Prelude.{◌≡◌, ◌+◌, ◌-◌, ◌*◌}
+use Rattle.lists.specs.Kit.{refl, sym, ap, ◌∙◌, List, ℕ, arith, length}
 use Rattle.encode.specs.Encode.{dm_item}
 use Rattle.plan.specs.Plan.{msg_len, list_len, count_due, kind_of}
 use Rattle.engine.specs.Area.{to_others}

@@ -1,7 +1,8 @@
-use Rattle.lists.specs.Kit.{◌-◌, ◌≤◌, arith, rules}
+use Rattle.std.specs.Prelude.{◌-◌}
+use Rattle.lists.specs.Kit.{arith, rules}
 use Rattle.rounds.specs.Mail.{letter}
 use Rattle.rounds.specs.Loops.{row_of}
-use Rattle.rounds.specs.TossLaws.{Tossed, tossed-zero, tossed-turn, tossed-end}
+use Rattle.rounds.specs.TossLaws.{tossed-zero, tossed-turn, tossed-end}
 use Rattle.toss_recv.proofs.joint_seed.Goals as goal
 
 pub loop-k-init : goal.loop-k-init

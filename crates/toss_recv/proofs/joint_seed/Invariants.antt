@@ -1,7 +1,6 @@
-use Rattle.lists.specs.Kit.{◌-◌, ◌≤◌, arith, rules}
+use Rattle.std.specs.Prelude.{◌-◌, ◌≤◌}
 use Rattle.rounds.specs.Mail.{letter}
-use Rattle.rounds.specs.Loops.{row_of}
-use Rattle.rounds.specs.TossLaws.{Tossed, tossed-zero, tossed-turn, tossed-end}
+use Rattle.rounds.specs.TossLaws.{Tossed}
 use Rattle.toss_recv.proofs.joint_seed.Given as goal
 
 abbrev pub invariant-loop-k : goal.invariant-loop-k

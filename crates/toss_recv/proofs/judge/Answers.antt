@@ -1,4 +1,4 @@
-use Rattle.lists.specs.Kit.{subst, List, ℕ, rules}
+use Rattle.lists.specs.Kit.{subst, List, ℕ}
 use Rattle.rounds.specs.Mail.{letter}
 use Rattle.rounds.specs.FaultLaws.{Finds}
 use Rattle.rounds.specs.Toss.{opening}

@@ -1,4 +1,5 @@
-use Rattle.lists.specs.Kit.{◌≡◌, sym, ap, ◌∙◌, List, ℕ, ◌-◌, arith, length, rules}
+use Rattle.std.specs.Prelude.{◌≡◌, ◌-◌}
+use Rattle.lists.specs.Kit.{sym, ap, ◌∙◌, List, ℕ, arith, length}
 use Rattle.lists.specs.Over.{length-tab}
 use Rattle.lists.specs.Sect.{get}
 use Rattle.fill.specs.Copied.{copied}

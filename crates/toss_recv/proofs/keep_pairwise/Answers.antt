@@ -1,16 +1,14 @@
-use Rattle.lists.specs.Kit.{◌≡◌, refl, sym, ap, ◌∙◌, List, ℕ, ◌+◌, ◌-◌, ◌*◌, ◌≤◌, arith, length, rules}
-use Rattle.lists.specs.Rows.{chunk}
+use Rattle.std.specs.Prelude.{◌≡◌, ◌+◌, ◌-◌, ◌*◌, ◌≤◌}
+use Rattle.lists.specs.Kit.{refl, sym, ap, ◌∙◌, List, ℕ, arith, length, rules}
 use Rattle.lists.specs.Sect.{get}
 use Rattle.fill.specs.Copied.{copied}
-use Rattle.block.specs.Block.{xor_inplace}
-use Rattle.engine.specs.declared.Frame.{Frame}
 use Rattle.rounds.specs.Area.{PAIRS, PAIRWISE, sizes, size_of, at, keep}
 use Rattle.rounds.specs.Mail.{letter}
 use Rattle.rounds.specs.Loops.{row_of, rows_of}
-use Rattle.rounds.specs.Toss.{told, pairwise_seeds}
+use Rattle.rounds.specs.Toss.{pairwise_seeds}
 use Rattle.area.specs.GivenLaws.{lent_length}
 use Rattle.area.specs.Sizes.{size-pairs}
-use Rattle.area.specs.Filled.{Filled, filled_none, filled-work, filled-other, filled-end, row_in, filled_put}
+use Rattle.area.specs.Filled.{filled_none, filled-work, filled-other, filled-end, row_in, filled_put}
 use Rattle.toss_recv.proofs.keep_pairwise.Goals as goal
 use Rattle.toss_recv.proofs.keep_pairwise.Invariants.{seed_of, row}
 use Rattle.toss_recv.proofs.keep_pairwise.Goals.{After-pair_seed-row, After-section, In-loop-k, Start}

@@ -1,17 +1,14 @@
 -- The loop's invariant: the first k rows are kept. The own seeds, which each row is made from, are as they were.
-use Rattle.lists.specs.Kit.{◌≡◌, refl, sym, ap, ◌∙◌, List, ℕ, ◌+◌, ◌-◌, ◌*◌, ◌≤◌, arith, length, rules}
+use Rattle.std.specs.Prelude.{◌-◌, ◌≤◌}
+use Rattle.lists.specs.Kit.{List, ℕ}
 use Rattle.lists.specs.Rows.{chunk}
-use Rattle.lists.specs.Sect.{get}
-use Rattle.fill.specs.Copied.{copied}
 use Rattle.block.specs.Block.{xor_inplace}
 use Rattle.engine.specs.declared.Frame.{Frame}
-use Rattle.rounds.specs.Area.{PAIRS, PAIRWISE, sizes, size_of, at, keep}
+use Rattle.rounds.specs.Area.{PAIRS, PAIRWISE, at}
 use Rattle.rounds.specs.Mail.{letter}
-use Rattle.rounds.specs.Loops.{row_of, rows_of}
-use Rattle.rounds.specs.Toss.{told, pairwise_seeds}
-use Rattle.area.specs.GivenLaws.{lent_length}
-use Rattle.area.specs.Sizes.{size-pairs}
-use Rattle.area.specs.Filled.{Filled, filled_none, filled-work, filled-other, filled-end, row_in, filled_put}
+use Rattle.rounds.specs.Loops.{row_of}
+use Rattle.rounds.specs.Toss.{told}
+use Rattle.area.specs.Filled.{Filled}
 use Rattle.toss_recv.proofs.keep_pairwise.Given as goal
 
 -- the seed with party k, and its row

@@ -1,4 +1,4 @@
-use Rattle.lists.specs.Kit.{ap, ◌∙◌, List, ℕ, rules}
+use Rattle.lists.specs.Kit.{ap, ◌∙◌, List, ℕ}
 use Rattle.rounds.specs.Area.{keep}
 use Rattle.area.specs.GivenLaws.{place_in, place-length, place-keeps}
 use Rattle.toss_recv.proofs.keep_told.Goals as goal

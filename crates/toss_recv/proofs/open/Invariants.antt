@@ -1,9 +1,7 @@
-use Rattle.lists.specs.Kit.{◌≡◌, sym, ◌∙◌, ◌-◌, ◌≤◌, arith, rules}
+use Rattle.std.specs.Prelude.{◌≡◌, ◌-◌, ◌≤◌}
 use Rattle.engine.specs.Step.{scan}
-use Rattle.engine.specs.StepLaws.{scan-turn}
 use Rattle.rounds.specs.Mail.{letter}
-use Rattle.rounds.specs.FaultLaws.{fault_at, clean-zero, finds-first, finds-none}
-use Rattle.rounds.specs.Toss.{opening}
+use Rattle.rounds.specs.FaultLaws.{fault_at}
 use Rattle.rounds.specs.TossLaws.{open_fault}
 use Rattle.toss_recv.proofs.open.Given as goal
 

@@ -1,4 +1,5 @@
-use Rattle.lists.specs.Kit.{◌≡◌, sym, ap, ◌∙◌, Bool, ℕ, arith, length, rules}
+use Rattle.std.specs.Prelude.{◌≡◌}
+use Rattle.lists.specs.Kit.{sym, ap, ◌∙◌, Bool, ℕ, arith, length}
 use Rattle.lists.specs.Pick.{pick}
 use Rattle.blake3.specs.Tree.{bytes}
 use Rattle.rounds.specs.Mail.{letter}

@@ -1,4 +1,4 @@
-use Rattle.lists.specs.Kit.{sym, ap, ap₂, ◌∙◌, arith, length, replicate, rules}
+use Rattle.lists.specs.Kit.{sym, ap, ap₂, ◌∙◌, arith, length, replicate}
 use Rattle.lists.specs.Rows.{chunk}
 use Rattle.fill.specs.Copied.{copied}
 use Rattle.block.specs.Block.{xor_inplace}

@@ -1,4 +1,5 @@
-use Rattle.lists.specs.Kit.{sym, ap, ◌∙◌, ◌≤◌, length, replicate, rules}
+use Rattle.std.specs.Prelude.{◌≤◌}
+use Rattle.lists.specs.Kit.{sym, ap, ◌∙◌, length, replicate}
 use Rattle.fill.specs.Copied.{copied}
 use Rattle.rounds.specs.Mail.{letter}
 use Rattle.rounds.specs.Toss.{told}

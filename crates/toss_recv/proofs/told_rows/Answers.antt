@@ -1,12 +1,11 @@
-use Rattle.lists.specs.Kit.{◌∙◌, List, ℕ, ◌+◌, ◌-◌, ◌*◌, ◌≤◌, arith, rules}
-use Rattle.lists.specs.Over.{Written}
+use Rattle.std.specs.Prelude.{◌+◌, ◌-◌, ◌*◌}
+use Rattle.lists.specs.Kit.{◌∙◌, arith, rules}
 use Rattle.lists.specs.Rows.{even-zero, even-turn, even-end}
 use Rattle.lists.specs.Sect.{get}
 use Rattle.fill.specs.Copied.{copied}
-use Rattle.rounds.specs.declared.Mail.{Mail}
 use Rattle.rounds.specs.Mail.{letter}
 use Rattle.rounds.specs.Toss.{told, told_rows}
-use Rattle.rounds.specs.Loops.{row_of, rows_of}
+use Rattle.rounds.specs.Loops.{rows_of}
 use Rattle.toss_recv.proofs.told_rows.Goals as goal
 use Rattle.toss_recv.proofs.told_rows.Invariants.{row}
 

@@ -1,4 +1,5 @@
-use Rattle.lists.specs.Kit.{◌≡◌, refl, ap, ℕ, ◌+◌, ◌*◌, ◌≤◌, arith, length, rules}
+use Rattle.std.specs.Prelude.{◌≡◌, ◌+◌, ◌*◌, ◌≤◌}
+use Rattle.lists.specs.Kit.{refl, ap, arith, length}
 use Rattle.engine.specs.Area.{off}
 use Rattle.rounds.specs.Area.{DS, size_of}
 use Rattle.triples.specs.Given.{ds-in, ds-lent}

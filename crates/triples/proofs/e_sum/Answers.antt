@@ -1,5 +1,6 @@
-use Rattle.lists.specs.Kit.{◌≡◌, refl, sym, ap, ap₂, ◌∙◌, List, Bool, ℕ, ◌+◌, ◌-◌, ◌<◌, ◌≤◌, arith, length, get_or, rules}
-use Rattle.algebra.specs.Group.{bits, addb, odd, xor-addb}
+use Rattle.std.specs.Prelude.{◌≡◌, ◌+◌, ◌-◌, ◌<◌}
+use Rattle.lists.specs.Kit.{refl, sym, ap, ap₂, ◌∙◌, arith, length, get_or}
+use Rattle.algebra.specs.Group.{bits, addb, xor-addb}
 use Rattle.algebra.specs.Sum.{sum, sum-turn}
 use Rattle.triples.proofs.e_sum.Goals as goal
 use Rattle.triples.proofs.e_sum.Invariants.{bit}

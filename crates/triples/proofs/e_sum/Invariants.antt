@@ -1,7 +1,8 @@
 -- The loop's invariant: the sum has the first e bits.
-use Rattle.lists.specs.Kit.{◌≡◌, refl, sym, ap, ap₂, ◌∙◌, List, Bool, ℕ, ◌+◌, ◌-◌, ◌<◌, ◌≤◌, arith, length, get_or, rules}
-use Rattle.algebra.specs.Group.{bits, addb, odd, xor-addb}
-use Rattle.algebra.specs.Sum.{sum, sum-turn}
+use Rattle.std.specs.Prelude.{◌≡◌, ◌+◌, ◌-◌, ◌≤◌}
+use Rattle.lists.specs.Kit.{List, Bool, ℕ, length, get_or}
+use Rattle.algebra.specs.Group.{bits, odd}
+use Rattle.algebra.specs.Sum.{sum}
 use Rattle.triples.proofs.e_sum.Given as goal
 
 -- bit e

@@ -1,8 +1,8 @@
-use Rattle.lists.specs.Kit.{◌≡◌, refl, sym, ap, ap₂, subst, ◌∙◌, List, ℕ, ◌+◌, ◌-◌, ◌*◌, ◌≤◌, arith, length, rules}
+use Rattle.std.specs.Prelude.{◌≡◌, ◌+◌, ◌-◌, ◌*◌, ◌≤◌}
+use Rattle.lists.specs.Kit.{refl, sym, ap, ap₂, subst, ◌∙◌, List, ℕ, arith, length}
 use Rattle.lists.specs.Sect.{put}
 use Rattle.block.specs.declared.Block.{Block}
 use Rattle.share.specs.Layout.{record_len, record-most}
-use Rattle.engine.specs.declared.Frame.{Frame}
 use Rattle.rounds.specs.Area.{TRIPLES, BITS, ZS, ES, PERM, DS, at, keep, size_of}
 use Rattle.rounds.specs.Buckets.{triple_rows}
 use Rattle.area.specs.Sizes.{size-triples}

@@ -1,14 +1,9 @@
 -- The loop's invariant: the rows of the first j buckets are kept. The other sections are as they were.
-use Rattle.lists.specs.Kit.{◌≡◌, refl, sym, ap, ap₂, subst, ◌∙◌, List, ℕ, ◌+◌, ◌-◌, ◌*◌, ◌≤◌, arith, length, rules}
-use Rattle.lists.specs.Sect.{put}
-use Rattle.block.specs.declared.Block.{Block}
-use Rattle.share.specs.Layout.{record_len, record-most}
-use Rattle.engine.specs.declared.Frame.{Frame}
-use Rattle.rounds.specs.Area.{TRIPLES, BITS, ZS, ES, PERM, DS, at, keep, size_of}
-use Rattle.rounds.specs.Buckets.{triple_rows}
-use Rattle.area.specs.Sizes.{size-triples}
-use Rattle.area.specs.Filled.{Filled, filled_none, filled-work, filled-other, filled-end, row_in, filled_put}
-use Rattle.triples.specs.Laws.{row_of, row_kept, length-row_of, rows_are}
+use Rattle.std.specs.Prelude.{◌-◌, ◌*◌, ◌≤◌}
+use Rattle.share.specs.Layout.{record_len}
+use Rattle.rounds.specs.Area.{TRIPLES}
+use Rattle.area.specs.Filled.{Filled}
+use Rattle.triples.specs.Laws.{row_of}
 use Rattle.triples.proofs.hold.Given as goal
 
 abbrev pub invariant-loop-j : goal.invariant-loop-j

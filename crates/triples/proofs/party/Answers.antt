@@ -1,7 +1,8 @@
-use Rattle.lists.specs.Kit.{◌≡◌, sym, ap, subst, ◌∙◌, Bool, ℕ, suc, ◌+◌, ◌*◌, ◌<◌, arith, length, get_or, rules}
+use Rattle.std.specs.Prelude.{◌≡◌, ◌+◌, ◌*◌, ◌<◌}
+use Rattle.lists.specs.Kit.{sym, ap, subst, ◌∙◌, Bool, ℕ, suc, arith, length, get_or}
 use native.Mathlib.Nat.{mul-le-mul_right}
 use native.Mathlib.Numerals.{add-one}
-use Rattle.algebra.specs.Group.{XorGroup, bits, odd}
+use Rattle.algebra.specs.Group.{bits, odd}
 use Rattle.algebra.specs.Sum.{sum}
 use Rattle.algebra.specs.Bucket.{bucket_x, bucket_z}
 use Rattle.block.specs.Group.{blocks}

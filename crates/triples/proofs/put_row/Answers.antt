@@ -1,14 +1,13 @@
-use Rattle.lists.specs.Kit.{◌≡◌, sym, ap, ap₂, ◌∙◌, ◌≢◌, List, ℕ, ◌+◌, ◌-◌, ◌*◌, ◌≤◌, arith, length, take, drop, replicate, rules}
+use Rattle.std.specs.Prelude.{◌≡◌, ◌≢◌, ◌+◌, ◌-◌, ◌*◌, ◌≤◌}
+use Rattle.lists.specs.Kit.{sym, ap, ap₂, ◌∙◌, List, ℕ, arith, length, take, drop, replicate}
 use lib.ListN.{length-append}
 use lib.Seq.{length-take-le, take_at}
 use Rattle.lists.specs.Over.{tab, length-tab}
 use Rattle.lists.specs.Sect.{put, length-get, length-put}
-use Rattle.block.specs.declared.Block.{Block}
 use Rattle.share.specs.Layout.{record_len, record-most, entry-within}
 use Rattle.share.specs.Entered.{head_in}
 use Rattle.share.specs.Share.{entry_of}
 use Rattle.plan.specs.Plan.{leaky, bucket_size}
-use Rattle.engine.specs.declared.Frame.{Frame}
 use Rattle.rounds.specs.Area.{PERM, TRIPLES, at}
 use Rattle.rounds.specs.Buckets.{Triple, entry}
 use Rattle.area.specs.Given.{Work}

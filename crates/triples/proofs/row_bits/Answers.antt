@@ -1,8 +1,8 @@
-use Rattle.lists.specs.Kit.{◌≡◌, refl, sym, ap, subst, ◌∙◌, List, ℕ, ◌+◌, ◌*◌, arith, length, get_or, rules}
+use Rattle.std.specs.Prelude.{◌≡◌, ◌+◌, ◌*◌}
+use Rattle.lists.specs.Kit.{refl, sym, ap, subst, ◌∙◌, List, ℕ, arith, length, get_or}
 use Rattle.algebra.specs.Group.{bits, odd}
 use Rattle.algebra.specs.Bucket.{bucket_x, bucket_z}
 use Rattle.share.specs.Layout.{record-some}
-use Rattle.engine.specs.declared.Frame.{Frame}
 use Rattle.rounds.specs.Area.{BITS, ZS, ES, at}
 use Rattle.rounds.specs.Buckets.{later}
 use Rattle.bucket_sum.specs.Sums.{x_among, Within, x-bits}

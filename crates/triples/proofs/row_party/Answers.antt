@@ -1,5 +1,5 @@
-use Rattle.lists.specs.Kit.{◌≡◌, ap, ◌∙◌, List, ℕ, arith, length, rules}
-use Rattle.engine.specs.declared.Frame.{Frame}
+use Rattle.std.specs.Prelude.{◌≡◌}
+use Rattle.lists.specs.Kit.{ap, ◌∙◌, arith, length}
 use Rattle.rounds.specs.Area.{BITS, ZS, ES, at}
 use Rattle.rounds.specs.Buckets.{later}
 use Rattle.area.specs.GivenLaws.{place_at, place-fits}

@@ -1,4 +1,4 @@
-use Rattle.lists.specs.Kit.{sym, ◌∙◌, rules}
+use Rattle.lists.specs.Kit.{sym, ◌∙◌}
 use Rattle.draw.specs.StringLaws.{seed-yes, seed-no}
 use Rattle.window.proofs.prepare.Goals as goal
 

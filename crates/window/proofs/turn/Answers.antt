@@ -1,4 +1,4 @@
-use Rattle.lists.specs.Kit.{arith, rules}
+use Rattle.lists.specs.Kit.{arith}
 use Rattle.window.proofs.turn.Goals as goal
 
 pub window-requires : goal.window-requires

@@ -1,4 +1,5 @@
-use Rattle.lists.specs.Kit.{◌≡◌, sym, ◌∙◌, ◌≢◌, arith, length, rules}
+use Rattle.std.specs.Prelude.{◌≡◌, ◌≢◌}
+use Rattle.lists.specs.Kit.{sym, ◌∙◌, arith, length}
 use Rattle.block.specs.Block.{Small}
 use Rattle.draw.specs.StringLaws.{seed-yes, seed-no}
 use Rattle.window.specs.WindowLaws.{block_made, block-lent}

@@ -1,11 +1,10 @@
-use Rattle.lists.specs.Kit.{◌≡◌, ◌+◌, ◌-◌, ◌*◌, ◌<◌, ◌≤◌, arith, rules}
-use Prim.Native.Nat.{◌%◌}
+use Rattle.std.specs.Prelude.{◌+◌, ◌-◌, ◌*◌, ◌<◌, ◌≤◌}
+use Rattle.lists.specs.Kit.{arith}
 use lib.ListN.{length-set}
-use Rattle.lists.specs.Over.{Written, written-zero, written-end}
+use Rattle.lists.specs.Over.{written-zero, written-end}
 use Rattle.rbits.specs.Chosen.{words_of}
 use Rattle.rbits.specs.Tables.{window_of}
-use Rattle.rbits.specs.LoopLaws.{pair_of}
-use Rattle.window.specs.WindowLaws.{of_string, block_within, whole-within, strings-turn}
+use Rattle.window.specs.WindowLaws.{block_within, whole-within, strings-turn}
 use Rattle.window.proofs.window.Goals as goal
 use Rattle.window.proofs.window.Goals.{After-b-1, In-loop-j}
 

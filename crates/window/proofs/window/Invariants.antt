@@ -1,12 +1,9 @@
 -- The loop's invariant: the words of the first j strings are written, and j is even.
-use Rattle.lists.specs.Kit.{◌≡◌, ◌+◌, ◌-◌, ◌*◌, ◌<◌, ◌≤◌, arith, rules}
+use Rattle.std.specs.Prelude.{◌≡◌, ◌-◌, ◌*◌, ◌≤◌}
 use Prim.Native.Nat.{◌%◌}
-use lib.ListN.{length-set}
-use Rattle.lists.specs.Over.{Written, written-zero, written-end}
-use Rattle.rbits.specs.Chosen.{words_of}
-use Rattle.rbits.specs.Tables.{window_of}
+use Rattle.lists.specs.Over.{Written}
 use Rattle.rbits.specs.LoopLaws.{pair_of}
-use Rattle.window.specs.WindowLaws.{of_string, block_within, whole-within, strings-turn}
+use Rattle.window.specs.WindowLaws.{of_string}
 use Rattle.window.proofs.window.Given as goal
 
 abbrev pub invariant-loop-j : goal.invariant-loop-j

@@ -1,4 +1,3 @@
-use Rattle.lists.specs.Kit.{rules}
 use Rattle.lists.specs.Over.{sets-all}
 use Rattle.word.specs.Word.{le4}
 use Rattle.word.proofs.store.Goals as goal

@@ -1,5 +1,4 @@
 use Rattle.blake3.specs.ByteLaws.{last_bit}
-use borrow.Author.Rules.{rules}
 use Rattle.blake3.proofs.Digest.bit.Goals as goal
 
 pub returns : goal.returns

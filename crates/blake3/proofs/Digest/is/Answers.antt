@@ -1,4 +1,5 @@
-use Rattle.lists.specs.Kit.{ap₂, ◌∙◌, ◌&&◌, arith, rules}
+use Rattle.std.specs.Prelude.{◌&&◌}
+use Rattle.lists.specs.Kit.{ap₂, ◌∙◌, arith}
 use Rattle.block.specs.Block.{eq_block}
 use Rattle.blake3.specs.ByteLaws.{same-halves}
 use Rattle.blake3.proofs.Digest.is.Goals as goal

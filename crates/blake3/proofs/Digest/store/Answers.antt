@@ -1,4 +1,5 @@
-use Rattle.lists.specs.Kit.{ap, ◌∙◌, ◌++◌, arith, rules}
+use Rattle.std.specs.Prelude.{◌++◌}
+use Rattle.lists.specs.Kit.{ap, ◌∙◌, arith}
 use Rattle.lists.specs.Over.{over-put, over-full}
 use Rattle.block.specs.Block.{block_at, bytes_of}
 use Rattle.block.specs.Trip.{length-bytes_of}
