@@ -1,4 +1,4 @@
-//! Links libnuzsdike.a: the one that NUZSDIKE_LIB names, else the one that `rt staticlib nuzsdike` writes.
+//! Links libnuzsdike.a: the one that NUZSDIKE_LIB names, else the one that `tools/staticlib nuzsdike` writes.
 
 use std::{env, path::PathBuf};
 
@@ -8,7 +8,7 @@ fn main() {
     let archive = env::var_os("NUZSDIKE_LIB").map_or_else(default, PathBuf::from);
     println!("cargo:rerun-if-changed={}", archive.display());
     let Ok(archive) = archive.canonicalize() else {
-        eprintln!("There is no {}: run `rt staticlib nuzsdike` first, or set NUZSDIKE_LIB to the archive.", archive.display());
+        eprintln!("There is no {}: run `tools/staticlib nuzsdike` first, or set NUZSDIKE_LIB to the archive.", archive.display());
         std::process::exit(1);
     };
     if archive.file_name().is_none_or(|name| name != "libnuzsdike.a") {

@@ -1,4 +1,4 @@
-/* Nuzsdike: the AND session of a rack box, after WRK17b. One header for C; link libnuzsdike.a (rt staticlib nuzsdike).
+/* Nuzsdike: the AND session of a rack box, after WRK17b. One header for C; link libnuzsdike.a (tools/staticlib nuzsdike).
  *
  * No call waits, allocates or keeps a pointer. All memory is the host's. A slice is a pointer and a count of elements; a pointer of an empty slice
  * must not be null, and slices that a call writes (session, work, out, told) may overlap nothing else that it is given.

@@ -161,7 +161,7 @@ fn quotation_marks_are_for_the_documents() {
     let mut wrong = vec![];
     for name in fs::read_dir(root().join("crates")).unwrap() {
         let name = name.unwrap().path();
-        for path in ["specs", "src", "must-fail"].iter().flat_map(|part| files(&name.join(part))) {
+        for path in ["specs", "proofs", "src", "must-fail"].iter().flat_map(|part| files(&name.join(part))) {
             for comment in comments(&path) {
                 for quoted in comment.split('"').skip(1).step_by(2) {
                     let known = |part: &str| documents.iter().any(|document| document.contains(part));

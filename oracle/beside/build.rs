@@ -1,4 +1,4 @@
-//! Where the library is that `rt staticlib` has written.
+//! Where the library is that tools/staticlib has written.
 
 use std::{env, path::Path};
 
