@@ -1,4 +1,4 @@
--- XOR of byte strings, `xorInplace a b`: laws for every length, with a premise on lengths only where the law needs one.
+-- XOR of byte strings, `xor_inplace a b`: laws for every length, with a premise on lengths only where the law needs one.
 use Rattle.std.specs.Prelude.{◌≡◌, refl, ◌⊎◌, Bool, true, false, List, ℕ, zero, suc, ◌+◌, ◌-◌, ◌<◌, ◌≤◌, min, length, get_or, take, drop, replicate, ltb}
 use Rattle.std.proofs.Common.{sym, ap, ap₂, ◌∙◌, ⊎_elim, arith, length-take, length-drop, get_or-take, get_or-drop, ext_get_or, ltb-true, ltb-false}
 use Rattle.std.proofs.lemmas.List.{length-replicate}

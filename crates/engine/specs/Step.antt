@@ -66,7 +66,7 @@ abbrev pub none? : Fault
 none? = record { code = 0; party = 0 }
 
 -- ---- what the rounds are
--- One round. outLen: the length of the outgoing buffer; lent: 17 of the r Blocks, or 0, by n and l alone, so
+-- One round. out_len: the length of the outgoing buffer; lent: 17 of the r Blocks, or 0, by n and l alone, so
 -- that it is the same for every box; form: 13, 21 or 6 of one message, or 0; check: the content; keep: the work area afterwards; write: the
 -- outgoing buffer. `m k` is party k's message, [] for the own one.
 pub record Rule : Type 0 where

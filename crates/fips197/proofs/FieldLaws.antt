@@ -75,7 +75,7 @@ times-second b p q =
     (λ i l. ap (λ t. sel numbers t (b * 2 ^ i)) (digit-add p q i) ∙ sel-add numbers (odd (p / 2 ^ i)) (odd (q / 2 ^ i)) (b * 2 ^ i))
     ∙ sum-op numbers 8 (λ i. sel numbers (odd (p / 2 ^ i)) (b * 2 ^ i)) (λ i. sel numbers (odd (q / 2 ^ i)) (b * 2 ^ i))
 
--- a turn of modM: m is added where the digit is 1
+-- a turn of mod_m: m is added where the digit is 1
 chosen : (t : Bool) (p m : ℕ) → pick t (bit_xor p m) p ≡ bit_xor p (sel numbers t m)
 chosen true p m = refl
 chosen false p m = sym (unit-r numbers p)

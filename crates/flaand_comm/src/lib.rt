@@ -22,7 +22,7 @@ const COMM: usize = 32;
 
 const COUNT: usize = 8;
 
-// The own commitments: each h is hashed once, a window of them at a time. They stand in the own row of H-COMMS.
+// The own commitments: each h is hashed once, a window of them at a time. They stand in the own row of H_COMMS.
 pub fn hold(work: &mut [u8], f: Frame)
     requires { Work f work.old }
     ensures { work.new ≡ keep f H_COMMS (F.own_comms f (at f HS work.old) (at f H_COMMS work.old))

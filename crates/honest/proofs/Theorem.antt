@@ -1,5 +1,5 @@
--- DEMAND 3. The premises on the inputs are in Premises.antt, the lists of calls in engine/World.antt; the claim stands here. It is proved
--- of every list; and there are lists that meet its premises and end with all boxes done, also where one box is lent a seed and the others
+-- DEMAND 3. The premises on the inputs are in Premises.antt, the lists of calls in engine/World.antt, the claim in specs/Theorem.antt.
+-- It is proved of every list; and there are lists that meet its premises and end with all boxes done, also where one box is lent a seed and the others
 -- all strings. It has no premise on the permutation: all boxes draw it from the one joint seed that they tossed (Toss.antt, `one-joint`).
 use Rattle.std.specs.Prelude.{◌≡◌, refl, Bool, true, false, ◌&&◌, ◌≢◌, ℕ, ◌*◌, ◌<◌, eqb}
 use Rattle.std.proofs.Math.Path.{sym, ap, ap₂}

@@ -1,7 +1,7 @@
 -- What every round's proof of an honest run needs. How to use it, for round k in a section `module _ (R : Run) (X : Boxes R) where`
 -- (Toss.antt is an example):
 --  * `Table.judge k`, `kept k`, `held k`, `written k` and Script's `sent`, `since`, `holds` are chains of tests on a number: at a numeral
---    they compute under `unfolding judge kept held written sent since holds` (and `kind_of countDue` of Plan for form and length).
+--    they compute under `unfolding judge kept held written sent since holds` (and `kind_of count_due` of Plan for form and length).
 --  * a section of a Known work area: `bits_at R K : at (box R i) BITS w ≡ (R.inputs i).bits`. For a section that a round fills
 --    there is one argument more, that it is ready: `comms-at R K refl`, computed at the moments `due 3`, `before 4`, ..
 --  * what is kept: `keep_one`, `keep_two`, `keep-none`. Their tests are closed by `refl` under `unfolding stays_test all_of mem since`.

@@ -104,9 +104,9 @@ pub fn make(work: &mut [u8], out: &mut [u8], r: &[u8], f: Frame, k: usize)
     requires work { Work f work.old }
     requires k_value { (plain k ≡ true) × (length out.old ≡ (f.n - 1) * msg_len f.n f.l k) }
     requires r_value { Table.lent k f.n f.l (record { r = r.now }) ≡ 0 }
-    ensures { (work.new ≡ Table.held k f (record { r = r.entry.now }) work.old)
-        × (out.new ≡ to_others f.n f.i (Table.written k f (record { r = r.entry.now })
-        (Table.held k f (record { r = r.entry.now }) work.old))) }
+    ensures { (work.new ≡ Table.held k f (record { r = r.now }) work.old)
+        × (out.new ≡ to_others f.n f.i (Table.written k f (record { r = r.now })
+        (Table.held k f (record { r = r.now }) work.old))) }
 {
     if k == plan::FABITN {
         fabitn::make(work, out, r, f);

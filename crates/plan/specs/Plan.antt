@@ -153,7 +153,7 @@ parties? n = leb 2 n && leb n 8
 unfoldable pub in_range : ℕ → ℕ → Bool
 in_range n l = parties? n && leb 1 l && leb l 300000
 
--- what inRange says, for those that ask for it
+-- what in_range says, for those that ask for it
 pub record InRange (n l : ℕ) : Type 0 where
   pub two : 2 ≤ n
   pub eight : n ≤ 8

@@ -107,7 +107,7 @@ unfoldable pub dm_faults : Frame → (ℕ → List ℕ) → Fault
 dm_faults f m = first_of STRINGS (λ q. by_party f (dm_fault f m q))
 
 -- "A mismatch is 2, and all of these come before any dm length or dm bit." When it is made, "as soon as `fashare ver` and its echo are
--- accepted", is engine's (specs/Plain, `echoCheck`).
+-- accepted", is engine's (specs/Plain, `echo_check`).
 unfoldable pub ver_faults : Frame → List ℕ → (ℕ → List ℕ) → Fault
 ver_faults f comms m = or_else (third_faults f comms m) (dm_faults f m)
 

@@ -1,5 +1,5 @@
 -- What a content check answers: a number and a party. A loop that stops at the first fault, party by party or item by item, finds what
--- `byParty` and `first_of` say.
+-- `by_party` and `first_of` say.
 use Rattle.std.specs.Prelude.{◌≡◌, Bool, ◌≢◌}
 use Rattle.std.proofs.Math.Path.{refl, sym, ap, subst}
 use Rattle.std.proofs.Common.{ap₂, ◌∙◌, le_refl, add-one, arith}

@@ -1,4 +1,4 @@
--- The three ways that a round call ends, against `roundSpec`.
+-- The three ways that a round call ends, against `round_spec`.
 use Rattle.std.specs.Prelude.{◌≡◌, ◌≢◌, length, replicate, eqb}
 use Rattle.std.proofs.Math.Path.{refl, sym, ap, ap₂}
 use Rattle.std.proofs.Common.{◌∙◌, eq-eqb, ne_eqb}

@@ -1,6 +1,6 @@
 // The round call (document 01, "The call"): it joins what the crates below do for each round. First what is refused and leaves all as it
 // was (20, 19, 17), then the form of each message (14, 13, 21, 6), then the content; an accepted call keeps what it received and writes the
-// messages of the next round, or the results. The definition is `roundSpec` of crate engine at the table of crate rounds.
+// messages of the next round, or the results. The definition is `round_spec` of crate engine at the table of crate rounds.
 #![tactic(auto)]
 
 ghost use Rattle.std.specs.Prelude.{◌≡◌, false, [], ℕ, ◌*◌, ◌<◌, ◌≤◌, length, replicate, eqb};

@@ -124,7 +124,7 @@ fn put_sum(t: &mut Table, to: usize, a: usize, b: usize)
     }
 }
 
-// The bytes of a record among n boxes; where the MAC for k starts in it, and the key of k. No record is longer than LENT-MOST.
+// The bytes of a record among n boxes; where the MAC for k starts in it, and the key of k. No record is longer than LENT_MOST.
 pub(crate) fn record_len(n: usize) -> usize
     requires { n ≤ 3 }
     ensures { (1 ≤ result) × (result ≤ LENT_MOST) }

@@ -17,6 +17,7 @@ mod report;
 mod table;
 
 // Round k: what the boxes wrote is sent, and each is called. Answers how many bytes a box sent, which had sent `sum` before.
+// Where printing fails it hands the error on, and says nothing of t and works.
 fn turn(
     rt: &impl Print,
     t: &mut Table,
