@@ -16,7 +16,8 @@ use Rattle.engine.specs.declared.Frame.{Frame}
 use Rattle.engine.specs.Step.{frame, Accepted, Refused, outcome}
 use Rattle.engine.specs.Area.{to_others}
 use Rattle.rounds.specs.Area.{sizes, size_of, work_len}
-use Rattle.rounds.specs.Opening.{Args, party, or_fault, lists_due, buffers_due, masks_fault, bytes_fault, lengths_fault, reason, area, no_session, spec}
+use Rattle.rounds.specs.Opening.{Args, party, or_fault, lists_due, buffers_due, masks_fault, bytes_fault, lengths_fault, reason, area}
+use Rattle.rounds.specs.Opening.{no_session, spec}
 use Rattle.rounds.specs.OpeningLaws.{neither, within}
 use Rattle.rounds.specs.Toss as Toss
 use Rattle.area.specs.Given.{Ranged}
@@ -175,7 +176,8 @@ module _ (n i : ℕ) (c : List ℕ) where
           → found_at (frame n (sum_of c) i) (counts_fault c) v bits alpha beta masks
           ≡ found_at (frame n (total c) i) (counts_fault c) v bits alpha beta masks
       go true e =
-          ap (λ m. found_at (frame n m i) (counts_fault c) v bits alpha beta masks) (sum-taken c (sum_of c) refl (eqb-true (counts_fault c) 0 e))
+          ap (λ m. found_at (frame n m i) (counts_fault c) v bits alpha beta masks) (sum-taken c (sum_of c) refl (eqb-true
+          (counts_fault c) 0 e))
       go false e =
           let ne : counts_fault c ≢ 0 = eqb-false (counts_fault c) 0 e in
           or_left _ _ (some-fault (sum_of c) v.bits v.alpha v.beta _ ne)

@@ -170,7 +170,8 @@ module _ (f : Frame) (m : ℕ → List ℕ) where
   de_faults d recs perm triples alpha beta =
       by-ext f _ _ (λ k l ne. of (λ x. pick (all_of f.l (λ j.
       eq_block (block_at x (8 + j * 34 + 2)) (blocks.op ((Beaver.d f triples alpha j).key k) (sel blocks (odd (get_or x (8 + j * 34) 0)) d))
-      && eq_block (block_at x (8 + j * 34 + 18)) (blocks.op ((Beaver.e f recs perm beta j).key k) (sel blocks (odd (get_or x (8 + j * 34 + 1) 0)) d)))) 0 12) k l ne)
+      && eq_block (block_at x (8 + j * 34 + 18)) (blocks.op ((Beaver.e f recs perm beta j).key k) (sel blocks (odd (get_or x
+      (8 + j * 34 + 1) 0)) d)))) 0 12) k l ne)
 
   -- the results of the last round
   pub results : (recs perm triples alpha beta : List ℕ)

@@ -24,7 +24,11 @@ module _ {f : Frame} {incoming : List ℕ} {mail : Mail} where
     eight = r.arrived.eight;
     inside = r.arrived.inside;
     long = λ k h ne.
-        omega (arith, length-letter r.arrived k h (λ e. ne (sym e)), (fixed size c count (letter incoming mail k) (r.formed-is k h ne)).fits);
+        omega (
+          arith,
+          length-letter r.arrived k h (λ e. ne (sym e)),
+          (fixed size c count (letter incoming mail k) (r.formed-is k h ne)).fits,
+        );
   }
 
   -- the round with number k is round j

@@ -7,7 +7,8 @@ use Prim.Native.Nat.{ℕ}
 use Rattle.batches.specs.Batches.{told, untold}
 use Rattle.plan.specs.Plan.{next_round}
 use Rattle.engine.specs.declared.Session.{Session}
-use Rattle.engine.specs.Step.{Lent, Accepted, Refused, leaves, outcome, told_after, mask, part, reason_of, fault_of, ended, refused, faulted, accepted}
+use Rattle.engine.specs.Step.{Lent, Accepted, Refused, leaves, outcome, told_after, mask, part, reason_of, fault_of, ended, refused}
+use Rattle.engine.specs.Step.{faulted, accepted}
 use Rattle.engine.specs.Step.{round_spec}
 use Rattle.engine.proofs.RoundLaws.{round-refuses, round-faults, round-accepts}
 use Rattle.engine.specs.Plain.{next_of, rule_of, protocol_of, keep_of, write_of}
@@ -52,7 +53,8 @@ module _ (s : Session) (k : ℕ) (q : Lent) (w : List ℕ) where
     unfolding accepted
     call-accepted y next e t et m em v o ev eo =
         let d : ℕ = next_of table (eqb s.party.n 2) k in
-        ap₂ (λ d u. leaves (record { party = s.party; due = d; counts = s.counts }) Accepted u v o) e (et ∙ ap (λ d. told_after d s.counts) e)
+        ap₂ (λ d u. leaves (record { party = s.party; due = d; counts = s.counts }) Accepted u v o) e (et
+        ∙ ap (λ d. told_after d s.counts) e)
         ∙ ap₂ (λ (a b : List ℕ). leaves (record { party = s.party; due = d; counts = s.counts }) Accepted (told_after d s.counts) a b)
         (ev ∙ ap (keep_of table k s.party q.loan w) em) (eo ∙ ap (write_of table k s.party q.loan w) em)
         ∙ sym (round-accepts (protocol_of table) s k q w z y)

@@ -92,7 +92,8 @@ module _ (f : Frame) (delta : Block) (w : List ℕ) (j : ℕ) (ts ds : List ℕ)
       ∙ x-ext shares (λ e. x_at (entry f (at f PERM w) j e)) (λ e. x_at (get_or ts e 0)) (later f) (λ e l. ap x_at (sym (ht e l)))
 
   triple-z : (triple_at f delta w j).tz
-      ≡ bucket_z shares (λ e. x f (at f BITS w) (get_or ts e 0)) (λ e. z_share f delta (at f BITS w) (at f ZS w) (at f ES w) (get_or ts e 0))
+      ≡ bucket_z shares (λ e. x f (at f BITS w) (get_or ts e 0)) (λ e. z_share f delta (at f BITS w) (at f ZS w) (at f ES w)
+      (get_or ts e 0))
       (λ e. odd (get_or ds e 0)) (later f)
   unfolding triple_at abc leaky_and
   triple-z =
@@ -118,14 +119,16 @@ module _ (f : Frame) (delta : Block) (w : List ℕ) (j : ℕ) (ts ds : List ℕ)
     unfolding x_among x z_share Haand.z_at
     bit-z zs b hz h =
         h
-        ∙ (λ k. bucket_z bits (λ e. (x_among (record_len f.n) (hr k) ts e).bit) (λ e. odd (get_or (hz k) (add-zero (get_or ts e 0) k * 17) 0))
+        ∙ (λ k. bucket_z bits (λ e. (x_among (record_len f.n) (hr k) ts e).bit) (λ e. odd (get_or (hz k) (add-zero
+        (get_or ts e 0) k * 17) 0))
         (λ e. odd (get_or ds e 0)) (long k))
         ∙ sym (bit-bucket-z (λ e. x_at (get_or ts e 0)) (later f) (λ e. z_at (get_or ts e 0)) (λ e. odd (get_or ds e 0)))
         ∙ ap (λ (s : Share). s.bit) (sym triple-z)
 
     pub entries_at : (es : List ℕ) (k : ℕ) (r : Sums) → es ≡ at f ES w
         → Entries f.i k (bucket_x shares (λ e. x f recs (get_or ts e 0)) (length ds))
-        (bucket_z shares (λ e. x f recs (get_or ts e 0)) (λ e. z_share f delta recs (at f ZS w) es (get_or ts e 0)) (λ e. odd (get_or ds e 0))
+        (bucket_z shares (λ e. x f recs (get_or ts e 0)) (λ e. z_share f delta recs (at f ZS w) es (get_or ts e 0)) (λ e. odd
+        (get_or ds e 0))
         (length ds)) r
         → Entries f.i k (triple_at f delta w j).tx (triple_at f delta w j).tz r
     entries_at es k r he h = record {

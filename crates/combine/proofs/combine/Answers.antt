@@ -13,7 +13,8 @@ pub returns-then-code-ne0 : goal.returns-then-code-ne0
 unfolding reply_of
 returns-then-code-ne0 c =
     let g = (C.args c.args.n c.args.i c.args.count c.args.triples.now c.args.d.now c.args.out.now) in
-    ap (λ k. C.outcome (Refused k g.i) g.out) c.reason-code.ensures ∙ sym (spec-refuses g (λ z. c.if-code-ne0.true (c.reason-code.ensures ∙ z)))
+    ap (λ k. C.outcome (Refused k g.i) g.out) c.reason-code.ensures ∙ sym (spec-refuses g (λ z. c.if-code-ne0.true (c.reason-code.ensures
+    ∙ z)))
 
 -- nothing was refused
 
@@ -23,13 +24,19 @@ none c = sym c.reason-code.ensures ∙ c.if-code-ne0.false
 due : (c : Else-code-ne0) → Due ((C.args c.args.n c.args.i c.args.count c.args.triples.now c.args.d.now c.args.out.now))
 due c = due_of_lem ((C.args c.args.n c.args.i c.args.count c.args.triples.now c.args.d.now c.args.out.now)) (none c)
 
-more : (c : Else-code-ne0) → length ((C.args c.args.n c.args.i c.args.count c.args.triples.now c.args.d.now c.args.out.now)).d + 1 ≡ ((C.args c.args.n c.args.i c.args.count c.args.triples.now c.args.d.now c.args.out.now)).count
+more : (c : Else-code-ne0) → length ((C.args c.args.n c.args.i c.args.count c.args.triples.now c.args.d.now c.args.out.now)).d + 1
+    ≡ ((C.args c.args.n c.args.i c.args.count c.args.triples.now c.args.d.now c.args.out.now)).count
 more c = omega (arith, (due c).d, (due c).ranged.some)
 
 pub combine_all-requires : goal.combine_all-requires
 combine_all-requires c =
     let d = due (goal.at.combine_all-requires c).Else-code-ne0 in
-    let a = ((C.args c.args.n c.args.i c.args.count c.args.triples.now c.args.d.now c.args.out.now)) in record { n_bound = (d.ranged.eight, d.out, omega (arith, d.d, d.ranged.five), d.ranged.party); triples_len = d.triples ∙ ap (λ k. 3 * k * lent_len a.n) (sym (more (goal.at.combine_all-requires c).Else-code-ne0)) }
+    let a = ((C.args c.args.n c.args.i c.args.count c.args.triples.now c.args.d.now c.args.out.now)) in
+    record {
+      n_bound = (d.ranged.eight, d.out, omega (arith, d.d, d.ranged.five), d.ranged.party);
+      triples_len = d.triples
+          ∙ ap (λ k. 3 * k * lent_len a.n) (sym (more (goal.at.combine_all-requires c).Else-code-ne0));
+    }
 
 pub returns : goal.returns
 unfolding C.combined reply_of
@@ -37,5 +44,6 @@ returns c =
     let a = ((C.args c.args.n c.args.i c.args.count c.args.triples.now c.args.d.now c.args.out.now)) in
     ap (C.outcome Accepted)
     (c.combine_all.ensures
-    ∙ ap (λ k. C.records a.n a.i (B.combine (C.triple a.n a.triples) (λ j. odd (get_or a.d j 0)) k)) (due (goal.at.returns c).Else-code-ne0).d)
+    ∙ ap (λ k. C.records a.n a.i (B.combine (C.triple a.n a.triples) (λ j. odd (get_or a.d j 0)) k)) (due
+    (goal.at.returns c).Else-code-ne0).d)
     ∙ sym (spec-accepts a (none (goal.at.returns c).Else-code-ne0))

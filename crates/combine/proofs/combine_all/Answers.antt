@@ -54,10 +54,18 @@ put_y-requires c =
       n_bound = (
         c.requires.n_bound.0,
         omega (arith, c.requires.n_bound.2),
-        length-take-drop (c.lent_len-len.result) (2 * (c.lent_len-len.result)) c.args.out.now ∙ omega (arith, long (goal.at.put_y-requires c).After-lent_len-len, c.requires.n_bound.1),
+        length-take-drop (c.lent_len-len.result) (2 * (c.lent_len-len.result)) c.args.out.now ∙ omega (
+          arith,
+          long (goal.at.put_y-requires c).After-lent_len-len,
+          c.requires.n_bound.1,
+        ),
         c.requires.n_bound.3,
       );
-      n_in_bounds = omega (arith, y-there (goal.at.put_y-requires c).After-lent_len-len 0 (omega arith), y-there (goal.at.put_y-requires c).After-lent_len-len (length c.args.d.now) (omega arith));
+      n_in_bounds = omega (
+        arith,
+        y-there (goal.at.put_y-requires c).After-lent_len-len 0 (omega arith),
+        y-there (goal.at.put_y-requires c).After-lent_len-len (length c.args.d.now) (omega arith),
+      );
     }
 
 pub loop-k-init : goal.loop-k-init
@@ -65,10 +73,20 @@ loop-k-init c =
     let rest : List ℕ = drop (2 * (c.lent_len-len.result) - (c.lent_len-len.result)) (drop (c.lent_len-len.result) c.args.out.now) in (
       omega arith,
       lined-none c.args.n c.args.i (X c.args.n c.args.triples.now c.args.d.now) (Z c.args.n c.args.triples.now c.args.d.now)
-          (Y c.args.n c.args.i c.args.triples.now) (y-long (goal.at.loop-k-init c).After-lent_len-len) (take (c.lent_len-len.result) c.args.out.now) rest _
-          (length-take-le (c.lent_len-len.result) c.args.out.now (omega (arith, long (goal.at.loop-k-init c).After-lent_len-len, c.requires.n_bound.1)) ∙ long (goal.at.loop-k-init c).After-lent_len-len)
+          (Y c.args.n c.args.i c.args.triples.now) (y-long (goal.at.loop-k-init c).After-lent_len-len) (take
+          (c.lent_len-len.result) c.args.out.now) rest _
+          (length-take-le (c.lent_len-len.result) c.args.out.now (omega (
+            arith,
+            long (goal.at.loop-k-init c).After-lent_len-len,
+            c.requires.n_bound.1,
+          )) ∙ long (goal.at.loop-k-init c).After-lent_len-len)
           (length-drop (2 * (c.lent_len-len.result) - (c.lent_len-len.result)) (drop (c.lent_len-len.result) c.args.out.now)
-          ∙ omega (arith, length-drop (c.lent_len-len.result) c.args.out.now, long (goal.at.loop-k-init c).After-lent_len-len, c.requires.n_bound.1))
+          ∙ omega (
+            arith,
+            length-drop (c.lent_len-len.result) c.args.out.now,
+            long (goal.at.loop-k-init c).After-lent_len-len,
+            c.requires.n_bound.1,
+          ))
           (ap (λ (v : List ℕ). take (c.lent_len-len.result) c.args.out.now ++ (v ++ rest)) c.put_y.ensures),
     )
 
@@ -78,16 +96,22 @@ out-long : (c : At-loop-k) → length (c.loop-k.out) ≡ 3 * lent_len c.args.n
 out-long c =
     let long-here : (c.lent_len-len.result) ≡ lent_len c.args.n = c.lent_len-len.ensures in
     let twice-here : 2 * (c.lent_len-len.result) ≡ 2 * lent_len c.args.n = ap (λ m. 2 * m) (long-here) in
-    let y-long-here : length (Y c.args.n c.args.i c.args.triples.now) ≡ lent_len c.args.n = length-lent_of c.args.n c.args.i (triple c.args.n c.args.triples.now 0).ty in
-    lined-long c.args.n c.args.i (X c.args.n c.args.triples.now c.args.d.now) (Z c.args.n c.args.triples.now c.args.d.now) (Y c.args.n c.args.i c.args.triples.now) (y-long-here) c.loop-k.invariant.1 (2 * (c.lent_len-len.result)) (twice-here)
+    let y-long-here : length (Y c.args.n c.args.i c.args.triples.now) ≡ lent_len c.args.n =
+    length-lent_of c.args.n c.args.i (triple c.args.n c.args.triples.now 0).ty in
+    lined-long c.args.n c.args.i (X c.args.n c.args.triples.now c.args.d.now) (Z c.args.n c.args.triples.now c.args.d.now)
+    (Y c.args.n c.args.i c.args.triples.now) (y-long-here) c.loop-k.invariant.1 (2 * (c.lent_len-len.result)) (twice-here)
 
-row-long : (c : At-loop-k) → length (take (length (c.loop-k.out) - LABEL) (drop LABEL (c.loop-k.out))) ≡ 2 * (c.lent_len-len.result) + record_len c.args.n
+row-long : (c : At-loop-k) → length (take (length (c.loop-k.out) - LABEL) (drop LABEL (c.loop-k.out)))
+    ≡ 2 * (c.lent_len-len.result) + record_len c.args.n
 row-long c =
     let long-here : (c.lent_len-len.result) ≡ lent_len c.args.n = c.lent_len-len.ensures in
     let twice-here : 2 * (c.lent_len-len.result) ≡ 2 * lent_len c.args.n = ap (λ m. 2 * m) (long-here) in
-    let y-long-here : length (Y c.args.n c.args.i c.args.triples.now) ≡ lent_len c.args.n = length-lent_of c.args.n c.args.i (triple c.args.n c.args.triples.now 0).ty in
-    ap length (lined-part c.args.n c.args.i (X c.args.n c.args.triples.now c.args.d.now) (Z c.args.n c.args.triples.now c.args.d.now) (Y c.args.n c.args.i c.args.triples.now) (y-long-here) c.loop-k.invariant.1 (2 * (c.lent_len-len.result)) (twice-here))
-    ∙ lined-row c.args.n c.args.i (X c.args.n c.args.triples.now c.args.d.now) (Z c.args.n c.args.triples.now c.args.d.now) (Y c.args.n c.args.i c.args.triples.now) (y-long-here) c.loop-k.invariant.1 (2 * (c.lent_len-len.result)) (twice-here)
+    let y-long-here : length (Y c.args.n c.args.i c.args.triples.now) ≡ lent_len c.args.n =
+    length-lent_of c.args.n c.args.i (triple c.args.n c.args.triples.now 0).ty in
+    ap length (lined-part c.args.n c.args.i (X c.args.n c.args.triples.now c.args.d.now) (Z c.args.n c.args.triples.now c.args.d.now)
+    (Y c.args.n c.args.i c.args.triples.now) (y-long-here) c.loop-k.invariant.1 (2 * (c.lent_len-len.result)) (twice-here))
+    ∙ lined-row c.args.n c.args.i (X c.args.n c.args.triples.now c.args.d.now) (Z c.args.n c.args.triples.now c.args.d.now)
+    (Y c.args.n c.args.i c.args.triples.now) (y-long-here) c.loop-k.invariant.1 (2 * (c.lent_len-len.result)) (twice-here)
 
 -- a head has its place in it
 room : (c : At-loop-k) → 1 + LABEL ≤ length (c.loop-k.out)
@@ -123,7 +147,9 @@ overflow_add-k c =
 pub loop-k-preserved : goal.loop-k-preserved
 loop-k-preserved c = (
   omega (arith, c.loop-k-test.true),
-  lined-turn c.args.n c.args.i (X c.args.n c.args.triples.now c.args.d.now) (Z c.args.n c.args.triples.now c.args.d.now) (Y c.args.n c.args.i c.args.triples.now) (y-long (goal.at.loop-k-preserved c).After-lent_len-len) c.loop-k.invariant.1 (2 * (c.lent_len-len.result)) (twice (goal.at.loop-k-preserved c).After-lent_len-len) c.loop-k-test.true _ _
+  lined-turn c.args.n c.args.i (X c.args.n c.args.triples.now c.args.d.now) (Z c.args.n c.args.triples.now c.args.d.now)
+      (Y c.args.n c.args.i c.args.triples.now) (y-long (goal.at.loop-k-preserved c).After-lent_len-len) c.loop-k.invariant.1 (2 *
+      (c.lent_len-len.result)) (twice (goal.at.loop-k-preserved c).After-lent_len-len) c.loop-k-test.true _ _
       c.put_entries.new.row c.party-s.ensures.x-bytes c.party-s.ensures.z-bytes c.put_entries.ensures,
 )
 
@@ -132,13 +158,19 @@ slice_bounds-sum_bits-end c = ts-long (goal.at.slice_bounds-sum_bits-end c).At-l
 
 pub sum_bits-b-requires : goal.sum_bits-b-requires
 sum_bits-b-requires c =
-    let some : 1 ≤ (c.lent_len-len.result) = omega (arith, long (goal.at.sum_bits-b-requires c).After-lent_len-len, head-within c.args.n) in record {
+    let some : 1 ≤ (c.lent_len-len.result) = omega (
+      arith,
+      long (goal.at.sum_bits-b-requires c).After-lent_len-len,
+      head-within c.args.n,
+    ) in record {
       ts_len = sym (ts-long (goal.at.sum_bits-b-requires c).At-loop-k);
       within = (
         subst (λ m. Within c.args.triples.now (ts c.args.d.now) 0 m 1) (sym (long (goal.at.sum_bits-b-requires c).After-lent_len-len))
-            (bits_in c.args.triples.now (ts c.args.d.now) 0 (lent_len c.args.n) (x-bits (here (goal.at.sum_bits-b-requires c).After-lent_len-len))),
+            (bits_in c.args.triples.now (ts c.args.d.now) 0 (lent_len c.args.n) (x-bits (here
+            (goal.at.sum_bits-b-requires c).After-lent_len-len))),
         subst (λ m. Within c.args.triples.now (ts c.args.d.now) 2 m 1) (sym (long (goal.at.sum_bits-b-requires c).After-lent_len-len))
-            (bits_in c.args.triples.now (ts c.args.d.now) 2 (lent_len c.args.n) (z-bits (here (goal.at.sum_bits-b-requires c).After-lent_len-len))),
+            (bits_in c.args.triples.now (ts c.args.d.now) 2 (lent_len c.args.n) (z-bits (here
+            (goal.at.sum_bits-b-requires c).After-lent_len-len))),
         some,
         some,
       );
@@ -153,14 +185,20 @@ put_lent_head-requires c =
 -- there is place for z's
 headed : (c : After-put_lent_head) → length c.put_lent_head.new.out ≡ 3 * lent_len (c.args.n)
 headed c =
-    let out-long-here : length (c.loop-k.out) ≡ 3 * lent_len c.args.n = let long-here : (c.lent_len-len.result) ≡ lent_len c.args.n = c.lent_len-len.ensures in
+    let out-long-here : length (c.loop-k.out) ≡ 3 * lent_len c.args.n = let long-here : (c.lent_len-len.result) ≡ lent_len c.args.n =
+    c.lent_len-len.ensures in
     let twice-here : 2 * (c.lent_len-len.result) ≡ 2 * lent_len c.args.n = ap (λ m. 2 * m) (long-here) in
-    let y-long-here : length (Y c.args.n c.args.i c.args.triples.now) ≡ lent_len c.args.n = length-lent_of c.args.n c.args.i (triple c.args.n c.args.triples.now 0).ty in
-    lined-long c.args.n c.args.i (X c.args.n c.args.triples.now c.args.d.now) (Z c.args.n c.args.triples.now c.args.d.now) (Y c.args.n c.args.i c.args.triples.now) (y-long-here) c.loop-k.invariant.1 (2 * (c.lent_len-len.result)) (twice-here) in
-    let out-long-here : length (c.loop-k.out) ≡ 3 * lent_len c.args.n = let long-here : (c.lent_len-len.result) ≡ lent_len c.args.n = c.lent_len-len.ensures in
+    let y-long-here : length (Y c.args.n c.args.i c.args.triples.now) ≡ lent_len c.args.n =
+    length-lent_of c.args.n c.args.i (triple c.args.n c.args.triples.now 0).ty in
+    lined-long c.args.n c.args.i (X c.args.n c.args.triples.now c.args.d.now) (Z c.args.n c.args.triples.now c.args.d.now)
+    (Y c.args.n c.args.i c.args.triples.now) (y-long-here) c.loop-k.invariant.1 (2 * (c.lent_len-len.result)) (twice-here) in
+    let out-long-here : length (c.loop-k.out) ≡ 3 * lent_len c.args.n = let long-here : (c.lent_len-len.result) ≡ lent_len c.args.n =
+    c.lent_len-len.ensures in
     let twice-here : 2 * (c.lent_len-len.result) ≡ 2 * lent_len c.args.n = ap (λ m. 2 * m) (long-here) in
-    let y-long-here : length (Y c.args.n c.args.i c.args.triples.now) ≡ lent_len c.args.n = length-lent_of c.args.n c.args.i (triple c.args.n c.args.triples.now 0).ty in
-    lined-long c.args.n c.args.i (X c.args.n c.args.triples.now c.args.d.now) (Z c.args.n c.args.triples.now c.args.d.now) (Y c.args.n c.args.i c.args.triples.now) (y-long-here) c.loop-k.invariant.1 (2 * (c.lent_len-len.result)) (twice-here) in
+    let y-long-here : length (Y c.args.n c.args.i c.args.triples.now) ≡ lent_len c.args.n =
+    length-lent_of c.args.n c.args.i (triple c.args.n c.args.triples.now 0).ty in
+    lined-long c.args.n c.args.i (X c.args.n c.args.triples.now c.args.d.now) (Z c.args.n c.args.triples.now c.args.d.now)
+    (Y c.args.n c.args.i c.args.triples.now) (y-long-here) c.loop-k.invariant.1 (2 * (c.lent_len-len.result)) (twice-here) in
     let room-here : 1 + LABEL ≤ length (c.loop-k.out) = omega (arith, out-long-here, head-within c.args.n) in
     ap length c.put_lent_head.ensures ∙ lent-headed (c.args.n) c.args.i c.sum_bits-b.result.x (c.loop-k.out) (room-here) ∙ out-long-here
 
@@ -182,9 +220,11 @@ unfolding x_among share_at x_lent z_lent lent_at bit_at
 bit-z c =
     let long-here : (c.lent_len-len.result) ≡ lent_len c.args.n = c.lent_len-len.ensures in
     c.sum_bits-b.ensures.1
-    ∙ ap (λ m. bucket_z bits (λ e. bit_at c.args.triples.now (get_or (ts c.args.d.now) e 0 * m)) (λ e. bit_at c.args.triples.now ((get_or (ts c.args.d.now) e 0 + 2) * m))
+    ∙ ap (λ m. bucket_z bits (λ e. bit_at c.args.triples.now (get_or (ts c.args.d.now) e 0 * m)) (λ e. bit_at c.args.triples.now ((get_or
+    (ts c.args.d.now) e 0 + 2) * m))
     (λ e. odd (get_or c.args.d.now e 0)) (length c.args.d.now)) (long-here)
-    ∙ sym (bit-bucket-z (x_lent (c.args.n) c.args.triples.now (ts c.args.d.now)) (length c.args.d.now) (z_lent (c.args.n) c.args.triples.now (ts c.args.d.now)) (λ e. odd (get_or c.args.d.now e 0)))
+    ∙ sym (bit-bucket-z (x_lent (c.args.n) c.args.triples.now (ts c.args.d.now)) (length c.args.d.now) (z_lent
+    (c.args.n) c.args.triples.now (ts c.args.d.now)) (λ e. odd (get_or c.args.d.now e 0)))
 
 pub slice_bounds-put_lent_head-count : goal.slice_bounds-put_lent_head-count
 slice_bounds-put_lent_head-count c = omega (arith, z_in_lem (goal.at.slice_bounds-put_lent_head-count c).After-put_lent_head)
@@ -203,23 +243,32 @@ put_lent_head-requires-2 c =
 
 -- what is left
 
-left : (c : After-put_lent_head-2) → put (2 * (c.lent_len-len.result)) (length c.put_lent_head.new.out - (2 * (c.lent_len-len.result))) c.put_lent_head-2.new.out c.put_lent_head.new.out
-    ≡ lent_of (c.args.n) (c.args.i) (X c.args.n c.args.triples.now c.args.d.now) ++ ((Y c.args.n c.args.i c.args.triples.now) ++ lent_of (c.args.n) (c.args.i) (Z c.args.n c.args.triples.now c.args.d.now))
+left : (c : After-put_lent_head-2)
+    → put (2 * (c.lent_len-len.result)) (length c.put_lent_head.new.out - (2 *
+    (c.lent_len-len.result))) c.put_lent_head-2.new.out c.put_lent_head.new.out
+    ≡ lent_of (c.args.n) (c.args.i) (X c.args.n c.args.triples.now c.args.d.now) ++ ((Y c.args.n c.args.i c.args.triples.now) ++ lent_of
+    (c.args.n) (c.args.i) (Z c.args.n c.args.triples.now c.args.d.now))
 unfolding x_among share_at x_lent lent_at z_lent bit_at
 left c =
     let long-here : (c.lent_len-len.result) ≡ lent_len c.args.n = c.lent_len-len.ensures in
     let twice-here : 2 * (c.lent_len-len.result) ≡ 2 * lent_len c.args.n = ap (λ m. 2 * m) (long-here) in
-    let y-long-here : length (Y c.args.n c.args.i c.args.triples.now) ≡ lent_len c.args.n = length-lent_of c.args.n c.args.i (triple c.args.n c.args.triples.now 0).ty in
-    let bit-x-here : c.sum_bits-b.result.x ≡ (X (c.args.n) c.args.triples.now c.args.d.now).bit = let long-here : (c.lent_len-len.result) ≡ lent_len c.args.n = c.lent_len-len.ensures in
+    let y-long-here : length (Y c.args.n c.args.i c.args.triples.now) ≡ lent_len c.args.n =
+    length-lent_of c.args.n c.args.i (triple c.args.n c.args.triples.now 0).ty in
+    let bit-x-here : c.sum_bits-b.result.x ≡ (X (c.args.n) c.args.triples.now c.args.d.now).bit = let long-here : (c.lent_len-len.result)
+    ≡ lent_len c.args.n = c.lent_len-len.ensures in
     c.sum_bits-b.ensures.0
     ∙ ap (λ m. bucket_x bits (λ e. bit_at c.args.triples.now (get_or (ts c.args.d.now) e 0 * m)) (length c.args.d.now)) (long-here)
     ∙ sym (bit-bucket-x (x_lent (c.args.n) c.args.triples.now (ts c.args.d.now)) (length c.args.d.now)) in
-    let bit-z-here : c.sum_bits-b.result.z ≡ (Z (c.args.n) c.args.triples.now c.args.d.now).bit = let long-here : (c.lent_len-len.result) ≡ lent_len c.args.n = c.lent_len-len.ensures in
+    let bit-z-here : c.sum_bits-b.result.z ≡ (Z (c.args.n) c.args.triples.now c.args.d.now).bit = let long-here : (c.lent_len-len.result)
+    ≡ lent_len c.args.n = c.lent_len-len.ensures in
     c.sum_bits-b.ensures.1
-    ∙ ap (λ m. bucket_z bits (λ e. bit_at c.args.triples.now (get_or (ts c.args.d.now) e 0 * m)) (λ e. bit_at c.args.triples.now ((get_or (ts c.args.d.now) e 0 + 2) * m))
+    ∙ ap (λ m. bucket_z bits (λ e. bit_at c.args.triples.now (get_or (ts c.args.d.now) e 0 * m)) (λ e. bit_at c.args.triples.now ((get_or
+    (ts c.args.d.now) e 0 + 2) * m))
     (λ e. odd (get_or c.args.d.now e 0)) (length c.args.d.now)) (long-here)
-    ∙ sym (bit-bucket-z (x_lent (c.args.n) c.args.triples.now (ts c.args.d.now)) (length c.args.d.now) (z_lent (c.args.n) c.args.triples.now (ts c.args.d.now)) (λ e. odd (get_or c.args.d.now e 0))) in
-    lined-end (c.args.n) (c.args.i) (X c.args.n c.args.triples.now c.args.d.now) (Z c.args.n c.args.triples.now c.args.d.now) (Y c.args.n c.args.i c.args.triples.now) (y-long-here) c.loop-k.invariant.1 (2 * (c.lent_len-len.result)) (twice-here)
+    ∙ sym (bit-bucket-z (x_lent (c.args.n) c.args.triples.now (ts c.args.d.now)) (length c.args.d.now) (z_lent
+    (c.args.n) c.args.triples.now (ts c.args.d.now)) (λ e. odd (get_or c.args.d.now e 0))) in
+    lined-end (c.args.n) (c.args.i) (X c.args.n c.args.triples.now c.args.d.now) (Z c.args.n c.args.triples.now c.args.d.now)
+    (Y c.args.n c.args.i c.args.triples.now) (y-long-here) c.loop-k.invariant.1 (2 * (c.lent_len-len.result)) (twice-here)
     (omega (arith, c.loop-k-test.false, c.loop-k.invariant.0)) c.sum_bits-b.result.x c.sum_bits-b.result.z
     (bit-x-here) (bit-z-here) c.put_lent_head.new.out c.put_lent_head-2.new.out c.put_lent_head.ensures c.put_lent_head-2.ensures
 

@@ -26,7 +26,8 @@ pub sum_entries-requires : goal.sum_entries-requires
 sum_entries-requires c =
     let behind : List ℕ = take (length c.args.triples.now - LABEL) (drop LABEL c.args.triples.now) in (
       subst (λ m. BucketIn c.args.n m behind c.args.ts.now 2 c.args.d.now) (sym c.lent_len.ensures)
-          (subst (λ (l : List ℕ). BucketIn c.args.n (lent_len c.args.n) l c.args.ts.now 2 c.args.d.now) (sym (get-rest LABEL c.args.triples.now))
+          (subst (λ (l : List ℕ). BucketIn c.args.n (lent_len c.args.n) l c.args.ts.now 2 c.args.d.now) (sym
+          (get-rest LABEL c.args.triples.now))
           c.requires.0),
       c.requires.1,
     )

@@ -34,7 +34,8 @@ keep_record-requires c =
       n_bound = (
         c.requires.n_bound.0,
         ap length (get-rest LABEL c.args.out.now) ∙ length-drop LABEL c.args.out.now
-            ∙ (let e : length c.args.out.now - LABEL ≡ record_len c.args.n = omega (arith, c.requires.n_bound.2, lent_longer c.args.n) in e),
+            ∙ (let e : length c.args.out.now - LABEL ≡ record_len c.args.n = omega (arith, c.requires.n_bound.2, lent_longer c.args.n) in
+            e),
       );
       n_in_bounds = inside (goal.at.keep_record-requires c).After-lent_len;
     }
@@ -49,7 +50,8 @@ kept : (c : After-keep_record) → put LABEL (length c.args.out.now - LABEL) c.k
     ≡ take LABEL c.args.out.now ++ record_of c.args.n c.args.i (lent_at c.args.triples.now ((3 * c.args.t + 1) * c.lent_len.result))
 kept c =
     let room-here : LABEL ≤ length c.args.out.now = omega (arith, c.requires.n_bound.2, head-within c.args.n) in
-    part_left (take LABEL c.args.out.now) (drop LABEL c.args.out.now) c.keep_record.new.out c.args.out.now LABEL (sym (take-append-drop LABEL c.args.out.now))
+    part_left (take LABEL c.args.out.now) (drop LABEL c.args.out.now) c.keep_record.new.out c.args.out.now LABEL (sym
+    (take-append-drop LABEL c.args.out.now))
     (length-take-le LABEL c.args.out.now (room-here))
     ∙ ap (λ (d : List ℕ). take LABEL c.args.out.now ++ d) c.keep_record.ensures
 
@@ -78,13 +80,16 @@ unfolding triple lent_at
 left c =
     let room-here : LABEL ≤ length c.args.out.now = omega (arith, c.requires.n_bound.2, head-within c.args.n) in
     let kept-here : put LABEL (length c.args.out.now - LABEL) c.keep_record.new.out c.args.out.now
-    ≡ take LABEL c.args.out.now ++ record_of c.args.n c.args.i (lent_at c.args.triples.now ((3 * c.args.t + 1) * c.lent_len.result)) = let room-here : LABEL ≤ length c.args.out.now = omega (arith, c.requires.n_bound.2, head-within c.args.n) in
-    part_left (take LABEL c.args.out.now) (drop LABEL c.args.out.now) c.keep_record.new.out c.args.out.now LABEL (sym (take-append-drop LABEL c.args.out.now))
+    ≡ take LABEL c.args.out.now ++ record_of c.args.n c.args.i (lent_at c.args.triples.now ((3 * c.args.t + 1) * c.lent_len.result)) =
+    let room-here : LABEL ≤ length c.args.out.now = omega (arith, c.requires.n_bound.2, head-within c.args.n) in
+    part_left (take LABEL c.args.out.now) (drop LABEL c.args.out.now) c.keep_record.new.out c.args.out.now LABEL (sym
+    (take-append-drop LABEL c.args.out.now))
     (length-take-le LABEL c.args.out.now (room-here))
     ∙ ap (λ (d : List ℕ). take LABEL c.args.out.now ++ d) c.keep_record.ensures in
     c.put_lent_head.ensures
     ∙ ap (λ (d : List ℕ). lent_head c.args.n c.args.i c.bit_at.result ++ drop (1 + LABEL) d) (kept-here)
-    ∙ head-over-kept c.args.n c.args.i (lent_at c.args.triples.now ((3 * c.args.t + 1) * c.lent_len.result)) c.bit_at.result (take LABEL c.args.out.now)
+    ∙ head-over-kept c.args.n c.args.i (lent_at c.args.triples.now ((3 * c.args.t + 1) * c.lent_len.result)) c.bit_at.result
+    (take LABEL c.args.out.now)
     (length-take-le LABEL c.args.out.now (room-here)) c.bit_at.ensures
     ∙ ap (λ m. lent_of c.args.n c.args.i (lent_at c.args.triples.now ((3 * c.args.t + 1) * m))) c.lent_len.ensures
 

@@ -52,11 +52,15 @@ overflow_mul-count-2 c =
     )
 
 pub returns-then-triples-count : goal.returns-then-triples-count
-returns-then-triples-count c = sym (reason-records (C.args c.args.n c.args.i c.args.count c.args.triples.now c.args.d.now c.args.out.now) (ranged (goal.at.returns-then-triples-count c).After-lent_len-len) (λ e. c.if-triples-count.true (e ∙ sym (long (goal.at.returns-then-triples-count c).After-lent_len-len))))
+returns-then-triples-count c = sym (reason-records (C.args c.args.n c.args.i c.args.count c.args.triples.now c.args.d.now c.args.out.now)
+    (ranged (goal.at.returns-then-triples-count c).After-lent_len-len) (λ e. c.if-triples-count.true (e
+    ∙ sym (long (goal.at.returns-then-triples-count c).After-lent_len-len))))
 
 pub returns-then-d-count : goal.returns-then-d-count
 returns-then-d-count c =
-    sym (reason-d (C.args c.args.n c.args.i c.args.count c.args.triples.now c.args.d.now c.args.out.now) (ranged (goal.at.returns-then-d-count c).After-lent_len-len) (c.if-triples-count.false ∙ long (goal.at.returns-then-d-count c).After-lent_len-len) c.if-d-count.true)
+    sym (reason-d (C.args c.args.n c.args.i c.args.count c.args.triples.now c.args.d.now c.args.out.now) (ranged
+    (goal.at.returns-then-d-count c).After-lent_len-len) (c.if-triples-count.false
+    ∙ long (goal.at.returns-then-d-count c).After-lent_len-len) c.if-d-count.true)
 
 pub overflow_mul-len : goal.overflow_mul-len
 overflow_mul-len c =
@@ -64,24 +68,45 @@ overflow_mul-len c =
 
 pub returns-then-out-len : goal.returns-then-out-len
 returns-then-out-len c =
-    sym (reason-out (C.args c.args.n c.args.i c.args.count c.args.triples.now c.args.d.now c.args.out.now) (ranged (goal.at.returns-then-out-len c).After-lent_len-len) (c.if-triples-count.false ∙ long (goal.at.returns-then-out-len c).After-lent_len-len) c.if-d-count.false (λ e. c.if-out-len.true (e ∙ sym (whole (goal.at.returns-then-out-len c).After-lent_len-len))))
+    sym (reason-out (C.args c.args.n c.args.i c.args.count c.args.triples.now c.args.d.now c.args.out.now) (ranged
+    (goal.at.returns-then-out-len c).After-lent_len-len) (c.if-triples-count.false
+    ∙ long (goal.at.returns-then-out-len c).After-lent_len-len) c.if-d-count.false (λ e. c.if-out-len.true (e
+    ∙ sym (whole (goal.at.returns-then-out-len c).After-lent_len-len))))
 
 -- behind the tests of the lengths
 
-found : (c : Else-out-len) → C.reason (C.args c.args.n c.args.i c.args.count c.args.triples.now c.args.d.now c.args.out.now) ≡ C.bytes_fault (C.args c.args.n c.args.i c.args.count c.args.triples.now c.args.d.now c.args.out.now)
+found : (c : Else-out-len) → C.reason (C.args c.args.n c.args.i c.args.count c.args.triples.now c.args.d.now c.args.out.now)
+    ≡ C.bytes_fault (C.args c.args.n c.args.i c.args.count c.args.triples.now c.args.d.now c.args.out.now)
 found c =
-    let ranged-here : Ranged (C.args c.args.n c.args.i c.args.count c.args.triples.now c.args.d.now c.args.out.now) = record { two = omega arith; eight = omega arith; party = omega arith; some = c.if-count-eq0.false; five = omega arith } in
-    let long-here : 3 * c.args.count * c.lent_len-len.result ≡ 3 * c.args.count * lent_len c.args.n = ap (λ l. 3 * c.args.count * l) c.lent_len-len.ensures in
+    let ranged-here : Ranged (C.args c.args.n c.args.i c.args.count c.args.triples.now c.args.d.now c.args.out.now) = record {
+      two =
+          omega arith;
+      eight = omega arith;
+      party = omega arith;
+      some = c.if-count-eq0.false;
+      five = omega arith;
+    } in
+    let long-here : 3 * c.args.count * c.lent_len-len.result ≡ 3 * c.args.count * lent_len c.args.n =
+    ap (λ l. 3 * c.args.count * l) c.lent_len-len.ensures in
     let whole-here : 3 * c.lent_len-len.result ≡ 3 * lent_len c.args.n = ap (λ l. 3 * l) c.lent_len-len.ensures in
-    reason-bytes (C.args c.args.n c.args.i c.args.count c.args.triples.now c.args.d.now c.args.out.now) (ranged-here) (c.if-triples-count.false ∙ long-here) c.if-d-count.false (c.if-out-len.false ∙ whole-here)
+    reason-bytes (C.args c.args.n c.args.i c.args.count c.args.triples.now c.args.d.now c.args.out.now) (ranged-here)
+    (c.if-triples-count.false ∙ long-here) c.if-d-count.false (c.if-out-len.false ∙ whole-here)
 
 pub check_records-fault-requires : goal.check_records-fault-requires
-check_records-fault-requires c = record { n_bound = omega arith; n_in_bounds = omega (arith, c.if-triples-count.false, long (goal.at.check_records-fault-requires c).After-lent_len-len) }
+check_records-fault-requires c = record {
+  n_bound = omega arith;
+  n_in_bounds = omega (
+    arith,
+    c.if-triples-count.false,
+    long (goal.at.check_records-fault-requires c).After-lent_len-len,
+  );
+}
 
 pub returns-then-fault-ne0 : goal.returns-then-fault-ne0
 returns-then-fault-ne0 c =
     let g = (C.args c.args.n c.args.i c.args.count c.args.triples.now c.args.d.now c.args.out.now) in
-    bytes-records g c.check_records-fault.result c.check_records-fault.ensures c.if-fault-ne0.true ∙ sym (found (goal.at.returns-then-fault-ne0 c).Else-out-len)
+    bytes-records g c.check_records-fault.result c.check_records-fault.ensures c.if-fault-ne0.true
+    ∙ sym (found (goal.at.returns-then-fault-ne0 c).Else-out-len)
 
 pub returns : goal.returns
 returns c =

@@ -6,7 +6,8 @@ use Rattle.flaand_comm.specs.AreaLaws.{cut, item}
 use Rattle.flaand_comm.proofs.hold.Given as goal
 
 abbrev pub invariant-loop-t : goal.invariant-loop-t
-invariant-loop-t l = (l.t ≤ l.count) × (length l.blocks ≡ 1024) × Keeping (cut l.initial.work l.row (l.count * 32)) 3 1 (item l.hs l.initial.work) l.t (l.t * 32) l.initial.work l.work
+invariant-loop-t l = (l.t ≤ l.count) × (length l.blocks ≡ 1024)
+    × Keeping (cut l.initial.work l.row (l.count * 32)) 3 1 (item l.hs l.initial.work) l.t (l.t * 32) l.initial.work l.work
 
 abbrev pub decreases-loop-t : goal.decreases-loop-t
 decreases-loop-t l = l.count - l.t

@@ -17,7 +17,8 @@ abbrev pub row : Frame → (ℕ → List ℕ) → ℕ → ℕ → List ℕ
 row f msg m = row_of f.i m (told msg m)
 
 abbrev pub invariant-loop-k : goal.invariant-loop-k
-invariant-loop-k l = (l.k ≤ l.n) × Filled l.f H_COMMS (leaky l.f.l * 32) (row l.f (letter l.incoming l.mail) (leaky l.f.l * 32)) l.k l.initial.work l.work
+invariant-loop-k l = (l.k ≤ l.n) × Filled l.f H_COMMS (leaky l.f.l * 32) (row l.f (letter l.incoming l.mail)
+    (leaky l.f.l * 32)) l.k l.initial.work l.work
 
 abbrev pub decreases-loop-k : goal.decreases-loop-k
 decreases-loop-k l = l.n - l.k

@@ -29,7 +29,12 @@ slice_bounds-copy-start c = omega (arith, long (goal.at.slice_bounds-copy-start 
 
 pub copy-requires : goal.copy-requires
 copy-requires c =
-    omega (arith, ap length (get-rest 8 c.letter-m.result.now), length-drop 8 c.letter-m.result.now, long (goal.at.copy-requires c).After-letter-m)
+    omega (
+      arith,
+      ap length (get-rest 8 c.letter-m.result.now),
+      length-drop 8 c.letter-m.result.now,
+      long (goal.at.copy-requires c).After-letter-m,
+    )
 
 pub returns : goal.returns
 returns c =

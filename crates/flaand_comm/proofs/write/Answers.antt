@@ -43,7 +43,9 @@ pub write_same-requires : goal.write_same-requires
 unfolding msg_len list_len kind_of count_due
 write_same-requires c = (
   c.requires.work.ranges.range.two,
-  c.requires.out_len ∙ ap (λ m. (c.args.f.n - 1) * (8 + m)) (sym (length-row (c.leaky-count.result * 32) c.args.f.i c.section-rows.result.now (inside (goal.at.write_same-requires c).After-leaky-count) ∙ is (goal.at.write_same-requires c).After-leaky-count)),
+  c.requires.out_len ∙ ap (λ m. (c.args.f.n - 1) * (8 + m)) (sym (length-row
+      (c.leaky-count.result * 32) c.args.f.i c.section-rows.result.now (inside (goal.at.write_same-requires c).After-leaky-count)
+      ∙ is (goal.at.write_same-requires c).After-leaky-count)),
 )
 
 pub returns : goal.returns
@@ -51,5 +53,7 @@ returns c =
     c.write_same.ensures c.args.f.i
     ∙ ap (λ (x : List ℕ). to_others c.args.f.n c.args.f.i (λ _. x))
     (ap₂ (λ m (x : List ℕ). le8 m ++ x) c.leaky-count.ensures
-    (row-part (c.leaky-count.result * 32) c.args.f.i c.section-rows.result.now ∙ ap₂ (λ m (x : List ℕ). chunk m c.args.f.i x) (is (goal.at.returns c).After-leaky-count) c.section-rows.ensures ∙ c.requires.comms_kept)
+    (row-part (c.leaky-count.result * 32) c.args.f.i c.section-rows.result.now
+    ∙ ap₂ (λ m (x : List ℕ). chunk m c.args.f.i x) (is (goal.at.returns c).After-leaky-count) c.section-rows.ensures
+    ∙ c.requires.comms_kept)
     ∙ comms-sent c.args.f (at c.args.f HS c.args.work.now))

@@ -10,7 +10,8 @@ use Rattle.haand_rows.proofs.hold.Given as goal
 
 abbrev pub invariant-loop-t : goal.invariant-loop-t
 invariant-loop-t l = (l.t ≤ leaky l.f.l) × (length l.made ≡ 2176)
-    × Keeping (size_of l.f) SECTIONS LEAKY (R.leaky_row l.f (Table.delta l.f l.initial.work) (at l.f BITS l.initial.work)) l.t (l.t * leaky_len l.f.n) l.initial.work l.work
+    × Keeping (size_of l.f) SECTIONS LEAKY (R.leaky_row l.f (Table.delta l.f l.initial.work) (at l.f BITS l.initial.work)) l.t
+    (l.t * leaky_len l.f.n) l.initial.work l.work
 
 abbrev pub decreases-loop-t : goal.decreases-loop-t
 decreases-loop-t l = leaky l.f.l - l.t

@@ -17,7 +17,8 @@ loop-k-preserved c =
     let long = length-row_of c.args.f.i 18 (entry_at c.args.f.i c.args.keys.now c.args.sums.now c.args.p) c.loop-k.k
     (λ ne. length-entry_at c.args.f.i c.args.keys.now c.args.sums.now c.args.p c.loop-k.k) in (
       omega arith,
-      written-turn g c.loop-k.k (c.loop-k.k * 18) (c.loop-k.k * 18 + 18) ((c.loop-k.k + 1) * 18) c.args.out.now c.loop-k.out c.put_entry_of-g.new.out c.loop-k.invariant.1
+      written-turn g c.loop-k.k (c.loop-k.k * 18) (c.loop-k.k * 18 + 18)
+          ((c.loop-k.k + 1) * 18) c.args.out.now c.loop-k.out c.put_entry_of-g.new.out c.loop-k.invariant.1
           c.put_entry_of-g.ensures.0
           (omega (arith, long)) (omega (arith, c.requires.n_bound.1.1)) (omega arith),
       c.xor-sum.ensures ∙ others-turn blocks c.args.f.i (g_at c.args.f.i c.args.keys.now) c.loop-k.k c.loop-k.sum _ c.loop-k.invariant.2

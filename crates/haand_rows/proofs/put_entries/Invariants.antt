@@ -9,7 +9,8 @@ use Rattle.haand_rows.specs.Parts.{entry_at}
 use Rattle.haand_rows.proofs.put_entries.Given as goal
 
 abbrev pub invariant-loop-k : goal.invariant-loop-k
-invariant-loop-k l = (l.k ≤ l.n) × Written (row_of l.f.i 18 (entry_at l.f.i l.keys l.sums l.p)) l.k (l.k * 18) l.initial.out l.out × (l.sum ≡ others blocks l.f.i l.k (g_at l.f.i l.keys))
+invariant-loop-k l = (l.k ≤ l.n) × Written (row_of l.f.i 18 (entry_at l.f.i l.keys l.sums l.p)) l.k (l.k * 18) l.initial.out l.out
+    × (l.sum ≡ others blocks l.f.i l.k (g_at l.f.i l.keys))
 
 abbrev pub decreases-loop-k : goal.decreases-loop-k
 decreases-loop-k l = l.n - l.k

@@ -19,7 +19,8 @@ returns-then-i-k c = (
 -- the hash of another party lies within
 inside : (c : Start) → c.args.f.i ≢ c.args.k → place c.args.f.i c.args.k * 32 + 32 ≤ (c.args.f.n - 1) * 32
 inside c ne =
-    in-chunks (place c.args.f.i c.args.k) (c.args.f.n - 1) 32 (place-lt c.args.f.n c.args.f.i c.args.k c.requires.out_len.1.0 c.requires.out_len.1.1 ne)
+    in-chunks (place c.args.f.i c.args.k) (c.args.f.n - 1) 32
+    (place-lt c.args.f.n c.args.f.i c.args.k c.requires.out_len.1.0 c.requires.out_len.1.1 ne)
 
 pub hash_of-a-requires : goal.hash_of-a-requires
 hash_of-a-requires c =

@@ -63,9 +63,11 @@ returns c =
     (length-bytes_of (R.phi f c.args.delta.0 r c.args.t))
     (c.store.ensures ∙ ap bytes_of c.phi-p.ensures)
     (c.store-2.ensures
-    ∙ ap bytes_of (c.put_entries-g.ensures.1 ∙ sums-of f c.args.delta.0 r c.args.t c.args.keys.now c.args.sums.now c.requires.asked.0.ranges.own c.requires.keys_value
+    ∙ ap bytes_of (c.put_entries-g.ensures.1
+    ∙ sums-of f c.args.delta.0 r c.args.t c.args.keys.now c.args.sums.now c.requires.asked.0.ranges.own c.requires.keys_value
     c.requires.sums_value))
     (c.put_entries-g.ensures.0
     ∙ ap (λ (q : Block). cat c.args.f.n (row_of c.args.f.i 18 (entry_at c.args.f.i c.args.keys.now c.args.sums.now q))) c.phi-p.ensures
-    ∙ entries-of f c.args.delta.0 r c.args.t c.args.keys.now c.args.sums.now c.requires.asked.0.ranges.own c.requires.keys_value c.requires.sums_value)
+    ∙ entries-of f c.args.delta.0 r c.args.t c.args.keys.now c.args.sums.now c.requires.asked.0.ranges.own c.requires.keys_value
+    c.requires.sums_value)
     ∙ over-full (front ++ (sums ++ entries)) c.args.out.now (32 + (length c.args.out.now - 32)) (omega arith)

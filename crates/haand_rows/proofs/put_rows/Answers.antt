@@ -16,7 +16,11 @@ use Rattle.haand_rows.proofs.put_rows.Goals.{In-loop-p}
 -- ---- of a call
 
 pub loop-p-init : goal.loop-p-init
-loop-p-init c = (omega arith, even-zero (λ p. R.leaky_row (c.args.f) c.args.delta.0 c.args.recs.now (c.args.t + p)) (leaky_len c.args.f.n) c.args.out.now)
+loop-p-init c = (
+  omega arith,
+  even-zero (λ p. R.leaky_row (c.args.f) c.args.delta.0 c.args.recs.now (c.args.t + p))
+      (leaky_len c.args.f.n) c.args.out.now,
+)
 
 -- ---- in a turn
 
@@ -36,7 +40,12 @@ row_in c =
     )
 
 hash-in : (c : In-loop-p) → 1024 + (c.loop-p.p) * ((c.args.f.n - 1) * 32) + ((c.args.f.n - 1) * 32) ≤ length c.args.hashes.now
-hash-in c = omega (arith, in-chunks (c.loop-p.p) c.args.m ((c.args.f.n - 1) * 32) c.loop-p-test.true, c.requires.positions.1, c.requires.hashed.long)
+hash-in c = omega (
+  arith,
+  in-chunks (c.loop-p.p) c.args.m ((c.args.f.n - 1) * 32) c.loop-p-test.true,
+  c.requires.positions.1,
+  c.requires.hashed.long,
+)
 
 asked : (c : In-loop-p) → Asked c.args.f (c.args.t + (c.loop-p.p)) c.args.recs.now
 asked c =
@@ -45,15 +54,30 @@ asked c =
 
 pub put_row-requires : goal.put_row-requires
 put_row-requires c =
-    record { asked = (asked (goal.at.put_row-requires c).In-loop-p, lent-part ((c.loop-p.p) * (c.leaky_len-len.result)) (c.leaky_len-len.result) (leaky_len c.args.f.n) c.loop-p.out (len_is (goal.at.put_row-requires c).In-loop-p) (row_in (goal.at.put_row-requires c).In-loop-p)); keys_value = lent-hashes c.requires.hashed (c.loop-p.p) ((c.loop-p.p) * ((c.args.f.n - 1) * 32)) ((c.loop-p.p) * ((c.args.f.n - 1) * 32) + ((c.args.f.n - 1) * 32)) c.loop-p-test.true (omega arith) refl; sums_value = lent-hashes c.requires.hashed_2 (c.loop-p.p) (1024 + (c.loop-p.p) * ((c.args.f.n - 1) * 32)) (1024 + (c.loop-p.p) * ((c.args.f.n - 1) * 32) + ((c.args.f.n - 1) * 32)) c.loop-p-test.true refl refl }
+    record {
+      asked = (
+        asked (goal.at.put_row-requires c).In-loop-p,
+        lent-part ((c.loop-p.p) * (c.leaky_len-len.result)) (c.leaky_len-len.result) (leaky_len c.args.f.n) c.loop-p.out (len_is
+            (goal.at.put_row-requires c).In-loop-p) (row_in (goal.at.put_row-requires c).In-loop-p),
+      );
+      keys_value = lent-hashes c.requires.hashed (c.loop-p.p) ((c.loop-p.p) * ((c.args.f.n - 1) * 32)) ((c.loop-p.p) *
+          ((c.args.f.n - 1) * 32) + ((c.args.f.n - 1) * 32)) c.loop-p-test.true (omega arith) refl;
+      sums_value = lent-hashes c.requires.hashed_2 (c.loop-p.p) (1024 + (c.loop-p.p) * ((c.args.f.n - 1) * 32)) (1024 + (c.loop-p.p) *
+          ((c.args.f.n - 1) * 32) + ((c.args.f.n - 1) * 32)) c.loop-p-test.true refl refl;
+    }
 
 pub loop-p-preserved : goal.loop-p-preserved
 loop-p-preserved c =
-    let long : length (R.leaky_row (c.args.f) c.args.delta.0 c.args.recs.now (c.args.t + (c.loop-p.p))) ≡ (leaky_len c.args.f.n) = length-leaky_row (c.args.f) c.args.delta.0 c.args.recs.now (c.args.t + (c.loop-p.p)) in (
+    let long : length (R.leaky_row (c.args.f) c.args.delta.0 c.args.recs.now (c.args.t + (c.loop-p.p))) ≡ (leaky_len c.args.f.n) =
+    length-leaky_row (c.args.f) c.args.delta.0 c.args.recs.now (c.args.t + (c.loop-p.p)) in (
       omega (arith, c.loop-p-test.true),
-      subst (λ z. Written (λ p. R.leaky_row (c.args.f) c.args.delta.0 c.args.recs.now (c.args.t + p)) ((c.loop-p.p) + 1) (((c.loop-p.p) + 1) * (leaky_len c.args.f.n)) c.args.out.now
-          (put_mid ((c.loop-p.p) * z) ((c.loop-p.p) * z + z - (c.loop-p.p) * z) c.loop-p.out c.put_row.new.out)) (sym (len_is (goal.at.loop-p-preserved c).In-loop-p))
-          (even-put (λ p. R.leaky_row (c.args.f) c.args.delta.0 c.args.recs.now (c.args.t + p)) c.args.m (leaky_len c.args.f.n) c.args.out.now c.requires.positions.2 (c.loop-p.p) ((c.loop-p.p) * (leaky_len c.args.f.n) + (leaky_len c.args.f.n)) c.loop-p.out
+      subst (λ z. Written (λ p. R.leaky_row (c.args.f) c.args.delta.0 c.args.recs.now (c.args.t + p)) ((c.loop-p.p) + 1)
+          (((c.loop-p.p) + 1) * (leaky_len c.args.f.n)) c.args.out.now
+          (put_mid ((c.loop-p.p) * z) ((c.loop-p.p) * z + z - (c.loop-p.p) * z) c.loop-p.out c.put_row.new.out)) (sym (len_is
+          (goal.at.loop-p-preserved c).In-loop-p))
+          (even-put (λ p. R.leaky_row (c.args.f) c.args.delta.0 c.args.recs.now (c.args.t + p)) c.args.m
+          (leaky_len c.args.f.n) c.args.out.now c.requires.positions.2 (c.loop-p.p) ((c.loop-p.p) * (leaky_len c.args.f.n) +
+          (leaky_len c.args.f.n)) c.loop-p.out
           c.put_row.new.out c.loop-p-test.true c.loop-p.invariant.1 long c.put_row.ensures refl),
     )
 
@@ -62,7 +86,8 @@ shape_of-out c = c.loop-p.invariant.1.same
 
 pub returns : goal.returns
 returns c =
-    even-end (λ p. R.leaky_row (c.args.f) c.args.delta.0 c.args.recs.now (c.args.t + p)) c.args.m (leaky_len c.args.f.n) c.args.out.now c.requires.positions.2 c.loop-p.p c.loop-p.out c.loop-p.invariant.1 (omega arith)
+    even-end (λ p. R.leaky_row (c.args.f) c.args.delta.0 c.args.recs.now (c.args.t + p)) c.args.m
+    (leaky_len c.args.f.n) c.args.out.now c.requires.positions.2 c.loop-p.p c.loop-p.out c.loop-p.invariant.1 (omega arith)
 
 pub overflow_sub-size : goal.overflow_sub-size
 overflow_sub-size c = omega (arith, c.requires.positions.0.ranges.own)
@@ -95,4 +120,8 @@ pub slice_bounds-put_row-end-in-loop-p-2 : goal.slice_bounds-put_row-end-in-loop
 slice_bounds-put_row-end-in-loop-p-2 c = hash-in (goal.at.slice_bounds-put_row-end-in-loop-p-2 c).In-loop-p
 
 pub overflow_add-t : goal.overflow_add-t
-overflow_add-t c = omega (arith, (asked (goal.at.overflow_add-t c).In-loop-p).below, leaky-most c.args.f.l (asked (goal.at.overflow_add-t c).In-loop-p).ranges.range.most)
+overflow_add-t c = omega (
+  arith,
+  (asked (goal.at.overflow_add-t c).In-loop-p).below,
+  leaky-most c.args.f.l (asked (goal.at.overflow_add-t c).In-loop-p).ranges.range.most,
+)

@@ -6,7 +6,14 @@ use Rattle.inputs.proofs.bytes_fault.Goals as goal
 
 pub check_records-b-requires : goal.check_records-b-requires
 check_records-b-requires c =
-    record { n_bound = (c.requires.0.range.eight, c.requires.0.own); n_in_bounds = omega (arith, c.requires.1.bits, ap (λ k. k * lent_len c.args.f.n) c.bits_count.ensures) }
+    record {
+      n_bound = (c.requires.0.range.eight, c.requires.0.own);
+      n_in_bounds = omega (
+        arith,
+        c.requires.1.bits,
+        ap (λ k. k * lent_len c.args.f.n) c.bits_count.ensures,
+      );
+    }
 
 pub check_records-x-requires : goal.check_records-x-requires
 check_records-x-requires c = search rules

@@ -1,5 +1,8 @@
 use Rattle.std.specs.Prelude.{ℕ, ◌<◌, ◌≡◌, ◌+◌, ◌-◌, ◌*◌, ◌≤◌}
 use Rattle.lists.specs.Kit.{sym, ap, ◌∙◌, arith, length, rules}
+use Rattle.plan.specs.Plan.{leaky}
+use Rattle.engine.specs.declared.Frame.{Frame}
+use Rattle.rounds.specs.Area.{MASKS, size_of}
 use Rattle.lists.specs.All.{all_of, all-zero}
 use Rattle.lists.specs.Over.{in-chunks}
 use Rattle.area.specs.Sizes.{size-masks}
@@ -11,24 +14,16 @@ pub loop-k-init : goal.loop-k-init
 loop-k-init c = (search rules, sym (all-zero _))
 
 -- a row lies within
-inside : (k n count all : ℕ) → k < n → all ≡ n * count → k * count + count ≤ all
-inside k n count all h e = omega (arith, in-chunks k n count h, e)
+inside : (f : Frame) (k count all : ℕ) → k < f.n → count ≡ leaky f.l → all ≡ size_of f MASKS → k * count + count ≤ all
+inside f k count all h e l = omega (arith, in-chunks k f.n count h, l ∙ size-masks f ∙ ap (λ m. f.n * m) (sym e))
 
 pub overflow_mul-k : goal.overflow_mul-k
 overflow_mul-k c =
-    omega (
-      arith,
-      inside c.loop-k.k c.args.f.n c.leaky-count.result (length c.args.masks.now) c.loop-k-test.true
-          (c.requires.1 ∙ size-masks c.args.f ∙ ap (λ m. c.args.f.n * m) (sym c.leaky-count.ensures)),
-    )
+    omega (arith, inside c.args.f c.loop-k.k _ _ c.loop-k-test.true c.leaky-count.ensures c.requires.1)
 
 pub row_good-good-requires : goal.row_good-good-requires
 row_good-good-requires c =
-    omega (
-      arith,
-      inside c.loop-k.k c.args.f.n c.leaky-count.result (length c.args.masks.now) c.loop-k-test.true
-          (c.requires.1 ∙ size-masks c.args.f ∙ ap (λ m. c.args.f.n * m) (sym c.leaky-count.ensures)),
-    )
+    omega (arith, inside c.args.f c.loop-k.k _ _ c.loop-k-test.true c.leaky-count.ensures c.requires.1)
 
 -- row k is checked, or it is the own one
 pub loop-k-preserved : goal.loop-k-preserved

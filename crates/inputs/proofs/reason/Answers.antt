@@ -22,9 +22,14 @@ returns-then-code-ne0 c =
 
 pub bytes_fault-requires : goal.bytes_fault-requires
 bytes_fault-requires c =
-    let d = due_of_lem c.args.f c.args.v c.args.counts c.requires.counted (sym (told (goal.at.bytes_fault-requires c).After-lengths_fault-code) ∙ c.if-code-ne0.false) in (
+    let d = due_of_lem c.args.f c.args.v c.args.counts c.requires.counted (sym (told
+    (goal.at.bytes_fault-requires c).After-lengths_fault-code) ∙ c.if-code-ne0.false) in (
       d.ranges,
-      record { bits = sym c.requires.bits_value.0 ∙ d.lists.bits; alpha = sym c.requires.bits_value.1 ∙ d.lists.alpha; beta = sym c.requires.bits_value.2 ∙ d.lists.beta },
+      record {
+        bits = sym c.requires.bits_value.0 ∙ d.lists.bits;
+        alpha = sym c.requires.bits_value.1 ∙ d.lists.alpha;
+        beta = sym c.requires.bits_value.2 ∙ d.lists.beta;
+      },
       sym c.requires.bits_value.3 ∙ d.seeds.masks,
     )
 

@@ -18,7 +18,8 @@ returns-then-session-ne-SESSION c =
 
 pub returns-then-told-ne-TOLD : goal.returns-then-told-ne-TOLD
 returns-then-told-ne-TOLD c =
-    rounds-short c.args.session.now c.args.round (given c.args.incoming.now c.args.starts.now c.args.lens.now c.args.missing.now c.args.r.now
+    rounds-short c.args.session.now c.args.round
+    (given c.args.incoming.now c.args.starts.now c.args.lens.now c.args.missing.now c.args.r.now
     c.args.out.now) c.args.work.now c.args.told.now c.if-session-ne-SESSION.false
     c.if-told-ne-TOLD.true c.load-s.result c.load-s.ensures.0 c.packed-then-told-ne-TOLD.result c.told_reason.result c.told_reason.ensures
     c.packed-then-told-ne-TOLD.ensures
@@ -28,7 +29,8 @@ store-requires c =
     record {
       out_len = c.if-session-ne-SESSION.false;
       narrow = subst (λ (x : Session). Narrow x) (sym (ap (λ (o : Outcome). o.session) c.round-step.ensures))
-          (round-narrow c.load-s.result c.args.round (given c.args.incoming.now c.args.starts.now c.args.lens.now c.args.missing.now c.args.r.now
+          (round-narrow c.load-s.result c.args.round
+          (given c.args.incoming.now c.args.starts.now c.args.lens.now c.args.missing.now c.args.r.now
           c.args.out.now) c.args.work.now c.load-s.ensures.1);
     }
 
@@ -47,6 +49,7 @@ returns c =
       answer-is = c.answer.ensures;
       session-is = c.store.ensures;
       told_is = c.tell.ensures;
-      call-is = c.round-step.ensures ∙ ap (λ (x : Session). round_spec (protocol_of table) x c.args.round (given c.args.incoming.now c.args.starts.now c.args.lens.now c.args.missing.now c.args.r.now
+      call-is = c.round-step.ensures ∙ ap (λ (x : Session). round_spec (protocol_of table) x c.args.round
+          (given c.args.incoming.now c.args.starts.now c.args.lens.now c.args.missing.now c.args.r.now
           c.args.out.now) c.args.work.now) c.load-s.ensures.0;
     })

@@ -21,7 +21,8 @@ loop-t-init c = (omega arith, even-zero _ (c.record_len-kept.result) c.args.out.
 -- record t lies within what is written
 part_in : (c : In-loop-t) → (c.loop-t.t) * (c.record_len-kept.result) + (c.record_len-kept.result) ≤ length c.loop-t.out
 part_in c =
-    let whole-here : length c.args.out.now ≡ c.args.count * (c.record_len-kept.result) = c.requires.n_bound.1 ∙ ap (λ m. c.args.count * m) (sym c.record_len-kept.ensures) in
+    let whole-here : length c.args.out.now ≡ c.args.count * (c.record_len-kept.result) = c.requires.n_bound.1
+    ∙ ap (λ m. c.args.count * m) (sym c.record_len-kept.ensures) in
     omega (arith, whole-here, in-chunks (c.loop-t.t) c.args.count (c.record_len-kept.result) c.loop-t-test.true, c.loop-t.invariant.1.same)
 
 -- and within what is read
@@ -57,7 +58,8 @@ keep_record-requires c =
 pub loop-t-preserved : goal.loop-t-preserved
 loop-t-preserved c = (
   omega (arith, c.loop-t-test.true),
-  even-turn (row c.args.x.now c.args.n c.args.i) c.args.count (c.record_len-kept.result) c.args.out.now (whole (goal.at.loop-t-preserved c).After-lent_len-lent) c.loop-t.t c.loop-t.out c.keep_record.new.out
+  even-turn (row c.args.x.now c.args.n c.args.i) c.args.count (c.record_len-kept.result) c.args.out.now (whole
+      (goal.at.loop-t-preserved c).After-lent_len-lent) c.loop-t.t c.loop-t.out c.keep_record.new.out
       c.loop-t-test.true
       c.loop-t.invariant.1
       (c.keep_record.ensures ∙ ap (λ k. record_of c.args.n c.args.i (lent_at c.args.x.now k)) (at (goal.at.loop-t-preserved c).In-loop-t))
@@ -70,4 +72,5 @@ shape_of-out c = c.loop-t.invariant.1.same
 pub returns : goal.returns
 unfolding kept_of
 returns c =
-    even-end _ c.args.count (c.record_len-kept.result) c.args.out.now (whole (goal.at.returns c).After-lent_len-lent) c.loop-t.t c.loop-t.out c.loop-t.invariant.1 (omega arith)
+    even-end _ c.args.count (c.record_len-kept.result) c.args.out.now (whole
+    (goal.at.returns c).After-lent_len-lent) c.loop-t.t c.loop-t.out c.loop-t.invariant.1 (omega arith)

@@ -9,7 +9,10 @@ use Rattle.opening.proofs.put_lists.Goals as goal
 
 pub put_records-requires : goal.put_records-requires
 put_records-requires c =
-    record { work = (c.requires.0, omega arith, size-bits c.args.f ∙ ap (λ m. m * record_len c.args.f.n) (sym c.bits_count.ensures)); x_len = c.requires.1.bits ∙ ap (λ m. m * lent_len c.args.f.n) (sym c.bits_count.ensures) }
+    record {
+      work = (c.requires.0, omega arith, size-bits c.args.f ∙ ap (λ m. m * record_len c.args.f.n) (sym c.bits_count.ensures));
+      x_len = c.requires.1.bits ∙ ap (λ m. m * lent_len c.args.f.n) (sym c.bits_count.ensures);
+    }
 
 -- the work area stays as long as it was
 pub put_records-requires-2 : goal.put_records-requires-2

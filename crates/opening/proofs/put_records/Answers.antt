@@ -8,7 +8,13 @@ slice_bounds-keep_all-end c = place_in c.requires.work.0 c.args.s _ _ c.requires
 
 pub keep_all-requires : goal.keep_all-requires
 keep_all-requires c =
-    record { n_bound = (c.requires.work.0.ranges.range.eight, place-length c.requires.work.0 c.args.s _ _ _ c.requires.work.1 c.place-p.ensures c.requires.work.2); x_len = c.requires.x_len }
+    record {
+      n_bound = (
+        c.requires.work.0.ranges.range.eight,
+        place-length c.requires.work.0 c.args.s _ _ _ c.requires.work.1 c.place-p.ensures c.requires.work.2,
+      );
+      x_len = c.requires.x_len;
+    }
 
 pub returns : goal.returns
 returns c =

@@ -10,12 +10,18 @@ use Rattle.plain.proofs.judge.Goals as goal
 pub judge-requires : goal.judge-requires
 unfolding kind_of count_due
 judge-requires c =
-    record { work = (c.requires.work, record { section = omega arith; rows = size-comms c.args.f }); arrived = arrived-at c.args.k 3 1 0 32 c.in-3.is c.requires.received refl refl }
+    record {
+      work = (c.requires.work, record { section = omega arith; rows = size-comms c.args.f });
+      arrived = arrived-at c.args.k 3 1 0 32 c.in-3.is c.requires.received refl refl;
+    }
 
 pub judge-requires-in-5 : goal.judge-requires-in-5
 unfolding kind_of count_due
 judge-requires-in-5 c =
-    record { work = (c.requires.work, record { section = omega arith; rows = size-pair-comms c.args.f }); arrived = arrived-at c.args.k 5 1 0 32 c.in-5.is c.requires.received refl refl }
+    record {
+      work = (c.requires.work, record { section = omega arith; rows = size-pair-comms c.args.f });
+      arrived = arrived-at c.args.k 5 1 0 32 c.in-5.is c.requires.received refl refl;
+    }
 
 pub judge-requires-in-6 : goal.judge-requires-in-6
 unfolding kind_of count_due

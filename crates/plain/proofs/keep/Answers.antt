@@ -11,7 +11,10 @@ use Rattle.plain.proofs.keep.Goals as goal
 pub keep_told-requires : goal.keep_told-requires
 unfolding kind_of count_due
 keep_told-requires c =
-    record { work = (c.requires.work, record { section = omega arith; rows = size-comms c.args.f }); arrived = arrived-at c.args.k 1 32 0 1 c.in-1.is c.requires.received refl refl }
+    record {
+      work = (c.requires.work, record { section = omega arith; rows = size-comms c.args.f });
+      arrived = arrived-at c.args.k 1 32 0 1 c.in-1.is c.requires.received refl refl;
+    }
 
 pub keep_joint-requires : goal.keep_joint-requires
 unfolding kind_of count_due
@@ -21,7 +24,10 @@ keep_joint-requires c =
 pub keep_told-requires-in-4 : goal.keep_told-requires-in-4
 unfolding kind_of count_due
 keep_told-requires-in-4 c =
-    record { work = (c.requires.work, record { section = omega arith; rows = size-pair-comms c.args.f }); arrived = arrived-at c.args.k 4 32 0 1 c.in-4.is c.requires.received refl refl }
+    record {
+      work = (c.requires.work, record { section = omega arith; rows = size-pair-comms c.args.f });
+      arrived = arrived-at c.args.k 4 32 0 1 c.in-4.is c.requires.received refl refl;
+    }
 
 pub keep_pairwise-requires : goal.keep_pairwise-requires
 unfolding kind_of count_due

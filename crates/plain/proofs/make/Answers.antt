@@ -8,7 +8,14 @@ use Rattle.plain.proofs.make.Goals as goal
 
 pub make-requires : goal.make-requires
 make-requires c =
-    record { work = c.requires.work; r_value = strings-lent c.args.f (record { r = c.args.r.now }) c.args.k c.requires.r_value c.if-k-eq-FABITN.true; out_len = due-at c.args.f.n c.args.f.l c.args.k 6 c.args.out.now c.requires.k_value.1 c.if-k-eq-FABITN.true }
+    record {
+      work = c.requires.work;
+      r_value = strings-lent c.args.f (record {
+        r =
+            c.args.r.now;
+      }) c.args.k c.requires.r_value c.if-k-eq-FABITN.true;
+      out_len = due-at c.args.f.n c.args.f.l c.args.k 6 c.args.out.now c.requires.k_value.1 c.if-k-eq-FABITN.true;
+    }
 
 pub hold-requires : goal.hold-requires
 hold-requires c =
@@ -21,7 +28,10 @@ write-requires c =
       k_value = c.requires.k_value;
       k_nonzero = (
         c.if-k-eq-FABITN.false,
-        subst (Held c.args.k c.args.f) (sym (c.hold.ensures (record { r = c.args.r.now }))) (held-for c.requires.work c.args.k (record { r = c.args.r.now })),
+        subst (Held c.args.k c.args.f) (sym (c.hold.ensures (record {
+          r =
+              c.args.r.now;
+        }))) (held-for c.requires.work c.args.k (record { r = c.args.r.now })),
       );
     }
 
@@ -36,5 +46,6 @@ pub returns-else-k-eq-FABITN : goal.returns-else-k-eq-FABITN
 returns-else-k-eq-FABITN c =
     let is = c.hold.ensures (record { r = c.args.r.now }) in (
       is,
-      c.write.ensures (record { r = c.args.r.now }) ∙ ap (λ (x : List ℕ). to_others c.args.f.n c.args.f.i (written c.args.k c.args.f (record { r = c.args.r.now }) x)) is,
+      c.write.ensures (record { r = c.args.r.now })
+          ∙ ap (λ (x : List ℕ). to_others c.args.f.n c.args.f.i (written c.args.k c.args.f (record { r = c.args.r.now }) x)) is,
     )

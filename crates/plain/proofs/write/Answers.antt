@@ -42,7 +42,11 @@ write-requires-in-12 c =
 
 pub write-requires-in-14 : goal.write-requires-in-14
 write-requires-in-14 c =
-    record { work = c.requires.work; out_len = due (goal.at.write-requires-in-14 c).Start 14 c.in-14.is; leaky_kept = c.requires.k_nonzero.1.rows c.in-14.is }
+    record {
+      work = c.requires.work;
+      out_len = due (goal.at.write-requires-in-14 c).Start 14 c.in-14.is;
+      leaky_kept = c.requires.k_nonzero.1.rows c.in-14.is;
+    }
 
 pub write-requires-in-15 : goal.write-requires-in-15
 write-requires-in-15 c =
@@ -50,7 +54,11 @@ write-requires-in-15 c =
 
 pub write-requires-in-17 : goal.write-requires-in-17
 write-requires-in-17 c =
-    record { work = c.requires.work; out_len = due (goal.at.write-requires-in-17 c).Start 17 c.in-17.is; comms_kept = c.requires.k_nonzero.1.own c.in-17.is }
+    record {
+      work = c.requires.work;
+      out_len = due (goal.at.write-requires-in-17 c).Start 17 c.in-17.is;
+      comms_kept = c.requires.k_nonzero.1.own c.in-17.is;
+    }
 
 pub write-requires-in-19 : goal.write-requires-in-19
 write-requires-in-19 c =

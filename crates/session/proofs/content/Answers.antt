@@ -9,12 +9,17 @@ use Rattle.session.proofs.content.Goals as goal
 pub check-requires : goal.check-requires
 check-requires c =
     let e = sym c.is_echo.ensures ∙ c.if-is_echo.true in
-    record { work = c.requires.work; le_k = round-one c.args.f.n c.args.k c.requires.round; received = echo-received c.args.f c.args.k c.args.incoming.now c.args.mail e c.requires.received }
+    record {
+      work = c.requires.work;
+      le_k = round-one c.args.f.n c.args.k c.requires.round;
+      received = echo-received c.args.f c.args.k c.args.incoming.now c.args.mail e c.requires.received;
+    }
 
 pub returns-then-is_echo : goal.returns-then-is_echo
 returns-then-is_echo c =
     subst (Finds c.check.result.code c.check.result.party)
-    (sym (check-echo c.args.f c.args.work.now (mask c.args.f (letter c.args.incoming.now c.args.mail)) c.args.k (sym c.is_echo.ensures ∙ c.if-is_echo.true)))
+    (sym (check-echo c.args.f c.args.work.now (mask c.args.f (letter c.args.incoming.now c.args.mail)) c.args.k (sym c.is_echo.ensures
+    ∙ c.if-is_echo.true)))
     c.check.ensures
 
 pub to_echo-requires : goal.to_echo-requires
@@ -24,13 +29,15 @@ to_echo-requires c =
 pub returns-then-to_echo : goal.returns-then-to_echo
 returns-then-to_echo c =
     subst (Finds 0 0)
-    (sym (check-held c.args.f c.args.work.now (mask c.args.f (letter c.args.incoming.now c.args.mail)) c.args.k (sym c.is_echo.ensures ∙ c.if-is_echo.false)
+    (sym (check-held c.args.f c.args.work.now (mask c.args.f (letter c.args.incoming.now c.args.mail)) c.args.k (sym c.is_echo.ensures
+    ∙ c.if-is_echo.false)
     (sym c.to_echo.ensures ∙ c.if-to_echo.true)))
     (record { code_is = refl; party-is = λ _. refl })
 
 pub returns : goal.returns
 returns c =
     subst (Finds c.judge.result.code c.judge.result.party)
-    (sym (check-plain c.args.f c.args.work.now (mask c.args.f (letter c.args.incoming.now c.args.mail)) c.args.k (sym c.is_echo.ensures ∙ c.if-is_echo.false)
+    (sym (check-plain c.args.f c.args.work.now (mask c.args.f (letter c.args.incoming.now c.args.mail)) c.args.k (sym c.is_echo.ensures
+    ∙ c.if-is_echo.false)
     (sym c.to_echo.ensures ∙ c.if-to_echo.false)))
     c.judge.ensures

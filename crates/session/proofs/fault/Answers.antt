@@ -14,7 +14,8 @@ content-requires c =
     record {
       work = c.requires.work;
       round = c.requires.round;
-      received = received c.args.f c.args.k c.args.incoming.now c.args.mail c.args.missing.now (sym c.form-first.ensures.code_is ∙ c.if-first-ne0.false)
+      received = received c.args.f c.args.k c.args.incoming.now c.args.mail c.args.missing.now (sym c.form-first.ensures.code_is
+          ∙ c.if-first-ne0.false)
           c.requires.work.ranges.range.eight c.requires.parts;
     }
 

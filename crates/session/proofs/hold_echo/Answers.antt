@@ -32,5 +32,6 @@ returns c =
           ∙ held-is c.args.f c.args.k m w c.keep_clean.new.work
           (c.keep_clean.ensures ∙ ap (λ x. pick (eqb x 0) (Table.kept c.args.k c.args.f w m) w) c.judge-e.ensures.code_is),
       ap (hashes table c.args.f) noted
-          ∙ hashes-kept c.args.f c.args.k m (Table.judge c.args.k c.args.f w m) c.keep_clean.new.work (c.keep_clean.auto.work ∙ c.requires.work.whole),
+          ∙ hashes-kept c.args.f c.args.k m (Table.judge c.args.k c.args.f w m) c.keep_clean.new.work (c.keep_clean.auto.work
+          ∙ c.requires.work.whole),
     )

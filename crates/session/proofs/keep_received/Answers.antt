@@ -8,7 +8,12 @@ returns-then-is_echo c =
 
 pub keep-requires : goal.keep-requires
 keep-requires c =
-    record { work = c.requires.fact.work; received = c.requires.fact.received; mail_value = c.requires.mail_value (sym c.is_echo.ensures ∙ c.if-is_echo.false) }
+    record {
+      work = c.requires.fact.work;
+      received = c.requires.fact.received;
+      mail_value = c.requires.mail_value (sym c.is_echo.ensures
+          ∙ c.if-is_echo.false);
+    }
 
 pub returns : goal.returns
 returns c =

@@ -21,7 +21,8 @@ returns-then-code-ne0 c =
     c.args.out.now) c.args.work.now c.reason-code.result c.reason-code.ensures
     c.if-code-ne0.true)
 
-let-in : (c : Else-code-ne0) → Admitted c.args.s c.args.k (given c.args.incoming.now c.args.starts.now c.args.lens.now c.args.missing.now c.args.r.now
+let-in : (c : Else-code-ne0) → Admitted c.args.s c.args.k
+    (given c.args.incoming.now c.args.starts.now c.args.lens.now c.args.missing.now c.args.r.now
     c.args.out.now) c.args.work.now
 let-in c =
     reason-zero c.args.s c.args.k (given c.args.incoming.now c.args.starts.now c.args.lens.now c.args.missing.now c.args.r.now
@@ -33,8 +34,10 @@ mail_of-mail-requires c = let A = let-in (goal.at.mail_of-mail-requires c).Else-
 -- the parts, by the mail
 parts : (c : After-mail_of-mail) → parts_in c.args.s.party (posted c.args.incoming.now c.mail_of-mail.result c.args.missing.now) ≡ true
 parts c =
-    let let-in-here : Admitted c.args.s c.args.k (given c.args.incoming.now c.args.starts.now c.args.lens.now c.args.missing.now c.args.r.now
-    c.args.out.now) c.args.work.now = reason-zero c.args.s c.args.k (given c.args.incoming.now c.args.starts.now c.args.lens.now c.args.missing.now c.args.r.now
+    let let-in-here : Admitted c.args.s c.args.k
+    (given c.args.incoming.now c.args.starts.now c.args.lens.now c.args.missing.now c.args.r.now
+    c.args.out.now) c.args.work.now = reason-zero c.args.s c.args.k
+    (given c.args.incoming.now c.args.starts.now c.args.lens.now c.args.missing.now c.args.r.now
     c.args.out.now) c.args.work.now (sym c.reason-code.ensures ∙ c.if-code-ne0.false) in
     subst (λ (x : Mail). parts_in c.args.s.party (posted c.args.incoming.now x c.args.missing.now) ≡ true) (sym c.mail_of-mail.ensures)
     (parts-posted c.args.s.party c.args.incoming.now c.args.starts.now c.args.lens.now c.args.missing.now c.args.r.now
@@ -52,11 +55,13 @@ fault-e-requires c =
 
 -- ---- what is found by the mail is what the definition says
 found : (c : After-fault-e) → Finds c.fault-e.result.code c.fault-e.result.party
-    (fault_of (rule_of table c.args.k) c.args.s.party (given c.args.incoming.now c.args.starts.now c.args.lens.now c.args.missing.now c.args.r.now
+    (fault_of (rule_of table c.args.k) c.args.s.party
+    (given c.args.incoming.now c.args.starts.now c.args.lens.now c.args.missing.now c.args.r.now
     c.args.out.now) c.args.work.now)
 found c =
     subst (Finds c.fault-e.result.code c.fault-e.result.party)
-    (ap (λ (m : Mail). fault_of (rule_of table c.args.k) c.args.s.party (posted c.args.incoming.now m c.args.missing.now) c.args.work.now) c.mail_of-mail.ensures
+    (ap (λ (m : Mail). fault_of (rule_of table c.args.k) c.args.s.party
+    (posted c.args.incoming.now m c.args.missing.now) c.args.work.now) c.mail_of-mail.ensures
     ∙ fault-posted c.args.s.party c.args.incoming.now c.args.starts.now c.args.lens.now c.args.missing.now c.args.r.now c.args.out.now
     c.args.k c.args.work.now)
     c.fault-e.ensures
@@ -78,7 +83,8 @@ step-requires c =
       fact = record {
         work = record { ranges = A.ranges; whole = A.work-whole };
         round = A.round-holds;
-        received = received c.args.s.party c.args.k c.args.incoming.now c.mail_of-mail.result c.args.missing.now none.0 A.ranges.range.eight (parts (goal.at.step-requires c).After-mail_of-mail);
+        received = received c.args.s.party c.args.k c.args.incoming.now c.mail_of-mail.result c.args.missing.now none.0
+            A.ranges.range.eight (parts (goal.at.step-requires c).After-mail_of-mail);
       };
       mail_value = none.1;
       out_len = (A.out-whole, A.lent_fits);

@@ -6,7 +6,8 @@ use Rattle.triples.specs.Given.{ds-in, ds-lent}
 use Rattle.triples.proofs.ds.Goals as goal
 use Rattle.triples.proofs.ds.Goals.{After-later-due}
 
-starts : (c : After-later-due) → (c.args.at.opened.0) + c.args.j * c.later-due.result ≡ off (size_of c.args.f) DS + c.args.j * c.later-due.result
+starts : (c : After-later-due) → (c.args.at.opened.0) + c.args.j * c.later-due.result
+    ≡ off (size_of c.args.f) DS + c.args.j * c.later-due.result
 starts c = ap (λ a. a + c.args.j * c.later-due.result) c.requires.2.opened.starts
 
 inside : (c : After-later-due) → (c.args.at.opened.0) + c.args.j * c.later-due.result + c.later-due.result ≤ length c.args.work.now
@@ -28,5 +29,6 @@ slice_bounds-result-end c = omega (arith, inside (goal.at.slice_bounds-result-en
 
 pub returns : goal.returns
 returns c =
-    ds-lent c.requires.0 c.args.j c.requires.1 ((c.args.at.opened.0) + c.args.j * c.later-due.result) ((c.args.at.opened.0) + c.args.j * c.later-due.result + c.later-due.result)
+    ds-lent c.requires.0 c.args.j c.requires.1 ((c.args.at.opened.0) + c.args.j * c.later-due.result)
+    ((c.args.at.opened.0) + c.args.j * c.later-due.result + c.later-due.result)
     c.later-due.result (starts (goal.at.returns c).After-later-due) c.later-due.ensures refl

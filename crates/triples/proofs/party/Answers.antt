@@ -35,7 +35,8 @@ overflow_mul-count c = omega (arith, few (goal.at.overflow_mul-count c).After-le
 pub sum_entries-s-requires : goal.sum_entries-s-requires
 sum_entries-s-requires c = (
   subst (λ m. BucketIn c.args.f.n m c.args.recs.now c.args.ts.now (2 * c.leaky-count.result) c.args.d.now) (sym c.record_len.ensures)
-      (subst (λ m. BucketIn c.args.f.n (record_len c.args.f.n) c.args.recs.now c.args.ts.now (2 * m) c.args.d.now) (sym (is (goal.at.sum_entries-s-requires c).After-leaky-count))
+      (subst (λ m. BucketIn c.args.f.n (record_len c.args.f.n) c.args.recs.now c.args.ts.now (2 * m) c.args.d.now) (sym (is
+      (goal.at.sum_entries-s-requires c).After-leaky-count))
       (bucket-in c.requires.bucketed c.requires.ranged.0)),
   c.requires.ranged.1,
 )
@@ -47,7 +48,11 @@ overflow_mul-k c =
 
 pub e_sum-told-requires : goal.e_sum-told-requires
 e_sum-told-requires c e l =
-    omega (arith, e-in c.requires.bucketed c.args.k c.requires.ranged.1 e l, ap (λ m. c.args.k * m) (is (goal.at.e_sum-told-requires c).After-leaky-count))
+    omega (
+      arith,
+      e-in c.requires.bucketed c.args.k c.requires.ranged.1 e l,
+      ap (λ m. c.args.k * m) (is (goal.at.e_sum-told-requires c).After-leaky-count),
+    )
 
 pub returns : goal.returns
 unfolding x_among x
@@ -59,7 +64,8 @@ returns c zs =
     let n : ℕ = length c.args.d.now in
     let count : length ts ≡ suc n = c.requires.bucketed.count ∙ add-one n in
     let told : c.e_sum-told.result ≡ sum bits (suc n) (λ e. odd (get_or es (c.args.k * leaky c.args.f.l + get_or ts e 0) 0)) =
-    c.e_sum-told.ensures ∙ (λ q. sum bits (count q) (λ e. odd (get_or es (c.args.k * is (goal.at.returns c).After-leaky-count q + get_or ts e 0) 0))) in
+    c.e_sum-told.ensures ∙ (λ q. sum bits (count q) (λ e. odd (get_or es (c.args.k * is
+    (goal.at.returns c).After-leaky-count q + get_or ts e 0) 0))) in
     let X : (len : ℕ) → Share = λ len. bucket_x shares (x_among len recs ts) n in
     let Z : (len m : ℕ) → Share = λ len m. bucket_z shares (x_among len recs ts) (z_among len recs ts (2 * m)) d n in
     let z : (m : ℕ) → Share = Z (record_len c.args.f.n) in
@@ -69,11 +75,13 @@ returns c zs =
     entries-other c.args.f.i c.args.k _ _ _ (λ e. c.if-k-i.false (sym e)) (record {
       x-mac = v.x-mac;
       x-key = v.x-key;
-      z-mac = z-mac c.args.f c.args.delta.0 recs zs es ts d n c.args.k _ (v.z-mac ∙ ap (λ m. (z m).mac c.args.k) (is (goal.at.returns c).After-leaky-count));
+      z-mac = z-mac c.args.f c.args.delta.0 recs zs es ts d n c.args.k _ (v.z-mac
+          ∙ ap (λ m. (z m).mac c.args.k) (is (goal.at.returns c).After-leaky-count));
       z-key =
           c.z_key.ensures
           ∙ ap (blocks.op c.sum_entries-s.result.z.key.0) c.times.ensures
-          ∙ z-key c.args.f c.args.delta.0 recs zs es ts d n c.args.k _ c.e_sum-told.result (v.z-key ∙ ap (λ m. (z m).key c.args.k) (is (goal.at.returns c).After-leaky-count)) told;
+          ∙ z-key c.args.f c.args.delta.0 recs zs es ts d n c.args.k _ c.e_sum-told.result (v.z-key
+          ∙ ap (λ m. (z m).key c.args.k) (is (goal.at.returns c).After-leaky-count)) told;
     })
 
 pub record_len-requires : goal.record_len-requires

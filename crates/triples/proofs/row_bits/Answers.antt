@@ -27,8 +27,10 @@ pub sum_bits-requires : goal.sum_bits-requires
 sum_bits-requires c =
     let recs : List ℕ = c.lent-recs.result.now in
     let b : Bucketed (c.args.f) recs (at (c.args.f) ES c.args.work.now) c.args.ts.now c.ds-d.result.now =
-    bucket-is c.args.j c.requires.work.0 (recs-are (goal.at.sum_bits-requires c).After-ds-d) refl c.requires.numbered (long (goal.at.sum_bits-requires c).After-ds-d) in record {
-      ts_len = number-count (c.args.f) c.args.work.now c.args.j c.args.ts.now c.requires.numbered ∙ ap (λ m. m + 1) (sym (long (goal.at.sum_bits-requires c).After-ds-d));
+    bucket-is c.args.j c.requires.work.0 (recs-are (goal.at.sum_bits-requires c).After-ds-d) refl c.requires.numbered (long
+    (goal.at.sum_bits-requires c).After-ds-d) in record {
+      ts_len = number-count (c.args.f) c.args.work.now c.args.j c.args.ts.now c.requires.numbered
+          ∙ ap (λ m. m + 1) (sym (long (goal.at.sum_bits-requires c).After-ds-d));
       within = (
         subst (λ m. Within recs c.args.ts.now 0 m 1) (sym c.record_len.ensures) (x-bits (bucket-in b c.requires.work.0.ranges)),
         z-within c.args.j c.requires.work.0 (zs-are (goal.at.sum_bits-requires c).After-ds-d) c.requires.numbered,
@@ -41,10 +43,13 @@ pub returns : goal.returns
 returns c delta =
     let recs : List ℕ = c.lent-recs.result.now in
     let ht = number-entry (c.args.f) c.args.work.now c.args.j c.args.ts.now c.requires.numbered in (
-      bit-x (c.args.f) delta c.args.work.now c.args.j c.args.ts.now c.ds-d.result.now ht c.ds-d.ensures (long (goal.at.returns c).After-ds-d)
+      bit-x (c.args.f) delta c.args.work.now c.args.j c.args.ts.now c.ds-d.result.now ht c.ds-d.ensures (long
+          (goal.at.returns c).After-ds-d)
           recs (recs-are (goal.at.returns c).After-ds-d) c.sum_bits.result.x
-          (c.sum_bits.ensures.0 ∙ ap (λ m. bucket_x bits (λ e. (x_among m recs c.args.ts.now e).bit) (length c.ds-d.result.now)) c.record_len.ensures),
-      bit-z (c.args.f) delta c.args.work.now c.args.j c.args.ts.now c.ds-d.result.now ht c.ds-d.ensures (long (goal.at.returns c).After-ds-d)
+          (c.sum_bits.ensures.0 ∙ ap (λ m. bucket_x bits (λ e. (x_among m recs c.args.ts.now e).bit)
+          (length c.ds-d.result.now)) c.record_len.ensures),
+      bit-z (c.args.f) delta c.args.work.now c.args.j c.args.ts.now c.ds-d.result.now ht c.ds-d.ensures (long
+          (goal.at.returns c).After-ds-d)
           recs (recs-are (goal.at.returns c).After-ds-d) c.lent-zs.result.now c.sum_bits.result.z (zs-are (goal.at.returns c).After-ds-d)
           (c.sum_bits.ensures.1 ∙ ap (λ m. bucket_z bits (λ e. (x_among m recs c.args.ts.now e).bit)
           (λ e. odd (get_or c.lent-zs.result.now ((get_or c.args.ts.now e 0 + 0) * 17) 0))

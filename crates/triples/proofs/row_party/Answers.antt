@@ -21,13 +21,19 @@ long c = ap length c.ds-d.ensures ∙ length-ds c.requires.work.0 c.args.j c.req
 
 pub party-requires : goal.party-requires
 party-requires c =
-    record { ranged = (c.requires.work.0.ranges, c.requires.work.3); bucketed = bucket-is c.args.j c.requires.work.0 (recs-are (goal.at.party-requires c).After-ds-d) (es-are (goal.at.party-requires c).After-ds-d) c.requires.numbered (long (goal.at.party-requires c).After-ds-d) }
+    record {
+      ranged = (c.requires.work.0.ranges, c.requires.work.3);
+      bucketed = bucket-is c.args.j c.requires.work.0 (recs-are (goal.at.party-requires c).After-ds-d) (es-are
+          (goal.at.party-requires c).After-ds-d) c.requires.numbered (long (goal.at.party-requires c).After-ds-d);
+    }
 
 pub returns : goal.returns
 returns c =
     entries_at (c.args.f) c.args.delta.0 c.args.work.now c.args.j c.args.ts.now c.ds-d.result.now
-    (number-entry (c.args.f) c.args.work.now c.args.j c.args.ts.now c.requires.numbered) c.ds-d.ensures (long (goal.at.returns c).After-ds-d) c.lent-recs.result.now
-    (recs-are (goal.at.returns c).After-ds-d) c.lent-es.result.now c.args.k c.party.result (es-are (goal.at.returns c).After-ds-d) (c.party.ensures (at (c.args.f) ZS c.args.work.now))
+    (number-entry (c.args.f) c.args.work.now c.args.j c.args.ts.now c.requires.numbered) c.ds-d.ensures (long
+    (goal.at.returns c).After-ds-d) c.lent-recs.result.now
+    (recs-are (goal.at.returns c).After-ds-d) c.lent-es.result.now c.args.k c.party.result (es-are (goal.at.returns c).After-ds-d)
+    (c.party.ensures (at (c.args.f) ZS c.args.work.now))
 
 pub lent-recs-requires : goal.lent-recs-requires
 lent-recs-requires c = place-fits c.requires.work.0 BITS _ _ (omega arith) c.requires.work.2.recs
