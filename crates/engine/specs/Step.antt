@@ -1,6 +1,6 @@
 -- A round call as a function of what it is given (document 01, "The call" and "Turned down by the session"). What the rounds are
 -- stands in a Protocol; nothing here knows one.
-use Rattle.std.specs.Prelude.{Bool, true, not, ◌&&◌, List, [], ℕ, zero, suc, ◌+◌, ◌-◌, ◌*◌, length, get_or, replicate, ltb, leb, eqb}
+use Rattle.std.specs.Prelude.{⊤, Result, Ok, Err, Bool, true, not, ◌&&◌, List, [], ℕ, zero, suc, ◌+◌, ◌-◌, ◌*◌, length, get_or, replicate, ltb, leb, eqb}
 use Rattle.lists.specs.Pick.{pick}
 use Rattle.lists.specs.All.{all_of}
 use Rattle.lists.specs.Sect.{get}
@@ -8,8 +8,8 @@ use Rattle.algebra.specs.Sum.{neq}
 use Rattle.batches.specs.Batches.{told, untold}
 pub use Rattle.engine.specs.declared.Frame.{Frame}
 pub use Rattle.engine.specs.declared.Session.{Session}
-use Rattle.engine.specs.declared.Verdict.{Verdict}
-use Rattle.engine.specs.declared.Verdict.TheVariants as Variant
+pub use Rattle.engine.specs.declared.Refusal.{Refusal}
+use Rattle.refusals.specs.Reason.{number}
 
 -- ---- what a call is given and leaves
 -- "The r Blocks are lent with the call that writes `fabitn`"; "Hosts lend no permutation any more" (02, order 6)
@@ -34,9 +34,9 @@ pub data Reply : Type 0 where
   Refused : ℕ → ℕ → Reply
 
 -- "Where an answer is an enum, a definition gives this paper's number and values for each of the enum's cases."
-unfoldable pub reply_of : Verdict → Reply
-reply_of Variant.Accepted = Accepted
-reply_of (Variant.Refused number party) = Refused number party
+unfoldable pub reply_of : Result ⊤ Refusal → Reply
+reply_of (Ok _) = Accepted
+reply_of (Err r) = Refused (number r.reason) r.party
 
 -- session, answer, work area and outgoing buffer after the call; told: what it answers of the batches
 pub record Outcome : Type 0 where

@@ -7,6 +7,7 @@ ghost use Rattle.batches.specs.Batches.{untold};
 ghost use Rattle.engine.specs.Step.{ended};
 
 use batches::{Counts, Pairs};
+use refusals::Reason;
 
 // What the rounds go by: n parties, the own number i, and l.
 #[derive(Clone, Copy)]
@@ -25,12 +26,15 @@ pub struct Session {
     pub counts: Counts,
 }
 
-#[derive(Clone, Copy)]
-pub enum Verdict {
-    Accepted,
-    // The number of the reason and a party.
-    Refused(u8, usize),
+// Why a call is refused: the reason, and the party that it names.
+#[derive(Clone, Copy, Debug, PartialEq, Eq)]
+pub struct Refusal {
+    pub reason: Reason,
+    pub party: usize,
 }
+
+// What a call or a check says: accepted, or refused.
+pub type Verdict = Result<(), Refusal>;
 
 // What a call returns. told: where each batch lies among the results, after the last round, and zeros else.
 #[derive(Clone, Copy)]
@@ -44,23 +48,16 @@ pub struct Answer {
 pub fn ended(s: Session) -> Session
     ensures { result ≡ ended s }
 {
-    let party = s.party;
-    let counts = s.counts;
-    Session {
-        party: party,
-        due: 0,
-        counts: counts,
-    }
+    Session { due: 0, ..s }
 }
 
 // An answer that tells nothing of the batches.
 pub fn silent(s: Session, v: Verdict) -> Answer
     ensures { (result.session ≡ s) × (result.verdict ≡ v) × (result.told ≡ untold) }
 {
-    let told: Pairs = [0; batches::TOLD];
     Answer {
         session: s,
         verdict: v,
-        told: told,
+        told: [0; batches::TOLD],
     }
 }

@@ -1,0 +1,32 @@
+-- The numbers of the reasons (documents 01 and 02), and what a check answers as a number: 0 where it refuses nothing.
+use Rattle.std.specs.Prelude.{◌≡◌, ◌≢◌, ⊤, ℕ, Result, Ok, Err}
+pub use Rattle.refusals.specs.declared.Reason.{Reason}
+use Rattle.refusals.specs.declared.Reason.TheVariants as V
+
+abbrev pub number : Reason → ℕ
+number V.InvalidBitValue = 1
+number V.CommitmentCouldNotBeOpened = 2
+number V.EmptyVector = 3
+number V.ConversionErr = 4
+number V.EmptyBucket = 5
+number V.InvalidLength = 6
+number V.InconsistentBroadcast = 7
+number V.ABitWrongMAC = 8
+number V.AShareWrongMAC = 9
+number V.LaANDXorNotZero = 10
+number V.AANDWrongMAC = 11
+number V.BeaverWrongMAC = 12
+number V.Undecodable = 13
+number V.Missing = 14
+number V.PartyOutOfRange = 15
+number V.TooMany = 16
+number V.WrongBuffer = 17
+number V.WrongRound = 19
+number V.NoSession = 20
+number V.TrailingBytes = 21
+number V.WrongLabel = 22
+number V.WrongBatches = 23
+
+abbrev pub code_of : Result ⊤ Reason → ℕ
+code_of (Ok _) = 0
+code_of (Err r) = number r
