@@ -9,7 +9,7 @@ use Rattle.std.proofs.Math.Dec.{eqb}
 use Rattle.lists.specs.Pick.{pick, by-eq}
 use Rattle.lists.specs.All.{all_of, all_more, and_second, not-true, not-false}
 use Rattle.lists.specs.Over.{tab, cat, length-cat, over-set, cat-end, tab-zero, tab-turn}
-use Rattle.lists.specs.Tab.{tab-rest}
+use Rattle.lists.specs.Tab.{tab-get_or, tab-rest}
 use Rattle.batches.specs.Batches.{MOST, first, total, few, filled, counts_fault, tally, joined, whole, pair, told}
 
 module _ (c : List ℕ) where
@@ -38,33 +38,16 @@ module _ (c : List ℕ) where
   unfolding total
   at-within j at h e = rw e (first-within (length c) j h)
 
-  -- ---- the tests
-  pub filled-turn : (j : ℕ) (good : Bool) (x : ℕ) → good ≡ all_of j (λ k. not (eqb (get_or c k 0) 0)) → x ≡ get_or c j 0
-      → (good && not (eqb x 0)) ≡ all_of (j + 1) (λ k. not (eqb (get_or c k 0) 0))
-  filled-turn j good x e h = all_more _ j good _ e (ap (λ y. not (eqb y 0)) h)
-
+  -- ---- no batch stands behind an unused one
   abbrev pub follows : ℕ → Bool
   follows j = not (eqb (get_or c j 0) 0) || eqb (get_or c (suc j) 0) 0
 
-  pub joined-turn : (j : ℕ) (good : Bool) (x y : ℕ) → good ≡ all_of j follows → x ≡ get_or c j 0 → y ≡ get_or c (j + 1) 0
-      → (good && (not (eqb x 0) || eqb y 0)) ≡ all_of (j + 1) follows
-  joined-turn j good x y e h w =
-      all_more follows j good _ e (ap₂ (λ a b. not (eqb a 0) || eqb b 0) h (w ∙ ap (λ k. get_or c k 0) (add-one j)))
-
   -- ---- the counts as kept
-  abbrev pub keeping : ℕ → List ℕ
-  keeping j = tab j (λ k. get_or c k 0) ++ drop j (replicate 16 0)
-
-  pub kept-none : replicate 16 0 ≡ keeping 0
-  kept-none = tab-zero (λ k. get_or c k 0) (replicate 16 0)
-
-  pub kept-turn : (j : ℕ) (d : List ℕ) (x : ℕ) → j < 16 → d ≡ keeping j → x ≡ get_or c j 0 → set d j x ≡ keeping (j + 1)
-  kept-turn j d x h e ex = tab-turn j (λ k. get_or c k 0) (replicate 16 0) d x e ex h
-
-  pub kept-end : (j : ℕ) (d : List ℕ) → d ≡ keeping j → j ≡ length c → j ≤ 16 → d ≡ tally c
+  pub kept-whole : length c ≤ 16 → c ++ drop (length c) (replicate 16 0) ≡ tally c
   unfolding tally
-  kept-end j d e h w =
-      e ∙ tab-rest j (λ k. get_or c k 0) (replicate 16 0) 0 w
+  kept-whole w =
+      ap (λ (x : List ℕ). x ++ drop (length c) (replicate 16 0)) (sym (tab-get_or c 0))
+      ∙ tab-rest (length c) (λ k. get_or c k 0) (replicate 16 0) 0 w
       (λ i l r. get_or-eq_default c 0 (omega arith) ∙ sym (get_or-replicate 16 i 0 0 r))
 
   -- ---- the pairs

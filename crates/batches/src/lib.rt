@@ -5,7 +5,10 @@
 ghost use Rattle.batches.specs.Batches as Batches;
 ghost use Rattle.std.specs.Prelude.{◌≡◌, ◌<◌, ◌≤◌, length, eqb};
 ghost use Rattle.lists.specs.Pick.{pick};
+ghost use Rattle.refusals.specs.Reason.{code_of};
 ghost use Rattle.batches.specs.Batches.{total, sum_of, filled, counts_fault, tally, joined, whole, told};
+
+use refusals::Reason;
 
 // Batches of a session at the most.
 pub const MOST: usize = 16;
@@ -18,25 +21,16 @@ pub type Counts = [u32; MOST];
 
 pub type Pairs = [u32; TOLD];
 
-fn wide(x: u32) -> usize
-    ensures { result ≡ x }
-{
-    x as usize
-}
-
 // The sum of the counts, 0 where there are more than 16.
 pub fn sum(counts: &[u32]) -> usize
     ensures { result ≡ sum_of counts.now }
 {
-    let m = counts.len();
-    if m > MOST {
+    if counts.len() > MOST {
         return 0;
     }
     let mut l = 0;
-    let mut j = 0;
-    while j < m {
-        l += wide(counts[j]);
-        j += 1;
+    for count in counts {
+        l += *count as usize;
     }
     l
 }
@@ -45,31 +39,24 @@ pub fn sum(counts: &[u32]) -> usize
 fn all_filled(counts: &[u32]) -> bool
     ensures { result ≡ filled counts.now }
 {
-    let m = counts.len();
-    let mut good = true;
-    let mut j = 0;
-    while j < m {
-        good = good & (counts[j] != 0);
-        j += 1;
-    }
-    good
+    lists::all_of(counts.len(), |j| counts[j] != 0)
 }
 
-// What opening refuses of the counts: 23, 16 or 3, or 0.
-pub fn fault(counts: &[u32]) -> u8
-    ensures { result ≡ counts_fault counts.now }
+// What opening refuses of the counts: 23, 16 or 3.
+pub fn fault(counts: &[u32]) -> Result<(), Reason>
+    ensures { code_of result ≡ counts_fault counts.now }
 {
     let m = counts.len();
     if !((1 <= m) & (m <= MOST)) {
-        return 23;
+        return Err(Reason::WrongBatches);
     }
     if !(sum(counts) <= 300000) {
-        return 16;
+        return Err(Reason::TooMany);
     }
     if !all_filled(counts) {
-        return 3;
+        return Err(Reason::EmptyVector);
     }
-    0
+    Ok(())
 }
 
 // The counts as a session keeps them.
@@ -77,13 +64,8 @@ pub fn kept(counts: &[u32]) -> Counts
     requires { length counts.now ≤ Batches.MOST }
     ensures { result ≡ tally counts.now }
 {
-    let m = counts.len();
     let mut all: Counts = [0; MOST];
-    let mut j = 0;
-    while j < m {
-        all[j] = counts[j];
-        j += 1;
-    }
+    all[..counts.len()].copy_from_slice(counts);
     all
 }
 
@@ -91,13 +73,7 @@ pub fn kept(counts: &[u32]) -> Counts
 fn all_joined(counts: Counts) -> bool
     ensures { result ≡ joined counts }
 {
-    let mut good = true;
-    let mut j = 0;
-    while j < MOST - 1 {
-        good = good & ((counts[j] != 0) | (counts[j + 1] == 0));
-        j += 1;
-    }
-    good
+    lists::all_of(MOST - 1, |j| (counts[j] != 0) | (counts[j + 1] == 0))
 }
 
 // Whether a session with l can have the counts.
@@ -121,13 +97,10 @@ pub fn pairs(counts: Counts) -> Pairs
 {
     let mut all: Pairs = [0; TOLD];
     let mut at = 0;
-    let mut j = 0;
-    while j < MOST {
-        let count = counts[j];
-        all[2 * j] = place(at, count);
-        all[2 * j + 1] = count;
-        at += count;
-        j += 1;
+    for (j, count) in counts.iter().enumerate() {
+        all[2 * j] = place(at, *count);
+        all[2 * j + 1] = *count;
+        at += *count;
     }
     all
 }

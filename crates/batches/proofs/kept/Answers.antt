@@ -1,16 +1,7 @@
-use Rattle.lists.specs.Kit.{refl, arith}
-use Rattle.batches.specs.Turns.{kept-none, kept-turn, kept-end}
+use Rattle.lists.specs.Kit.{refl, ap, ◌∙◌, arith, length, drop, replicate, List, ℕ}
+use Rattle.std.specs.Prelude.{◌++◌}
+use Rattle.batches.specs.Turns.{kept-whole}
 use Rattle.batches.proofs.kept.Goals as goal
 
-pub loop-j-init : goal.loop-j-init
-loop-j-init c = (omega arith, kept-none c.args.counts.now)
-
-pub loop-j-preserved : goal.loop-j-preserved
-loop-j-preserved c =
-    let o = c.loop-j in
-    (omega arith, kept-turn c.args.counts.now o.j o.all _ (omega arith) o.invariant.1 refl)
-
 pub returns : goal.returns
-returns c =
-    let o = c.loop-j in
-    kept-end c.args.counts.now o.j o.all o.invariant.1 (omega arith) (omega arith)
+returns c = ap (λ (s : List ℕ). s ++ drop (length c.args.counts.now) (replicate 16 0)) c.copy_from_slice.ensures.after ∙ kept-whole c.args.counts.now c.requires
