@@ -8,7 +8,7 @@ use Rattle.algebra.specs.Sum.{neq}
 use Rattle.batches.specs.Batches.{told, untold}
 pub use Rattle.engine.specs.declared.Frame.{Frame}
 pub use Rattle.engine.specs.declared.Session.{Session}
-pub use Rattle.engine.specs.declared.Refusal.{Refusal}
+use Rattle.engine.specs.declared.Refusal.{Refusal}
 use Rattle.refusals.specs.Reason.{number}
 
 -- ---- what a call is given and leaves

@@ -10,7 +10,7 @@ use batches::{Counts, Pairs};
 use refusals::Reason;
 
 // What the rounds go by: n parties, the own number i, and l.
-#[derive(Clone, Copy)]
+#[derive(Clone, Copy, Debug, PartialEq, Eq)]
 pub struct Frame {
     pub n: usize,
     pub i: usize,
@@ -19,7 +19,7 @@ pub struct Frame {
 
 // due: the number of the round that is due, 0 once the session is done or ended. counts: those of the batches that make l, 0 where unused
 // (crate batches); no round looks at them.
-#[derive(Clone, Copy)]
+#[derive(Clone, Copy, Debug, PartialEq, Eq)]
 pub struct Session {
     pub party: Frame,
     pub due: usize,
@@ -37,7 +37,7 @@ pub struct Refusal {
 pub type Verdict = Result<(), Refusal>;
 
 // What a call returns. told: where each batch lies among the results, after the last round, and zeros else.
-#[derive(Clone, Copy)]
+#[derive(Clone, Copy, Debug, PartialEq, Eq)]
 pub struct Answer {
     pub session: Session,
     pub verdict: Verdict,

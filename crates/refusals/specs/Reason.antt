@@ -1,5 +1,6 @@
 -- The numbers of the reasons (documents 01 and 02), and what a check answers as a number: 0 where it refuses nothing.
-use Rattle.std.specs.Prelude.{◌≡◌, ◌≢◌, ⊤, ℕ, Result, Ok, Err}
+use Rattle.std.proofs.Common.{arith}
+use Rattle.std.specs.Prelude.{◌≢◌, ⊤, ℕ, Result, Ok, Err}
 pub use Rattle.refusals.specs.declared.Reason.{Reason}
 use Rattle.refusals.specs.declared.Reason.TheVariants as V
 
@@ -30,3 +31,28 @@ number V.WrongBatches = 23
 abbrev pub code_of : Result ⊤ Reason → ℕ
 code_of (Ok _) = 0
 code_of (Err r) = number r
+
+-- no reason's number is 0
+pub number-some : (r : Reason) → number r ≢ 0
+number-some V.InvalidBitValue = λ e. omega arith
+number-some V.CommitmentCouldNotBeOpened = λ e. omega arith
+number-some V.EmptyVector = λ e. omega arith
+number-some V.ConversionErr = λ e. omega arith
+number-some V.EmptyBucket = λ e. omega arith
+number-some V.InvalidLength = λ e. omega arith
+number-some V.InconsistentBroadcast = λ e. omega arith
+number-some V.ABitWrongMAC = λ e. omega arith
+number-some V.AShareWrongMAC = λ e. omega arith
+number-some V.LaANDXorNotZero = λ e. omega arith
+number-some V.AANDWrongMAC = λ e. omega arith
+number-some V.BeaverWrongMAC = λ e. omega arith
+number-some V.Undecodable = λ e. omega arith
+number-some V.Missing = λ e. omega arith
+number-some V.PartyOutOfRange = λ e. omega arith
+number-some V.TooMany = λ e. omega arith
+number-some V.WrongBuffer = λ e. omega arith
+number-some V.WrongRound = λ e. omega arith
+number-some V.NoSession = λ e. omega arith
+number-some V.TrailingBytes = λ e. omega arith
+number-some V.WrongLabel = λ e. omega arith
+number-some V.WrongBatches = λ e. omega arith

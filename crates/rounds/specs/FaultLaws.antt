@@ -1,6 +1,9 @@
 -- What a content check answers: a number and a party. A loop that stops at the first fault, party by party or item by item, finds what
 -- `by_party` and `first_of` say.
-use Rattle.std.specs.Prelude.{◌≡◌, Bool, ◌≢◌}
+use Rattle.std.specs.Prelude.{◌≡◌, ⊤, Result, Ok, Err, Bool, ◌≢◌}
+use Rattle.refusals.specs.declared.Reason.{Reason}
+use Rattle.refusals.specs.Reason.{number, number-some}
+use Rattle.engine.specs.declared.Refusal.{Refusal}
 use Rattle.std.proofs.Math.Path.{refl, sym, ap, subst}
 use Rattle.std.proofs.Common.{ap₂, ◌∙◌, le_refl, add-one, arith}
 use Rattle.std.proofs.Math.Bool.{true, false}
@@ -14,17 +17,17 @@ use Rattle.engine.specs.StepLaws.{other-neq, or-none, or-first, or-zero, last_or
 use Rattle.rounds.specs.Area.{first_of}
 use Rattle.rounds.specs.MailLaws.{neq-same}
 
--- the number is the definition's, and so is the party where there is a fault
-pub record Finds (code party : ℕ) (e : Fault) : Type 0 where
-  pub code_is : code ≡ e.code
-  pub party-is : e.code ≢ 0 → party ≡ e.party
+-- no fault, or the definition's number and party
+abbrev pub Finds : Result ⊤ Refusal → Fault → Type 0
+Finds (Ok _) e = e.code ≡ 0
+Finds (Err r) e = (number r.reason ≡ e.code) × (r.party ≡ e.party)
 
 -- the first of two faults
-pub finds-one : (code party : ℕ) (a b : Fault) → Finds code party a → code ≢ 0 → Finds code party (or_else a b)
-finds-one code party a b h ne = rw (or-first a b (λ z. ne (h.code_is ∙ z))) h
+pub finds-one : (r : Refusal) (a b : Fault) → Finds (Err r) a → Finds (Err r) (or_else a b)
+finds-one r a b h = rw (or-first a b (λ z. number-some r.reason (h.0 ∙ z))) h
 
-pub finds-two : (code party : ℕ) (a b : Fault) → a.code ≡ 0 → Finds code party b → Finds code party (or_else a b)
-finds-two code party a b z h = rw (or-none a b z) h
+pub finds-two : (v : Result ⊤ Refusal) (a b : Fault) → a.code ≡ 0 → Finds v b → Finds v (or_else a b)
+finds-two v a b z h = rw (or-none a b z) h
 
 -- ---- party by party
 -- the fault of party k, none of the own number
@@ -47,16 +50,15 @@ module _ (n i : ℕ) (c : ℕ → ℕ) where
   clean-zero = refl
 
   -- party k has the first fault
-  pub finds-first : (l k x : ℕ) → k < n → (scan k (fault_at i c)).code ≡ 0 → x ≡ fault_at i c k → x ≢ 0 → Finds x k (by_party (frame n l i) c)
-  finds-first l k x h z e ne =
-      let r = by-scan l ∙ scan-first n k (fault_at i c) h z (λ q. ne (e ∙ q)) in
-      record { code_is = e ∙ sym (ap (λ (a : Fault). a.code) r); party-is = λ q. sym (ap (λ (a : Fault). a.party) r) }
+  pub finds-first : (l k : ℕ) (r : Reason) → k < n → (scan k (fault_at i c)).code ≡ 0 → number r ≡ fault_at i c k
+      → Finds (Err (record { reason = r; party = k })) (by_party (frame n l i) c)
+  finds-first l k r h z e =
+      let q = by-scan l ∙ scan-first n k (fault_at i c) h z (λ o. number-some r (e ∙ o)) in
+      (e ∙ sym (ap (λ (a : Fault). a.code) q), sym (ap (λ (a : Fault). a.party) q))
 
   -- nobody has one
-  pub finds-none : (l k p : ℕ) → (scan k (fault_at i c)).code ≡ 0 → k ≡ n → Finds 0 p (by_party (frame n l i) c)
-  finds-none l k p z e =
-      let r : (by_party (frame n l i) c).code ≡ 0 = ap (λ (a : Fault). a.code) (by-scan l ∙ ap (λ j. scan j (fault_at i c)) (sym e)) ∙ z in
-      record { code_is = sym r; party-is = λ q. absurd (q r) }
+  pub finds-none : (l k : ℕ) → (scan k (fault_at i c)).code ≡ 0 → k ≡ n → Finds (Ok tt) (by_party (frame n l i) c)
+  finds-none l k z e = ap (λ (a : Fault). a.code) (by-scan l ∙ ap (λ j. scan j (fault_at i c)) (sym e)) ∙ z
 
 -- ---- item by item
 module _ (g : ℕ → Fault) where
@@ -78,21 +80,17 @@ module _ (g : ℕ → Fault) where
           subst (λ i. or_else (first_of i g) (g i) ≡ g j) p (or-none (first_of j g) (g j) h)
 
   -- item j has the first fault
-  pub item-first : (n j code party : ℕ) → j < n → (first_of j g).code ≡ 0 → Finds code party (g j) → code ≢ 0 → Finds code party (first_of n g)
-  item-first n j code party l h t ne =
-      let e : g j ≡ first_of n g = sym (first-is n j l h (λ z. ne (t.code_is ∙ z))) in
-      subst (Finds code party) e t
+  pub item-first : (n j : ℕ) (r : Refusal) → j < n → (first_of j g).code ≡ 0 → Finds (Err r) (g j) → Finds (Err r) (first_of n g)
+  item-first n j r l h t = subst (Finds (Err r)) (sym (first-is n j l h (λ z. number-some r.reason (t.0 ∙ z)))) t
 
   -- item j has none
-  pub item-next : (j code party : ℕ) → (first_of j g).code ≡ 0 → Finds code party (g j) → code ≡ 0 → (first_of (j + 1) g).code ≡ 0
+  pub item-next : (j : ℕ) → (first_of j g).code ≡ 0 → (g j).code ≡ 0 → (first_of (j + 1) g).code ≡ 0
   unfolding first_of
-  item-next j code party h t z = rw (add-one j) (ap (λ (x : Fault). x.code) (or-none (first_of j g) (g j) h) ∙ sym t.code_is ∙ z)
+  item-next j h z = rw (add-one j) (ap (λ (x : Fault). x.code) (or-none (first_of j g) (g j) h) ∙ z)
 
   -- no item has one
-  pub item-none : (n j p : ℕ) → j ≡ n → (first_of j g).code ≡ 0 → Finds 0 p (first_of n g)
-  item-none n j p e h =
-      let r : (first_of n g).code ≡ 0 = subst (λ m. (first_of m g).code ≡ 0) e h in
-      record { code_is = sym r; party-is = λ q. absurd (q r) }
+  pub item-none : (n j : ℕ) → j ≡ n → (first_of j g).code ≡ 0 → Finds (Ok tt) (first_of n g)
+  item-none n j e h = subst (λ m. (first_of m g).code ≡ 0) e h
 
 -- checks that agree on each item
 pub first-ext : (c : ℕ) (g h : ℕ → Fault) → ((j : ℕ) → j < c → g j ≡ h j) → first_of c g ≡ first_of c h

@@ -11,7 +11,7 @@ loop-k-init g c t h = c.zero-all.ensures ∙ others-zero g.T.Xor.group c.args.i 
 pub loop-k-preserved : goal.loop-k-preserved
 loop-k-preserved g c t h =
     elim c.if-k-i.branch [
-      then-k-i w ↦
+      | then-k-i w ↦
           w.all-is ∙ w.xor-all.ensures
           ∙ others-more g.T.Xor.group c.args.i c.loop-k.k t c.loop-k.all _ (λ e. w.if-k-i.true (sym e)) (c.loop-k.invariant t h)
           (h c.loop-k.k _ c.loop-k-test.true (λ e. w.if-k-i.true (sym e)) w.term.ensures)
