@@ -34,8 +34,8 @@ pub fn sum<T: Xor, F: Fn(usize) -> T>(n: usize, term: F) -> T
     ensures { (t : ℕ → T) → ((k : ℕ) (r : T) → k < n → F.post term k r → r ≡ t k) → result ≡ sum T.group n t }
 {
     let mut all = T::zero();
-    for k in 0..n {
-        all = all.xor(term(k));
+    for j in 0..n {
+        all = all.xor(term(j));
     }
     all
 }
