@@ -1,5 +1,5 @@
 -- Laws of the tosses: the bytes that are committed to, the messages, and the seeds that are added up party by party.
-use Rattle.std.specs.Prelude.{◌≡◌, refl, Bool, true, false, drop, set, replicate}
+use Rattle.std.specs.Prelude.{◌≡◌, ◌≢◌, refl, Bool, true, false, drop, set, replicate}
 use Rattle.std.proofs.Math.Path.{sym, ap, ap₂}
 use Rattle.std.proofs.Common.{◌∙◌, add-one, arith, length-append, length-drop, length-take-le}
 use mathlib.Core.List.{List, [], ◌∷◌, ◌++◌, append_assoc}
@@ -15,8 +15,8 @@ use Rattle.lists.specs.Rows.{chunk}
 use Rattle.lists.specs.Sect.{get}
 use Rattle.lists.specs.Same.{same?, same-comm}
 use Rattle.algebra.specs.Xor.{xor_assoc}
-use Rattle.algebra.specs.Group.{numbers, sel}
-use Rattle.algebra.specs.Sum.{neq, sum, others}
+use Rattle.algebra.specs.Group.{numbers, sel, unit-r}
+use Rattle.algebra.specs.Sum.{neq, neq-own, neq-true, sum, others}
 use Rattle.block.specs.Block.{xor_inplace}
 use Rattle.block.specs.Xor.{length-xor, get_or-xor, zeros-xor}
 use Rattle.blake3.specs.Tree.{hash}
@@ -95,14 +95,29 @@ module _ (i : ℕ) (seed : List ℕ) (m : ℕ → List ℕ) where
   added true y t l = refl
   added false y t l = get_or-replicate 32 t 0 0 l
 
-  pub tossed-turn : (k : ℕ) (x y : List ℕ) → Tossed k x → y ≡ pick (neq i k) (told (m k)) (replicate 32 0) → Tossed (k + 1) (xor_inplace x y)
+  turned : (k : ℕ) (x y : List ℕ) → Tossed k x → y ≡ pick (neq i k) (told (m k)) (replicate 32 0) → Tossed (k + 1) (xor_inplace x y)
   unfolding sum
-  tossed-turn k x y w e = record {
+  turned k x y w e = record {
     long = length-xor x y ∙ w.long;
     here = λ t l.
         get_or-xor x y t (omega (arith, w.long))
         ∙ ap₂ bit_xor (w.here t l) (ap (λ (z : List ℕ). get_or z t 0) e ∙ added (neq i k) (told (m k)) t l)
         ∙ xor_assoc (get_or seed t 0) (sum numbers k (part t)) (part t k)
+        ∙ ap (λ j. bit_xor (get_or seed t 0) (sum numbers j (part t))) (sym (add-one k));
+  }
+
+  pub tossed-turn : (k : ℕ) (x y : List ℕ) → Tossed k x → i ≢ k → y ≡ told (m k) → Tossed (k + 1) (xor_inplace x y)
+  tossed-turn k x y w ne e = turned k x y w (e ∙ ap (λ b. pick b (told (m k)) (replicate 32 0)) (sym (neq-true i k ne)))
+
+  -- the own number adds nothing
+  pub tossed-own : (k : ℕ) (x : List ℕ) → Tossed k x → i ≡ k → Tossed (k + 1) x
+  unfolding sum
+  tossed-own k x w e = record {
+    long = w.long;
+    here = λ t l.
+        w.here t l
+        ∙ ap (bit_xor (get_or seed t 0))
+        (sym (unit-r numbers (sum numbers k (part t))) ∙ ap (λ b. bit_xor (sum numbers k (part t)) (sel numbers b (get_or (told (m k)) t 0))) (sym (neq-own i k e)))
         ∙ ap (λ j. bit_xor (get_or seed t 0) (sum numbers j (part t))) (sym (add-one k));
   }
 

@@ -4,35 +4,31 @@
 #![tactic(auto)]
 
 ghost use Rattle.rounds.specs.Area as Area;
-ghost use Rattle.std.specs.Prelude.{◌≡◌, ◌+◌, ◌-◌, ◌*◌, ◌<◌, ◌≤◌, length};
+ghost use Rattle.std.specs.Prelude.{◌≡◌, ◌≢◌, ◌+◌, ◌-◌, ◌*◌, ◌<◌, ◌≤◌, length};
 ghost use Rattle.lists.specs.Rows.{chunk};
+ghost use Rattle.refusals.specs.Reason.{code_of};
 ghost use Rattle.block.specs.Block.{xor_inplace};
 ghost use Rattle.rounds.specs.Area.{PAIRS, JOINT, PAIRWISE, at, keep};
 ghost use Rattle.rounds.specs.Mail.{letter, Arrived};
-ghost use Rattle.rounds.specs.FaultLaws.{Finds, fault_at};
+ghost use Rattle.rounds.specs.FaultLaws.{Finds};
 ghost use Rattle.rounds.specs.Loops.{row_of};
 ghost use Rattle.rounds.specs.Toss as Toss;
 ghost use Rattle.rounds.specs.TossLaws.{open_fault};
 ghost use Rattle.area.specs.Given.{Work};
 ghost use Rattle.toss_recv.specs.Given.{ToldRows};
 
-use engine::Frame;
-use rounds::{Fault, Mail};
+use engine::{Frame, Verdict};
+use refusals::Reason;
+use rounds::Mail;
 use toss::{COUNT, MSG, SEED};
 
-// What party k told, a commitment or a seed; zero for the own number.
-fn told_row(incoming: &[u8], mail: Mail, f: Frame, k: usize) -> [u8; SEED]
-    requires k_lt_n { k < f.n }
+// What party k told, a commitment or a seed.
+fn told(incoming: &[u8], mail: Mail, f: Frame, k: usize) -> &[u8]
+    requires k_lt_n { (k < f.n) × (f.i ≢ k) }
     requires arrived { Arrived f 40 incoming.now mail }
-    ensures { result ≡ row_of f.i 32 (λ p. Toss.told (letter incoming.now mail p)) k }
+    ensures { (result.now ≡ Toss.told (letter incoming.now mail k)) × (length result.now ≡ 32) }
 {
-    let i = f.i;
-    let mut row = [0u8; SEED];
-    if k != i {
-        let m = rounds::letter(incoming, mail, k);
-        fill::copy(&mut row, &m[COUNT..MSG]);
-    }
-    row
+    &rounds::letter(incoming, mail, k)[COUNT..MSG]
 }
 
 // What all others told, row by row.
@@ -41,54 +37,34 @@ fn told_rows(section: &mut [u8], incoming: &[u8], mail: Mail, f: Frame)
     requires arrived { Arrived f 40 incoming.now mail }
     ensures { section.new ≡ Toss.told_rows f (letter incoming.now mail) }
 {
-    let n = f.n;
-    let mut k = 0;
-    while k < n {
-        let row = told_row(incoming, mail, f, k);
-        let a = k * SEED;
-        let e = a + SEED;
-        fill::copy(&mut section[a..e], &row);
-        k += 1;
-    }
+    rounds::put_rows(
+        section,
+        f,
+        SEED,
+        |row, k| row.copy_from_slice(told(incoming, mail, f, k)),
+    );
 }
 
-// 2 if the seed that party k told doesn't open its commitment; none of the own number.
-fn open_fault(comms: &[u8], incoming: &[u8], mail: Mail, f: Frame, k: usize) -> u8
-    requires n_bound { (f.n ≤ 8) × ((f.i < f.n) × ((k < f.n) × (length comms.now ≡ f.n * 32))) }
+// Refused if the seed that party k told doesn't open its commitment.
+fn check_opens(comms: &[u8], incoming: &[u8], mail: Mail, f: Frame, k: usize) -> Result<(), Reason>
+    requires n_bound { (f.n ≤ 8) × (k < f.n) × (f.i ≢ k) × (length comms.now ≡ f.n * 32) }
     requires arrived { Arrived f 40 incoming.now mail }
-    ensures { result ≡ fault_at f.i (open_fault comms.now (letter incoming.now mail)) k }
+    ensures { code_of result ≡ open_fault comms.now (letter incoming.now mail) k }
 {
-    let i = f.i;
-    if k == i {
-        return 0;
-    }
-    let m = rounds::letter(incoming, mail, k);
-    if toss::commitment(&m[COUNT..MSG], k).is(comms, k * SEED) {
-        0
+    if toss::commitment(told(incoming, mail, f, k), k).is(comms, k * SEED) {
+        Ok(())
     } else {
-        2
+        Err(Reason::CommitmentCouldNotBeOpened)
     }
 }
 
-// 2 with the first party whose seed doesn't open its commitment.
-fn open(comms: &[u8], incoming: &[u8], mail: Mail, f: Frame) -> Fault
+// The first party whose seed doesn't open its commitment.
+fn open(comms: &[u8], incoming: &[u8], mail: Mail, f: Frame) -> Verdict
     requires n_bound { (f.n ≤ 8) × ((f.i < f.n) × (length comms.now ≡ f.n * 32)) }
     requires arrived { Arrived f 40 incoming.now mail }
-    ensures { Finds result.code result.party (Toss.opening f comms.now (letter incoming.now mail)) }
+    ensures { Finds result (Toss.opening f comms.now (letter incoming.now mail)) }
 {
-    let n = f.n;
-    let mut k = 0;
-    while k < n {
-        let code = open_fault(comms, incoming, mail, f, k);
-        if code != 0 {
-            return Fault {
-                code: code,
-                party: k,
-            };
-        }
-        k += 1;
-    }
-    Fault { code: 0, party: 0 }
+    rounds::by_party(f, |k| check_opens(comms, incoming, mail, f, k))
 }
 
 // The joint seed, the XOR of all seeds.
@@ -97,14 +73,12 @@ fn joint_seed(seed: &[u8], incoming: &[u8], mail: Mail, f: Frame) -> [u8; SEED]
     requires arrived { Arrived f 40 incoming.now mail }
     ensures { result ≡ Toss.joint_seed f seed.now (letter incoming.now mail) }
 {
-    let n = f.n;
     let mut x = [0u8; SEED];
     block::xor_inplace(&mut x, seed);
-    let mut k = 0;
-    while k < n {
-        let row = told_row(incoming, mail, f, k);
-        block::xor_inplace(&mut x, &row);
-        k += 1;
+    for k in 0..f.n {
+        if k != f.i {
+            block::xor_inplace(&mut x, told(incoming, mail, f, k));
+        }
     }
     x
 }
@@ -116,12 +90,10 @@ fn pair_seed(pairs: &[u8], incoming: &[u8], mail: Mail, f: Frame, k: usize) -> [
     ensures { result ≡ row_of f.i 32
         (λ p. xor_inplace (chunk 32 p pairs.now) (Toss.told (letter incoming.now mail p))) k }
 {
-    let i = f.i;
     let mut x = [0u8; SEED];
-    if k != i {
-        fill::copy(&mut x, toss::seed_for(pairs, k));
-        let m = rounds::letter(incoming, mail, k);
-        block::xor_inplace(&mut x, &m[COUNT..MSG]);
+    if k != f.i {
+        x.copy_from_slice(toss::seed_for(pairs, k));
+        block::xor_inplace(&mut x, told(incoming, mail, f, k));
     }
     x
 }
@@ -133,16 +105,14 @@ pub fn keep_told(work: &mut [u8], s: usize, incoming: &[u8], mail: Mail, f: Fram
     ensures { work.new ≡ keep f s (Toss.told_rows f (letter incoming.now mail)) work.old }
 {
     let p = area::place(f, s);
-    let a = p.0;
-    let e = p.1;
-    told_rows(&mut work[a..e], incoming, mail, f);
+    told_rows(&mut work[p.0..p.1], incoming, mail, f);
 }
 
-// Rounds 3 and 5: 2 with the first party whose seed doesn't open its commitment in section s.
-pub fn judge(work: &[u8], s: usize, incoming: &[u8], mail: Mail, f: Frame) -> Fault
+// Rounds 3 and 5: the first party whose seed doesn't open its commitment in section s.
+pub fn judge(work: &[u8], s: usize, incoming: &[u8], mail: Mail, f: Frame) -> Verdict
     requires work { Work f work.now × ToldRows f s }
     requires arrived { Arrived f 40 incoming.now mail }
-    ensures { Finds result.code result.party (Toss.opening f (at f s work.now) (letter incoming.now mail)) }
+    ensures { Finds result (Toss.opening f (at f s work.now) (letter incoming.now mail)) }
 {
     open(area::section(work, f, s), incoming, mail, f)
 }
@@ -156,9 +126,7 @@ pub fn keep_joint(work: &mut [u8], incoming: &[u8], mail: Mail, f: Frame)
 {
     let seed = joint_seed(area::section(work, f, area::SEED), incoming, mail, f);
     let p = area::place(f, area::JOINT);
-    let a = p.0;
-    let e = p.1;
-    fill::copy(&mut work[a..e], &seed);
+    work[p.0..p.1].copy_from_slice(&seed);
 }
 
 // Round 5: the pairwise seeds.
@@ -168,14 +136,11 @@ pub fn keep_pairwise(work: &mut [u8], incoming: &[u8], mail: Mail, f: Frame)
     ensures { work.new ≡ keep f PAIRWISE (Toss.pairwise_seeds f (at f PAIRS work.old)
         (letter incoming.now mail)) work.old }
 {
-    let n = f.n;
     let rows_at = area::section_at(f, area::PAIRWISE);
-    let mut k = 0;
-    while k < n {
+    for k in 0..f.n {
         let row = pair_seed(area::section(work, f, area::PAIRS), incoming, mail, f, k);
         let a = rows_at + k * SEED;
         let e = a + SEED;
-        fill::copy(&mut work[a..e], &row);
-        k += 1;
+        work[a..e].copy_from_slice(&row);
     }
 }

@@ -19,7 +19,4 @@ abbrev pub row : Frame → List ℕ → (ℕ → List ℕ) → ℕ → List ℕ
 row f work m = row_of f.i 32 (seed_of (at f PAIRS work) m)
 
 abbrev pub invariant-loop-k : goal.invariant-loop-k
-invariant-loop-k l = (l.k ≤ l.n) × Filled l.f PAIRWISE 32 (row l.f l.initial.work (letter l.incoming l.mail)) l.k l.initial.work l.work
-
-abbrev pub decreases-loop-k : goal.decreases-loop-k
-decreases-loop-k l = l.n - l.k
+invariant-loop-k l = Filled l.f PAIRWISE 32 (row l.f l.initial.work (letter l.incoming l.mail)) l.k l.initial.work l.work
