@@ -104,36 +104,11 @@ pub fn bit_byte(b: bool) -> u8
     b as u8
 }
 
-// Adds eight bytes as one word.
-fn xor8(a: &mut [u8], b: &[u8])
-    requires { (length a.old ≡ 8) × (length b.now ≡ 8) }
-    ensures { a.new ≡ xor_inplace a.old b.now }
-{
-    let w = load64(a, 0) ^ load64(b, 0);
-    store64(a, w);
-}
-
-// Adds byte by byte: what is left where no eight bytes are.
-fn xor_bytes(a: &mut [u8], b: &[u8])
-    requires { length a.old ≡ length b.now }
-    ensures { a.new ≡ xor_inplace a.old b.now }
-{
-    for i in 0..a.len() {
-        a[i] ^= b[i];
-    }
-}
-
 // Adds b's bytes to a's, as far as both go; what a has beyond stays.
 pub fn xor_inplace(a: &mut [u8], b: &[u8])
     ensures { a.new ≡ xor_inplace a.old b.now }
 {
-    let n = a.len().min(b.len());
-    let words = n / 8;
-    for w in 0..words {
-        let i = w * 8;
-        let e = i + 8;
-        xor8(&mut a[i..e], &b[i..e]);
+    for i in 0..a.len().min(b.len()) {
+        a[i] ^= b[i];
     }
-    let left = words * 8;
-    xor_bytes(&mut a[left..n], &b[left..n]);
 }
