@@ -1,21 +1,18 @@
 -- What the code of this crate computes, over plain variables.
-use Rattle.std.specs.Prelude.{◌≡◌, ◌++◌, ◌+◌, ◌-◌, ◌*◌, ◌<◌, ◌≤◌}
-use Rattle.lists.specs.Kit.{refl, sym, ap, ap₂, ◌∙◌, List, Bool, true, false, ℕ, zero, suc, arith}
-use Rattle.lists.specs.Kit.{length, get_or, take, drop, set}
+use Rattle.std.specs.Prelude.{◌≡◌, ◌++◌, ◌+◌, ◌*◌, ◌<◌, ◌≤◌}
+use Rattle.lists.specs.Kit.{refl, ap, ◌∙◌, List, Bool, true, false, ℕ, zero, suc, arith}
+use Rattle.lists.specs.Kit.{length, get_or, drop, set}
 use Prim.Native.Nat.{◌^◌, ◌%◌, min}
 use native.Mathlib.Nat.{mul-zero, mul-one, mod-lt, zero-lt-suc}
 use lib.ListN.{length-set, get_or-eq_default}
-use lib.Seq.{drop_at, get_or-take, get_or-drop}
 use lib.Bits.{bit_xor, xor_zero_r}
 use lib.Dec.{eqb}
 use mir.Val.{bool_byte}
-use Rattle.lists.specs.Over.{tab, tab-zero, tab-step, length-tab, over-get, over-next, over-length, length-take-drop}
-use Rattle.lists.specs.Tab.{tab-add, tab-rest}
-use Rattle.lists.specs.Rows.{tab-ext}
+use Rattle.lists.specs.Over.{tab, tab-zero, tab-step, length-tab, over-get}
+use Rattle.lists.specs.Tab.{tab-rest}
 use Rattle.algebra.specs.Group.{bit_of, odd, sel}
 use Rattle.block.specs.Block.{Block, xor_at, xor_inplace, zero_of}
 use Rattle.block.specs.Group.{blocks}
-use borrow.Rule.Slice.PartMut.{put_mid}
 
 -- ---- a word times a bit
 pub mul-bit : (w : ℕ) (b : Bool) → w < 2 ^ 64 → w * bool_byte b < 2 ^ 64
@@ -50,33 +47,6 @@ added-byte a b d i h w = record {
   here = rw (w.here, over-get (tab i (xor_at a b)) a i 0 (length-tab i (xor_at a b)) h) (tab-step i (xor_at a b) a h);
   same = length-set d i _ ∙ w.same;
 }
-
--- the bytes from i to e, added in a part that was lent
-pub added-lent : (a b d x : List ℕ) (i e : ℕ) → i ≤ e → e ≤ length a → Added a b d i
-    → x ≡ xor_inplace (take (e - i) (drop i d)) (take (e - i) (drop i b)) → Added a b (put_mid i (e - i) d x) e
-unfolding xor_inplace
-added-lent a b d x i e h ha w hx = record { here = whole; same = over-length (tab e f) a (put_mid i (e - i) d x) e whole (length-tab e f) ha }
-  where
-    f : ℕ → ℕ
-    f = xor_at a b
-
-    end : i + (e - i) ≡ e
-    end = omega arith
-
-    part : x ≡ tab (e - i) (λ j. f (i + j))
-    part =
-        hx
-        ∙ ap (λ (s : List ℕ). xor_inplace (take (e - i) s) (take (e - i) (drop i b)))
-        (ap (drop i) w.here ∙ drop_at (tab i f) (drop i a) i (length-tab i f))
-        ∙ ap (λ n. tab n (xor_at (take (e - i) (drop i a)) (take (e - i) (drop i b))))
-        (length-take-drop i e a ∙ (let m : min (e - i) (length a - i) ≡ e - i = omega arith in m))
-        ∙ tab-ext (e - i) _ (λ j. f (i + j))
-        (λ j l. ap₂ bit_xor (get_or-take (e - i) (drop i a) j 0 l ∙ get_or-drop i a j 0) (get_or-take (e - i) (drop i b) j 0 l ∙ get_or-drop i b j 0))
-
-    whole : put_mid i (e - i) d x ≡ tab e f ++ drop e a
-    whole =
-        over-next (tab i f) (tab (e - i) (λ j. f (i + j))) x a d i (e - i) e w.here (length-tab i f) part end
-        ∙ ap (λ (s : List ℕ). s ++ drop e a) (sym (tab-add i (e - i) f) ∙ ap (λ n. tab n f) end)
 
 -- as far as both go
 pub added-all : (a b d : List ℕ) (i : ℕ) → i ≡ min (length a) (length b) → Added a b d i → d ≡ xor_inplace a b

@@ -7,6 +7,7 @@ use Rattle.std.proofs.Math.Nat.{mod-eq_of_lt}
 use native.Mathlib.Omega.{arith}
 use Rattle.std.proofs.Math.ListN.{get_or}
 use Rattle.std.proofs.lemmas.Nat.{xor_lt}
+use Rattle.std.specs.Int.{w64, to_le_bytes, from_le_bytes}
 use Rattle.lists.specs.Over.{tab}
 use Rattle.lists.specs.Tab.{take-tab}
 use Rattle.lists.specs.Sect.{get}
@@ -91,6 +92,28 @@ word-part s at = word-get s at 8 0 (omega arith) ∙ ap (word_at s) (add-zero at
 
 pub block-part : (s : List ℕ) (at : ℕ) → block_at (take 16 (drop at s)) 0 ≡ block_at s at
 block-part s at = block-get s at 16 0 (omega arith) ∙ ap (block_at s) (add-zero at)
+
+-- ---- std's words: the methods of `u64` with these names
+pub word-std : (x s : List ℕ) (at : ℕ) → x ≡ take 8 (drop at s) → from_le_bytes w64 x ≡ word_at s at
+unfolding word_at
+word-std x s at e =
+    let f : (j : ℕ) → j < 8 → get_or x j 0 ≡ get_or s (at + j) 0 =
+    λ j l. ap (λ (y : List ℕ). get_or y j 0) e ∙ get_or-take 8 (drop at s) j 0 l ∙ get_or-drop at s j 0 in
+    let f0 : get_or x 0 0 ≡ get_or s at 0 = f 0 (omega arith) ∙ ap (λ k. get_or s k 0) (add-zero at) in
+    omega (
+      arith,
+      f 1 (omega arith),
+      f 2 (omega arith),
+      f 3 (omega arith),
+      f 4 (omega arith),
+      f 5 (omega arith),
+      f 6 (omega arith),
+      f 7 (omega arith),
+    )
+
+pub le8-std : (w : ℕ) → to_le_bytes w64 w ≡ le8 w
+unfolding le8
+le8-std w = refl
 
 -- ---- lengths and bytes of what is written
 pub length-le8 : (w : ℕ) → length (le8 w) ≡ 8

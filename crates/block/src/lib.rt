@@ -5,7 +5,7 @@
 
 ghost use Rattle.std.specs.Prelude.{◌≡◌, ◌+◌, ◌≤◌, ◌<◌, length, get_or};
 ghost use Rattle.algebra.specs.Group.{sel, odd, num};
-ghost use Rattle.block.specs.Block.{le_of, word_at, block_at, eq_block, le8, bytes_of, xor_inplace};
+ghost use Rattle.block.specs.Block.{word_at, block_at, eq_block, le8, bytes_of, xor_inplace};
 ghost use Rattle.block.specs.Group.{blocks};
 
 // The low and the high 64 bits.
@@ -54,29 +54,12 @@ impl Block {
     }
 }
 
-// Eight bytes as a number, low byte first.
-fn from_le(b0: u8, b1: u8, b2: u8, b3: u8, b4: u8, b5: u8, b6: u8, b7: u8) -> u64
-    ensures { result ≡ le_of b0 b1 b2 b3 b4 b5 b6 b7 }
-{
-    let high = (((b7 as u64) * 256 + b6 as u64) * 256 + b5 as u64) * 256 + b4 as u64;
-    (((high * 256 + b3 as u64) * 256 + b2 as u64) * 256 + b1 as u64) * 256 + b0 as u64
-}
-
 // The 8 bytes at `at`.
 pub fn load64(s: &[u8], at: usize) -> u64
     requires { at + 8 ≤ length s.now }
     ensures { result ≡ word_at s.now at }
 {
-    from_le(
-        s[at],
-        s[at + 1],
-        s[at + 2],
-        s[at + 3],
-        s[at + 4],
-        s[at + 5],
-        s[at + 6],
-        s[at + 7],
-    )
+    u64::from_le_bytes(s[at..at + 8].try_into().unwrap())
 }
 
 // The 16 bytes at `at`.
@@ -94,14 +77,7 @@ pub fn store64(out: &mut [u8], w: u64)
     requires { length out.old ≡ 8 }
     ensures { out.new ≡ le8 w }
 {
-    out[0] = (w % 256) as u8;
-    out[1] = (w / 0x100 % 256) as u8;
-    out[2] = (w / 0x1_0000 % 256) as u8;
-    out[3] = (w / 0x100_0000 % 256) as u8;
-    out[4] = (w / 0x1_0000_0000 % 256) as u8;
-    out[5] = (w / 0x100_0000_0000 % 256) as u8;
-    out[6] = (w / 0x1_0000_0000_0000 % 256) as u8;
-    out[7] = (w / 0x100_0000_0000_0000 % 256) as u8;
+    out.copy_from_slice(&w.to_le_bytes());
 }
 
 // Writes b as the 16 bytes of out.
@@ -128,37 +104,11 @@ pub fn bit_byte(b: bool) -> u8
     b as u8
 }
 
-// Adds eight bytes as one word.
-fn xor8(a: &mut [u8], b: &[u8])
-    requires { (length a.old ≡ 8) × (length b.now ≡ 8) }
-    ensures { a.new ≡ xor_inplace a.old b.now }
-{
-    let w = load64(a, 0) ^ load64(b, 0);
-    store64(a, w);
-}
-
-// Adds byte by byte: what is left where no eight bytes are.
-fn xor_bytes(a: &mut [u8], b: &[u8])
-    requires { length a.old ≡ length b.now }
-    ensures { a.new ≡ xor_inplace a.old b.now }
-{
-    let mut i = 0;
-    while i < a.len() {
-        a[i] = a[i] ^ b[i];
-        i += 1;
-    }
-}
-
 // Adds b's bytes to a's, as far as both go; what a has beyond stays.
 pub fn xor_inplace(a: &mut [u8], b: &[u8])
     ensures { a.new ≡ xor_inplace a.old b.now }
 {
-    let n = if a.len() < b.len() { a.len() } else { b.len() };
-    let mut i = 0;
-    while 8 <= n - i {
-        let e = i + 8;
-        xor8(&mut a[i..e], &b[i..e]);
-        i = e;
+    for i in 0..a.len().min(b.len()) {
+        a[i] ^= b[i];
     }
-    xor_bytes(&mut a[i..n], &b[i..n]);
 }

@@ -1,6 +1,6 @@
 -- What a record holds: one party's share of a bit, with its MAC for each party and its key of each. Shares are an XOR group, so sums of
 -- records are sums in it.
-use Rattle.std.specs.Prelude.{ℕ, ◌+◌, Bool, false, List, ◌++◌, replicate}
+use Rattle.std.specs.Prelude.{ℕ, Bool, false, List, ◌++◌, replicate}
 use Rattle.lists.specs.Pick.{pick}
 use Rattle.lists.specs.Over.{cat}
 use Rattle.algebra.specs.Group.{XorGroup, bits, addb}

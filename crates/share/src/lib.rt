@@ -110,7 +110,7 @@ impl Entry {
     {
         let mac = self.mac.xor(o.mac);
         let key = self.key.xor(o.key);
-        Entry { mac: mac, key: key }
+        Entry { mac, key }
     }
 
     // bit times the entry
@@ -119,7 +119,7 @@ impl Entry {
     {
         let mac = self.mac.times(bit);
         let key = self.key.times(bit);
-        Entry { mac: mac, key: key }
+        Entry { mac, key }
     }
 }
 
@@ -175,7 +175,7 @@ pub fn entry_at(s: &[u8], at: usize, k: usize) -> Entry
 {
     let mac = mac_at(s, at, k);
     let key = key_at(s, at, k);
-    Entry { mac: mac, key: key }
+    Entry { mac, key }
 }
 
 // The bit of the record at `at`.
@@ -237,8 +237,7 @@ pub fn put_lent_head(out: &mut [u8], n: usize, i: usize, bit: bool)
     requires { (1 + Lent.LABEL ≤ length out.old) × (n ≤ 8) × (i < n) }
     ensures { out.new ≡ lent_head n i bit ++ drop (1 + Lent.LABEL) out.old }
 {
-    block::store(&mut out[0..16], Block::zero());
-    block::store(&mut out[16..LENT_HEAD], Block::zero());
+    out[0..LENT_HEAD].fill(0);
     out[0] = block::bit_byte(bit);
     out[1] = n as u8;
     out[2] = i as u8;
@@ -251,12 +250,10 @@ pub fn keep_record(out: &mut [u8], s: &[u8], at: usize, n: usize, i: usize)
     ensures { out.new ≡ record_of n i (lent_at s.now at) }
 {
     let entries = at + LABEL;
-    let mut k = 0;
-    while k < n {
+    for k in 0..n {
         let a = mac_off(k);
         let e = a + ENTRY;
         put_entry_of(&mut out[a..e], i, k, entry_at(s, entries, k));
-        k += 1;
     }
     put_head(out, bit_at(s, at));
 }

@@ -1,9 +1,0 @@
-use Rattle.std.specs.Prelude.{◌≡◌, ◌++◌, ◌-◌, ◌≤◌}
-use Rattle.lists.specs.Kit.{length, take, drop}
-use Rattle.fill.proofs.copy_bytes.Given as goal
-
-abbrev pub invariant-loop-j : goal.invariant-loop-j
-invariant-loop-j l = (l.j ≤ length l.initial.out) × (length l.out ≡ length l.initial.out) × (l.out ≡ take l.j l.s ++ drop l.j l.initial.out)
-
-abbrev pub decreases-loop-j : goal.decreases-loop-j
-decreases-loop-j l = length l.initial.out - l.j
