@@ -1,18 +1,19 @@
--- Words: two shifts joined are a rotation, four bytes joined are their word, a word is read back from its bytes, and one of many is read
+-- Words: two shifts joined are a rotation, which is std's; four bytes joined are their word, a word is read back from its bytes, and one of many is read
 -- or overwritten.
-use Rattle.std.specs.Prelude.{◌≡◌, ℕ, ◌+◌, ◌*◌, ◌/◌, ◌%◌, ◌^◌, ◌<◌, ◌≤◌, Bool, true, false, ◌≢◌, List, length, bit_or, nat_lt, slice_index, slice_index_or, slice_set, refl}
+use Rattle.std.specs.Prelude.{◌≡◌, ℕ, ◌+◌, ◌-◌, ◌*◌, ◌/◌, ◌%◌, ◌^◌, ◌<◌, ◌≤◌, Bool, true, false, ◌≢◌, List, length, bit_or, nat_lt, slice_index, slice_index_or, slice_set, refl}
 use Rattle.std.proofs.Math.Path.{sym, ap, ap₂}
-use Rattle.std.proofs.Common.{◌∙◌, add-zero, get_or-set_same, get_or-set_other, take_all, shr_lt, ltb-true, ltb-false}
+use Rattle.std.proofs.Common.{◌∙◌, subst, add-zero, get_or-set_same, get_or-set_other, take_all, shr_lt, ltb-true, ltb-false}
 use Rattle.std.proofs.Math.Nat.{add_comm, mul-mod_left}
 use native.Mathlib.Omega.{arith}
+use Rattle.std.specs.Int.{w32, rotate_left, rotate_right}
 use Rattle.std.specs.Int.Bits.{or_shifted_r}
-use Rattle.std.proofs.lemmas.Nat.{mod-pow-add, shl-shr}
+use Rattle.std.proofs.lemmas.Nat.{mod-pow-add, shl-shr, or_comm}
 use borrow.Rule.Slice.PartMut.{put_mid}
 use Rattle.lists.specs.Pick.{by-eq}
 use Rattle.lists.specs.Over.{length-cat}
 use Rattle.lists.specs.Rows.{chunk, chunk-cat, cat-chunk, cat-ext, get_d_chunk}
 use Rattle.lists.specs.Sect.{length-put, get-put-same, get-put-before, get-put-after}
-use Rattle.word.specs.Word.{word, word_at, le4, le4s}
+use Rattle.word.specs.Word.{rotr, rotl, word, word_at, le4, le4s}
 
 -- ---- a shift to the right joined with the shift to the left by what is left of the word
 -- a word's low k bits, at the top
@@ -25,6 +26,26 @@ top x j k =
 
 pub turned : (x j k : ℕ) → x < 2 ^ (j + k) → bit_or (x / 2 ^ k) (x * 2 ^ j % 2 ^ (k + j)) ≡ x % 2 ^ k * 2 ^ j + x / 2 ^ k
 turned x j k h = ap (bit_or (x / 2 ^ k)) (top x j k) ∙ or_shifted_r (x % 2 ^ k) j (x / 2 ^ k) (shr_lt j k h)
+
+-- ---- the rotations are those of std's methods
+turned-word : (x j k : ℕ) → k + j ≡ 32 → x < 2 ^ 32 → bit_or (x / 2 ^ k) (x * 2 ^ j % 2 ^ 32) ≡ x % 2 ^ k * 2 ^ j + x / 2 ^ k
+turned-word x j k e h =
+    ap (λ (n : ℕ). bit_or (x / 2 ^ k) (x * 2 ^ j % 2 ^ n)) (sym e)
+    ∙ turned x j k (subst (λ (n : ℕ). x < 2 ^ n) (let f : 32 ≡ j + k = omega arith in f) h)
+
+pub rotated_right : (k x : ℕ) → 1 ≤ k → k < 32 → x < 2 ^ 32 → rotate_right w32 x k ≡ rotr k x
+unfolding rotr
+rotated_right k x l m h =
+    let a : k % 32 ≡ k = omega arith in
+    let b : (32 - k) % 32 ≡ 32 - k = omega arith in
+    rw (a, b) (turned-word x (32 - k) k (omega arith) h)
+
+pub rotated_left : (k x : ℕ) → 1 ≤ k → k < 32 → x < 2 ^ 32 → rotate_left w32 x k ≡ rotl k x
+unfolding rotl
+rotated_left k x l m h =
+    let a : k % 32 ≡ k = omega arith in
+    let b : (32 - k) % 32 ≡ 32 - k = omega arith in
+    rw (a, b) (or_comm (x * 2 ^ k % 2 ^ 32) (x / 2 ^ (32 - k)) ∙ turned-word x k (32 - k) (omega arith) h)
 
 -- ---- four bytes, each shifted to its place and joined with those below it
 module _ (a b c d : ℕ) (ha : a < 2 ^ 8) (hb : b < 2 ^ 8) (hc : c < 2 ^ 8) (hd : d < 2 ^ 8) where
