@@ -1,13 +1,13 @@
--- Words: two shifts joined are a rotation, which is std's; four bytes joined are their word, a word is read back from its bytes, and one of many is read
--- or overwritten.
-use Rattle.std.specs.Prelude.{◌≡◌, ℕ, ◌+◌, ◌-◌, ◌*◌, ◌/◌, ◌%◌, ◌^◌, ◌<◌, ◌≤◌, Bool, true, false, ◌≢◌, List, length, bit_or, nat_lt, slice_index, slice_index_or, slice_set, refl}
-use Rattle.std.proofs.Math.Path.{sym, ap, ap₂}
+-- Words: two shifts joined are a rotation; rotations and bytes are those of std's methods; a word is read back from its bytes, and one of
+-- many is read or overwritten.
+use Rattle.std.specs.Prelude.{◌≡◌, ℕ, ◌+◌, ◌-◌, ◌*◌, ◌/◌, ◌%◌, ◌^◌, ◌<◌, ◌≤◌, Bool, true, false, ◌≢◌, List, [], ◌∷◌, length, bit_or, nat_lt, slice_index, slice_index_or, slice_set, refl}
+use Rattle.std.proofs.Math.Path.{sym, ap}
 use Rattle.std.proofs.Common.{◌∙◌, subst, add-zero, get_or-set_same, get_or-set_other, take_all, shr_lt, ltb-true, ltb-false}
-use Rattle.std.proofs.Math.Nat.{add_comm, mul-mod_left}
+use Rattle.std.proofs.Math.Nat.{mul-mod_left}
 use native.Mathlib.Omega.{arith}
-use Rattle.std.specs.Int.{w32, rotate_left, rotate_right}
+use Rattle.std.specs.Int.{w32, rotate_left, rotate_right, from_le_bytes, to_le_bytes}
 use Rattle.std.specs.Int.Bits.{or_shifted_r}
-use Rattle.std.proofs.lemmas.Nat.{mod-pow-add, shl-shr, or_comm}
+use Rattle.std.proofs.lemmas.Nat.{mod-pow-add, shl-shr, or_comm, from_le_bytes-to_le_bytes_4}
 use borrow.Rule.Slice.PartMut.{put_mid}
 use Rattle.lists.specs.Pick.{by-eq}
 use Rattle.lists.specs.Over.{length-cat}
@@ -47,21 +47,14 @@ rotated_left k x l m h =
     let b : (32 - k) % 32 ≡ 32 - k = omega arith in
     rw (a, b) (or_comm (x * 2 ^ k % 2 ^ 32) (x / 2 ^ (32 - k)) ∙ turned-word x k (32 - k) (omega arith) h)
 
--- ---- four bytes, each shifted to its place and joined with those below it
-module _ (a b c d : ℕ) (ha : a < 2 ^ 8) (hb : b < 2 ^ 8) (hc : c < 2 ^ 8) (hd : d < 2 ^ 8) where
-  two : bit_or a (b * 2 ^ 8 % 2 ^ 32) ≡ a + b * 2 ^ 8
-  two = let e : b * 2 ^ 8 % 2 ^ 32 ≡ b * 2 ^ 8 = omega arith in ap (bit_or a) e ∙ or_shifted_r b 8 a ha ∙ add_comm (b * 2 ^ 8) a
+-- ---- a word and its bytes are those of std's methods
+pub std_word : (a b c d : ℕ) → from_le_bytes w32 (a ∷ b ∷ c ∷ d ∷ []) ≡ word a b c d
+unfolding word
+std_word a b c d = refl
 
-  three : bit_or (bit_or a (b * 2 ^ 8 % 2 ^ 32)) (c * 2 ^ 16 % 2 ^ 32) ≡ a + b * 2 ^ 8 + c * 2 ^ 16
-  three =
-      let e : c * 2 ^ 16 % 2 ^ 32 ≡ c * 2 ^ 16 = omega arith in
-      ap₂ bit_or two e ∙ or_shifted_r c 16 (a + b * 2 ^ 8) (omega arith) ∙ add_comm (c * 2 ^ 16) (a + b * 2 ^ 8)
-
-  pub joined : bit_or (bit_or (bit_or a (b * 2 ^ 8 % 2 ^ 32)) (c * 2 ^ 16 % 2 ^ 32)) (d * 2 ^ 24 % 2 ^ 32) ≡ word a b c d
-  unfolding word
-  joined =
-      let e : d * 2 ^ 24 % 2 ^ 32 ≡ d * 2 ^ 24 = omega arith in
-      ap₂ bit_or three e ∙ or_shifted_r d 24 (a + b * 2 ^ 8 + c * 2 ^ 16) (omega arith) ∙ add_comm (d * 2 ^ 24) (a + b * 2 ^ 8 + c * 2 ^ 16)
+pub std_le4 : (v : ℕ) → to_le_bytes w32 v ≡ le4 v
+unfolding le4
+std_le4 v = refl
 
 -- ---- the bytes of a word
 pub length-le4 : (v : ℕ) → length (le4 v) ≡ 4
@@ -71,11 +64,7 @@ length-le4 v = refl
 -- they are the word again
 pub word_back : (v : ℕ) → v < 2 ^ 32 → word (v % 2 ^ 8) (v / 2 ^ 8 % 2 ^ 8) (v / 2 ^ 16 % 2 ^ 8) (v / 2 ^ 24 % 2 ^ 8) ≡ v
 unfolding word
-word_back v h =
-    let s2 : v / 2 ^ 24 % 2 ^ 8 * 2 ^ 8 + v / 2 ^ 16 % 2 ^ 8 ≡ v / 2 ^ 16 = omega arith in
-    let s1 : v / 2 ^ 16 * 2 ^ 8 + v / 2 ^ 8 % 2 ^ 8 ≡ v / 2 ^ 8 = omega arith in
-    let s0 : v / 2 ^ 8 * 2 ^ 8 + v % 2 ^ 8 ≡ v = omega arith in
-    omega (arith, s2, s1, s0)
+word_back v h = from_le_bytes-to_le_bytes_4 v h
 
 -- ---- words one after another
 pub length-words : (n : ℕ) (p : List ℕ) → length (le4s n p) ≡ n * 4
