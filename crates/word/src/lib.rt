@@ -28,5 +28,5 @@ pub fn store(out: &mut [u8], v: u32)
     requires { length out.old ≡ 4 }
     ensures { out.new ≡ le4 v }
 {
-    out.copy_from_slice(&v.to_le_bytes());
+    *out.as_mut_array().unwrap() = v.to_le_bytes();
 }
