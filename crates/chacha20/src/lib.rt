@@ -83,11 +83,7 @@ pub fn state(key: &[u32; 8], counter: u32, nonce: &[u32; 3]) -> [u32; 16]
 pub fn sums(v: &[u32; 16], s: &[u32; 16]) -> [u32; 16]
     ensures { result ≡ C.sums v.now s.now }
 {
-    let mut r = [0u32; 16];
-    for i in 0..BLOCK_WORDS {
-        r[i] = v[i].wrapping_add(s[i]);
-    }
-    r
+    std::array::from_fn(|i| v[i].wrapping_add(s[i]))
 }
 
 // The words of a block.
@@ -108,11 +104,7 @@ fn words_of<const N: usize>(s: &[u8]) -> [u32; N]
     requires { length s.now ≡ N * 4 }
     ensures { result ≡ word_list N s.now }
 {
-    let mut r = [0u32; N];
-    for k in 0..N {
-        r[k] = word::load(s, k * word::BYTES);
-    }
-    r
+    std::array::from_fn(|k| word::load(s, k * word::BYTES))
 }
 
 // The words of a key.

@@ -7,3 +7,4 @@ pub mod Bytes
 pub mod All
 pub mod Same
 pub mod Kit
+pub mod FromFn

@@ -1,15 +1,9 @@
-use Rattle.lists.specs.Kit.{arith, ℕ}
-use Rattle.std.proofs.lemmas.List.{length-replicate}
-use Rattle.lists.specs.Over.{tab-zero, tab-turn, tab-end}
-use Rattle.word.specs.Word.{word_list}
+use Rattle.std.specs.Prelude.{◌*◌}
+use Rattle.std.proofs.Common.{rules}
+use Rattle.lists.specs.FromFn.{made}
+use Rattle.word.specs.Word.{word_at, word_list}
 use Rattle.chacha20.proofs.words_of.Goals as goal
-
-pub loop-k-init : goal.loop-k-init
-loop-k-init g c = tab-zero _ _
-
-pub loop-k-preserved : goal.loop-k-preserved
-loop-k-preserved g c = let l = c.loop-k in tab-turn l.k _ _ l.r _ l.invariant c.load.ensures (omega (arith, length-replicate {A = ℕ}))
 
 pub returns : goal.returns
 unfolding word_list
-returns g c = let l = c.loop-k in tab-end l.k _ _ _ l.r l.invariant (omega arith) (omega (arith, length-replicate {A = ℕ}))
+returns g c = made _ _ (λ i. word_at (i * 4) c.args.s.now) _ _ (λ k y q l e. search rules) c.from_fn.ensures.items
