@@ -8,8 +8,10 @@ ghost use Rattle.algebra.specs.Group.{sel, odd, num};
 ghost use Rattle.block.specs.Block.{word_at, block_at, eq_block, le8, bytes_of, xor_inplace};
 ghost use Rattle.block.specs.Group.{blocks};
 
+use algebra::Xor;
+
 // The low and the high 64 bits.
-#[derive(Clone, Copy)]
+#[derive(Clone, Copy, Debug, PartialEq, Eq)]
 pub struct Block(pub u64, pub u64);
 
 impl Block {
@@ -51,6 +53,18 @@ impl Block {
         ensures { result ≡ eq_block self o }
     {
         (self.0 == o.0) & (self.1 == o.1)
+    }
+}
+
+impl Xor for Block {
+    ghost group = { blocks };
+
+    fn zero() -> Block {
+        Block(0, 0)
+    }
+
+    fn xor(self, o: Block) -> Block {
+        Block(self.0 ^ o.0, self.1 ^ o.1)
     }
 }
 

@@ -4,8 +4,8 @@
 // stays in registers.
 #![tactic(auto)]
 
-ghost use Rattle.std.specs.Prelude.{◌≡◌, ◌<◌, length};
-ghost use Rattle.word.specs.Word.{rotl, word_list};
+ghost use Rattle.std.specs.Prelude.{◌≡◌, ◌*◌, ◌<◌, length};
+ghost use Rattle.word.specs.Word.{word_list};
 ghost use Rattle.chacha20.specs.ChaCha20 as C;
 
 // The words of a block, and the bytes of a key, a nonce and a block.
@@ -22,30 +22,6 @@ const CONSTANTS: [u32; 4] = [0x61707865, 0x3320646e, 0x79622d32, 0x6b206574];
 // How often `inner_block` is done.
 const DOUBLE_ROUNDS: usize = 10;
 
-fn rotl16(x: u32) -> u32
-    ensures { result ≡ rotl 16 x }
-{
-    x >> 16 | x << 16
-}
-
-fn rotl12(x: u32) -> u32
-    ensures { result ≡ rotl 12 x }
-{
-    x >> 20 | x << 12
-}
-
-fn rotl8(x: u32) -> u32
-    ensures { result ≡ rotl 8 x }
-{
-    x >> 24 | x << 8
-}
-
-fn rotl7(x: u32) -> u32
-    ensures { result ≡ rotl 7 x }
-{
-    x >> 25 | x << 7
-}
-
 // QUARTERROUND at the places x, y, z, w of the state.
 pub fn qround(v: &mut [u32; 16], x: usize, y: usize, z: usize, w: usize)
     requires x_bound { x < 16 }
@@ -58,14 +34,14 @@ pub fn qround(v: &mut [u32; 16], x: usize, y: usize, z: usize, w: usize)
     let mut b = v[y];
     let mut c = v[z];
     let mut d = v[w];
-    a = word::add(a, b);
-    d = rotl16(d ^ a);
-    c = word::add(c, d);
-    b = rotl12(b ^ c);
-    a = word::add(a, b);
-    d = rotl8(d ^ a);
-    c = word::add(c, d);
-    b = rotl7(b ^ c);
+    a = a.wrapping_add(b);
+    d = (d ^ a).rotate_left(16);
+    c = c.wrapping_add(d);
+    b = (b ^ c).rotate_left(12);
+    a = a.wrapping_add(b);
+    d = (d ^ a).rotate_left(8);
+    c = c.wrapping_add(d);
+    b = (b ^ c).rotate_left(7);
     v[x] = a;
     v[y] = b;
     v[z] = c;
@@ -107,13 +83,7 @@ pub fn state(key: &[u32; 8], counter: u32, nonce: &[u32; 3]) -> [u32; 16]
 pub fn sums(v: &[u32; 16], s: &[u32; 16]) -> [u32; 16]
     ensures { result ≡ C.sums v.now s.now }
 {
-    let mut r = [0u32; 16];
-    let mut i: usize = 0;
-    while i < BLOCK_WORDS {
-        r[i] = word::add(v[i], s[i]);
-        i += 1;
-    }
-    r
+    std::array::from_fn(|i| v[i].wrapping_add(s[i]))
 }
 
 // The words of a block.
@@ -122,13 +92,19 @@ pub fn words(key: &[u32; 8], counter: u32, nonce: &[u32; 3]) -> [u32; 16]
 {
     let s = state(key, counter, nonce);
     let mut v = s;
-    let mut i: usize = 0;
-    while i < DOUBLE_ROUNDS {
+    for _round in 0..DOUBLE_ROUNDS {
         columns(&mut v);
         diagonals(&mut v);
-        i += 1;
     }
     sums(&v, &s)
+}
+
+// The first N words of s.
+fn words_of<const N: usize>(s: &[u8]) -> [u32; N]
+    requires { length s.now ≡ N * 4 }
+    ensures { result ≡ word_list N s.now }
+{
+    std::array::from_fn(|k| word::load(s, k * word::BYTES))
 }
 
 // The words of a key.
@@ -136,16 +112,7 @@ pub fn key_words(key: &[u8]) -> [u32; 8]
     requires { length key.now ≡ 32 }
     ensures { result ≡ word_list 8 key.now }
 {
-    [
-        word::load(key, 0),
-        word::load(key, 4),
-        word::load(key, 8),
-        word::load(key, 12),
-        word::load(key, 16),
-        word::load(key, 20),
-        word::load(key, 24),
-        word::load(key, 28),
-    ]
+    words_of(key)
 }
 
 // The words of a nonce.
@@ -153,11 +120,7 @@ pub fn nonce_words(nonce: &[u8]) -> [u32; 3]
     requires { length nonce.now ≡ 12 }
     ensures { result ≡ word_list 3 nonce.now }
 {
-    [
-        word::load(nonce, 0),
-        word::load(nonce, 4),
-        word::load(nonce, 8),
-    ]
+    words_of(nonce)
 }
 
 // The words one after another, low byte first.
@@ -165,12 +128,9 @@ fn serialize(out: &mut [u8], v: &[u32; 16])
     requires { length out.old ≡ 64 }
     ensures { out.new ≡ C.serialize v.now }
 {
-    let mut i: usize = 0;
-    while i < BLOCK_WORDS {
+    for (i, x) in v.iter().enumerate() {
         let a = i * word::BYTES;
-        let e = a + word::BYTES;
-        word::store(&mut out[a..e], v[i]);
-        i += 1;
+        word::store(&mut out[a..a + word::BYTES], *x);
     }
 }
 

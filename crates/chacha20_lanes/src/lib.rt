@@ -52,11 +52,5 @@ pub fn four(key: &[u32; 8], counter: u32) -> [Lane; LANES]
     requires { counter + 4 ≤ 2 ^ 32 }
     ensures { result ≡ tab L.LANES (λ t. L.lane_of key.now (counter + t)) }
 {
-    let mut ls = [Lane([0u32; 16]); LANES];
-    let mut t: usize = 0;
-    while t < LANES {
-        ls[t] = one(key, counter + t as u32);
-        t += 1;
-    }
-    ls
+    std::array::from_fn(|t| one(key, counter + t as u32))
 }

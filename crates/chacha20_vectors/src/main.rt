@@ -26,54 +26,18 @@ const LONG: usize = 12400;
 // The longest list, in bytes.
 const ALL: usize = 49600;
 
-// The hexadecimal digit of n's low half.
-fn digit(n: u8) -> u8 {
-    let d = n % 16;
-    if d < 10 { 48 + d } else { 87 + d }
-}
-
-// Writes a byte in hexadecimal.
-fn show_byte(rt: &impl Print, b: u8) -> io::Result<()> {
-    let two = [digit(b >> 4), digit(b)];
-    rt.write_all(&two)
-}
-
 // Writes the bytes in hexadecimal, and a line end.
 fn show(rt: &impl Print, s: &[u8]) -> io::Result<()> {
-    let mut i = 0;
-    while i < s.len() {
-        show_byte(rt, s[i])?;
-        i += 1;
+    for b in s {
+        print!(rt; "{b:02x}")?;
     }
-    rt.write_all(b"\n")
+    println!(rt;)
 }
 
-// Writes n in decimal.
-fn decimal(rt: &impl Print, n: usize) -> io::Result<()> {
-    if 9 < n {
-        decimal(rt, n / 10)?;
-    }
-    let d = [48 + (n % 10) as u8];
-    rt.write_all(&d)
-}
-
-// Writes a word as the RFC does, its high byte first.
-fn show_word(rt: &impl Print, w: u32) -> io::Result<()> {
-    show_byte(rt, (w / 0x100_0000 % 256) as u8)?;
-    show_byte(rt, (w / 0x1_0000 % 256) as u8)?;
-    show_byte(rt, (w / 0x100 % 256) as u8)?;
-    show_byte(rt, (w % 256) as u8)?;
-    rt.write_all(b"\n")
-}
-
-// Writes the first n words of a state.
-fn show_words(rt: &impl Print, v: &[u32; 16], n: usize) -> io::Result<()>
-    requires { n ≤ 16 }
-{
-    let mut i = 0;
-    while i < n {
-        show_word(rt, v[i])?;
-        i += 1;
+// Writes words as the RFC does, the high byte first.
+fn show_words(rt: &impl Print, v: &[u32]) -> io::Result<()> {
+    for w in v {
+        println!(rt; "{w:08x}")?;
     }
     Ok(())
 }
@@ -81,25 +45,22 @@ fn show_words(rt: &impl Print, v: &[u32; 16], n: usize) -> io::Result<()>
 // 2.1.1
 fn show_quarter(rt: &impl Print) -> io::Result<()> {
     let mut v = [0u32; 16];
-    v[0] = 0x11111111;
-    v[1] = 0x01020304;
-    v[2] = 0x9b8d6f43;
-    v[3] = 0x01234567;
+    v[..4].copy_from_slice(&[0x11111111, 0x01020304, 0x9b8d6f43, 0x01234567]);
     chacha20::qround(&mut v, 0, 1, 2, 3);
-    show_words(rt, &v, 4)
+    show_words(rt, &v[..4])
 }
 
 // 2.2.1
 fn show_state(rt: &impl Print) -> io::Result<()> {
     let mut v = STATE;
     chacha20::qround(&mut v, 2, 7, 8, 13);
-    show_words(rt, &v, 16)
+    show_words(rt, &v)
 }
 
 // Writes a block.
 fn show_block(rt: &impl Print, key: &[u8; 32], counter: u32, nonce: &[u8; 12]) -> io::Result<()> {
     let mut out = [0u8; 64];
-    chacha20::block(&mut out[..], &key[..], counter, &nonce[..]);
+    chacha20::block(&mut out, key, counter, nonce);
     show(rt, &out)
 }
 
@@ -122,48 +83,36 @@ fn show_blocks(rt: &impl Print) -> io::Result<()> {
 
 // The key 00 .. 1f.
 fn counted() -> [u8; 32] {
-    let mut key = [0u8; 32];
-    let mut i = 0;
-    while i < 32 {
-        key[i] = i as u8;
-        i += 1;
-    }
-    key
+    std::array::from_fn(|i| i as u8)
 }
 
 // Draws a permutation of n numbers.
 fn draw(section: &mut [u8], key: &[u8; 32], n: usize)
     requires { (length section.old ≡ n * 4) × (1 ≤ n) × (n ≤ 12400) }
 {
-    let words = chacha20::key_words(&key[..]);
+    let words = chacha20::key_words(key);
     shuffle::draw(section, &words, n);
 }
 
 // Writes the permutation of 17 numbers.
 fn show_list(rt: &impl Print, key: &[u8; 32]) -> io::Result<()> {
     let mut list = [0u8; 68];
-    draw(&mut list[..], key, 17);
-    let mut i = 0;
-    while i < 17 {
+    draw(&mut list, key, 17);
+    for i in 0..17 {
         if 0 < i {
-            rt.write_all(b" ")?;
+            print!(rt; " ")?;
         }
-        decimal(rt, word::load(&list[..], i * 4) as usize)?;
-        i += 1;
+        let number = word::load(&list, i * 4);
+        print!(rt; "{number}")?;
     }
-    rt.write_all(b"\n")
+    println!(rt;)
 }
 
 // Writes the BLAKE3 of s.
 fn show_hash(rt: &impl Print, s: &[u8]) -> io::Result<()> {
     let mut hash = [0u8; 32];
     blake3::hash(s, &mut hash);
-    let mut i = 0;
-    while i < 32 {
-        show_byte(rt, hash[i])?;
-        i += 1;
-    }
-    rt.write_all(b"\n")
+    show(rt, &hash)
 }
 
 // Writes the BLAKE3 of the permutation of n numbers.
@@ -179,10 +128,8 @@ fn show_drawn(rt: &impl Print, key: &[u8; 32], n: usize) -> io::Result<()>
     requires { (1 ≤ n) × (n ≤ 12400) }
 {
     let mut all = [0u8; ALL];
-    let e = n * 4;
-    decimal(rt, n)?;
-    rt.write_all(b" ")?;
-    show_section(rt, &mut all[0..e], key, n)
+    print!(rt; "{n} ")?;
+    show_section(rt, &mut all[..n * 4], key, n)
 }
 
 fn main(rt: HostRuntime) -> io::Result<()> {

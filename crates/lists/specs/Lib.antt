@@ -8,3 +8,4 @@ pub mod All
 pub mod Same
 pub mod Kit
 pub mod Calls
+pub mod FromFn

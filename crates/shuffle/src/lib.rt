@@ -10,7 +10,7 @@ ghost use Rattle.word.specs.Word.{word_list, le4s};
 ghost use Rattle.shuffle.specs.Shuffle as S;
 ghost use Rattle.shuffle.specs.Turns as T;
 
-use chacha20::{BLOCK_WORDS, KEY_LEN};
+use chacha20::KEY_LEN;
 use chacha20_lanes::LANES;
 use word::BYTES;
 
@@ -32,12 +32,9 @@ fn start(section: &mut [u8], n: usize)
     requires { (length section.old ≡ n * 4) × (n ≤ T.MOST) }
     ensures { section.new ≡ le4s n (tab n (λ k. k)) }
 {
-    let mut t = 0;
-    while t < n {
+    for t in 0..n {
         let a = t * BYTES;
-        let e = a + BYTES;
-        word::store(&mut section[a..e], t as u32);
-        t += 1;
+        word::store(&mut section[a..a + BYTES], t as u32);
     }
 }
 
@@ -48,12 +45,10 @@ fn swap(section: &mut [u8], t: usize, j: usize)
 {
     let a = t * BYTES;
     let b = j * BYTES;
-    let c = a + BYTES;
-    let d = b + BYTES;
     let x = word::load(section, a);
     let y = word::load(section, b);
-    word::store(&mut section[a..c], y);
-    word::store(&mut section[b..d], x);
+    word::store(&mut section[a..a + BYTES], y);
+    word::store(&mut section[b..b + BYTES], x);
 }
 
 // Whether w is below the largest multiple of m not above 2^32, where r is w mod m.
@@ -70,21 +65,18 @@ fn step(section: &mut [u8], v: u32, s: Turn) -> Turn
     ensures less { T.Less s result }
     ensures by_index { (w : ℕ → ℕ) (c : ℕ) → w c ≡ v → T.Goes w 1 c s result section.old section.new }
 {
-    let t = s.t;
-    let left = s.left;
+    let Turn { t, left } = s;
     let w = v as usize;
     let m = t + 1;
     let r = w % m;
     if fits(w, r, m) | (left == 0) {
         swap(section, t, r);
-        return Turn {
+        Turn {
             t: t - 1,
             left: PASSED,
-        };
-    }
-    Turn {
-        t: t,
-        left: left - 1,
+        }
+    } else {
+        Turn { t, left: left - 1 }
     }
 }
 
@@ -95,10 +87,11 @@ fn block(section: &mut [u8], words: [u32; 16], s: Turn) -> Turn
     ensures by_index { (w : ℕ → ℕ) (c : ℕ) → ((k : ℕ) → k < 16 → w (c + k) ≡ get_or words k 0) → T.Goes w 16 c s result section.old section.new }
 {
     let mut at = s;
-    let mut q: usize = 0;
-    while q < BLOCK_WORDS && 0 < at.t {
-        at = step(section, words[q], at);
-        q += 1;
+    for v in words {
+        if at.t == 0 {
+            return at;
+        }
+        at = step(section, v, at);
     }
     at
 }
@@ -109,14 +102,9 @@ fn window(section: &mut [u8], key: &[u32; 8], counter: u32, s: Turn) -> Turn
     ensures less_by { T.LessBy 64 s result }
     ensures by_index { (k : List ℕ) → key.now ≡ word_list 8 k → T.Goes (S.key_word k) 64 (counter * 16) s result section.old section.new }
 {
-    let ls = chacha20_lanes::four(key, counter);
     let mut at = s;
-    let mut k: usize = 0;
-    while k < LANES {
-        let l = ls[k];
-        let words = l.0;
-        at = block(section, words, at);
-        k += 1;
+    for lane in chacha20_lanes::four(key, counter) {
+        at = block(section, lane.0, at);
     }
     at
 }

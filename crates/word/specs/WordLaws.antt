@@ -1,18 +1,19 @@
--- Words: two shifts joined are a rotation, four bytes joined are their word, a word is read back from its bytes, and one of many is read
--- or overwritten.
-use Rattle.std.specs.Prelude.{◌≡◌, ℕ, ◌+◌, ◌*◌, ◌/◌, ◌%◌, ◌^◌, ◌<◌, ◌≤◌, Bool, true, false, ◌≢◌, List, length, bit_or, nat_lt, slice_index, slice_index_or, slice_set, refl}
-use Rattle.std.proofs.Math.Path.{sym, ap, ap₂}
-use Rattle.std.proofs.Common.{◌∙◌, add-zero, get_or-set_same, get_or-set_other, take_all, shr_lt, ltb-true, ltb-false}
-use Rattle.std.proofs.Math.Nat.{add_comm, mul-mod_left}
+-- Words: two shifts joined are a rotation; rotations and bytes are those of std's methods; a word is read back from its bytes, and one of
+-- many is read or overwritten.
+use Rattle.std.specs.Prelude.{◌≡◌, ℕ, ◌+◌, ◌-◌, ◌*◌, ◌/◌, ◌%◌, ◌^◌, ◌<◌, ◌≤◌, Bool, true, false, ◌≢◌, List, [], ◌∷◌, length, bit_or, nat_lt, slice_index, slice_index_or, slice_set, refl}
+use Rattle.std.proofs.Math.Path.{sym, ap}
+use Rattle.std.proofs.Common.{◌∙◌, subst, add-zero, get_or-set_same, get_or-set_other, take_all, shr_lt, ltb-true, ltb-false}
+use Rattle.std.proofs.Math.Nat.{mul-mod_left}
 use native.Mathlib.Omega.{arith}
+use Rattle.std.specs.Int.{w32, rotate_left, rotate_right, from_le_bytes, to_le_bytes}
 use Rattle.std.specs.Int.Bits.{or_shifted_r}
-use Rattle.std.proofs.lemmas.Nat.{mod-pow-add, shl-shr}
+use Rattle.std.proofs.lemmas.Nat.{mod-pow-add, shl-shr, or_comm, from_le_bytes-to_le_bytes_4}
 use borrow.Rule.Slice.PartMut.{put_mid}
 use Rattle.lists.specs.Pick.{by-eq}
 use Rattle.lists.specs.Over.{length-cat}
 use Rattle.lists.specs.Rows.{chunk, chunk-cat, cat-chunk, cat-ext, get_d_chunk}
 use Rattle.lists.specs.Sect.{length-put, get-put-same, get-put-before, get-put-after}
-use Rattle.word.specs.Word.{word, word_at, le4, le4s}
+use Rattle.word.specs.Word.{rotr, rotl, word, word_at, le4, le4s}
 
 -- ---- a shift to the right joined with the shift to the left by what is left of the word
 -- a word's low k bits, at the top
@@ -26,21 +27,34 @@ top x j k =
 pub turned : (x j k : ℕ) → x < 2 ^ (j + k) → bit_or (x / 2 ^ k) (x * 2 ^ j % 2 ^ (k + j)) ≡ x % 2 ^ k * 2 ^ j + x / 2 ^ k
 turned x j k h = ap (bit_or (x / 2 ^ k)) (top x j k) ∙ or_shifted_r (x % 2 ^ k) j (x / 2 ^ k) (shr_lt j k h)
 
--- ---- four bytes, each shifted to its place and joined with those below it
-module _ (a b c d : ℕ) (ha : a < 2 ^ 8) (hb : b < 2 ^ 8) (hc : c < 2 ^ 8) (hd : d < 2 ^ 8) where
-  two : bit_or a (b * 2 ^ 8 % 2 ^ 32) ≡ a + b * 2 ^ 8
-  two = let e : b * 2 ^ 8 % 2 ^ 32 ≡ b * 2 ^ 8 = omega arith in ap (bit_or a) e ∙ or_shifted_r b 8 a ha ∙ add_comm (b * 2 ^ 8) a
+-- ---- the rotations are those of std's methods
+turned-word : (x j k : ℕ) → k + j ≡ 32 → x < 2 ^ 32 → bit_or (x / 2 ^ k) (x * 2 ^ j % 2 ^ 32) ≡ x % 2 ^ k * 2 ^ j + x / 2 ^ k
+turned-word x j k e h =
+    ap (λ (n : ℕ). bit_or (x / 2 ^ k) (x * 2 ^ j % 2 ^ n)) (sym e)
+    ∙ turned x j k (subst (λ (n : ℕ). x < 2 ^ n) (let f : 32 ≡ j + k = omega arith in f) h)
 
-  three : bit_or (bit_or a (b * 2 ^ 8 % 2 ^ 32)) (c * 2 ^ 16 % 2 ^ 32) ≡ a + b * 2 ^ 8 + c * 2 ^ 16
-  three =
-      let e : c * 2 ^ 16 % 2 ^ 32 ≡ c * 2 ^ 16 = omega arith in
-      ap₂ bit_or two e ∙ or_shifted_r c 16 (a + b * 2 ^ 8) (omega arith) ∙ add_comm (c * 2 ^ 16) (a + b * 2 ^ 8)
+pub rotated_right : (k x : ℕ) → 1 ≤ k → k < 32 → x < 2 ^ 32 → rotate_right w32 x k ≡ rotr k x
+unfolding rotr
+rotated_right k x l m h =
+    let a : k % 32 ≡ k = omega arith in
+    let b : (32 - k) % 32 ≡ 32 - k = omega arith in
+    rw (a, b) (turned-word x (32 - k) k (omega arith) h)
 
-  pub joined : bit_or (bit_or (bit_or a (b * 2 ^ 8 % 2 ^ 32)) (c * 2 ^ 16 % 2 ^ 32)) (d * 2 ^ 24 % 2 ^ 32) ≡ word a b c d
-  unfolding word
-  joined =
-      let e : d * 2 ^ 24 % 2 ^ 32 ≡ d * 2 ^ 24 = omega arith in
-      ap₂ bit_or three e ∙ or_shifted_r d 24 (a + b * 2 ^ 8 + c * 2 ^ 16) (omega arith) ∙ add_comm (d * 2 ^ 24) (a + b * 2 ^ 8 + c * 2 ^ 16)
+pub rotated_left : (k x : ℕ) → 1 ≤ k → k < 32 → x < 2 ^ 32 → rotate_left w32 x k ≡ rotl k x
+unfolding rotl
+rotated_left k x l m h =
+    let a : k % 32 ≡ k = omega arith in
+    let b : (32 - k) % 32 ≡ 32 - k = omega arith in
+    rw (a, b) (or_comm (x * 2 ^ k % 2 ^ 32) (x / 2 ^ (32 - k)) ∙ turned-word x k (32 - k) (omega arith) h)
+
+-- ---- a word and its bytes are those of std's methods
+pub std_word : (a b c d : ℕ) → from_le_bytes w32 (a ∷ b ∷ c ∷ d ∷ []) ≡ word a b c d
+unfolding word
+std_word a b c d = refl
+
+pub std_le4 : (v : ℕ) → to_le_bytes w32 v ≡ le4 v
+unfolding le4
+std_le4 v = refl
 
 -- ---- the bytes of a word
 pub length-le4 : (v : ℕ) → length (le4 v) ≡ 4
@@ -50,11 +64,7 @@ length-le4 v = refl
 -- they are the word again
 pub word_back : (v : ℕ) → v < 2 ^ 32 → word (v % 2 ^ 8) (v / 2 ^ 8 % 2 ^ 8) (v / 2 ^ 16 % 2 ^ 8) (v / 2 ^ 24 % 2 ^ 8) ≡ v
 unfolding word
-word_back v h =
-    let s2 : v / 2 ^ 24 % 2 ^ 8 * 2 ^ 8 + v / 2 ^ 16 % 2 ^ 8 ≡ v / 2 ^ 16 = omega arith in
-    let s1 : v / 2 ^ 16 * 2 ^ 8 + v / 2 ^ 8 % 2 ^ 8 ≡ v / 2 ^ 8 = omega arith in
-    let s0 : v / 2 ^ 8 * 2 ^ 8 + v % 2 ^ 8 ≡ v = omega arith in
-    omega (arith, s2, s1, s0)
+word_back v h = from_le_bytes-to_le_bytes_4 v h
 
 -- ---- words one after another
 pub length-words : (n : ℕ) (p : List ℕ) → length (le4s n p) ≡ n * 4

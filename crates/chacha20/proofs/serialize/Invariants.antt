@@ -1,5 +1,5 @@
 -- The loop's invariant: the bytes of the first i words stand in front.
-use Rattle.std.specs.Prelude.{◌-◌, ◌*◌, ◌≤◌}
+use Rattle.std.specs.Prelude.{◌*◌}
 use Rattle.lists.specs.Kit.{List, ℕ, get_or}
 use Rattle.lists.specs.Over.{Written}
 use Rattle.word.specs.Word.{le4}
@@ -10,7 +10,4 @@ abbrev pub row : List ℕ → ℕ → List ℕ
 row v i = le4 (get_or v i 0)
 
 abbrev pub invariant-loop-i : goal.invariant-loop-i
-invariant-loop-i l = (l.i ≤ 16) × Written (row l.v) l.i (l.i * 4) l.initial.out l.out
-
-abbrev pub decreases-loop-i : goal.decreases-loop-i
-decreases-loop-i l = 16 - l.i
+invariant-loop-i l = Written (row l.v) l.i (l.i * 4) l.initial.out l.out

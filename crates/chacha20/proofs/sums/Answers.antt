@@ -1,19 +1,11 @@
-use Rattle.std.specs.Prelude.{◌-◌}
-use Rattle.lists.specs.Kit.{refl, arith}
-use Rattle.lists.specs.Over.{tab-zero, tab-turn, tab-end}
+use Rattle.std.proofs.Common.{rules}
+use Rattle.lists.specs.FromFn.{made}
+use Rattle.lists.specs.Kit.{get_or}
+use Rattle.word.specs.Word.{plus}
 use Rattle.chacha20.specs.ChaCha20 as C
 use Rattle.chacha20.proofs.sums.Goals as goal
 
-pub loop-i-init : goal.loop-i-init
-loop-i-init c = (omega arith, tab-zero _ _)
-
-pub loop-i-preserved : goal.loop-i-preserved
-loop-i-preserved c =
-    let l = c.loop-i in (
-      omega arith,
-      tab-turn l.i _ _ l.r _ l.invariant.1 c.add.ensures c.loop-i-test.true,
-    )
-
 pub returns : goal.returns
 unfolding C.sums
-returns c = let l = c.loop-i in tab-end l.i 16 _ _ l.r l.invariant.1 (omega arith) refl
+returns c =
+    made _ _ (λ i. plus (get_or c.args.v.now i 0) (get_or c.args.s.now i 0)) _ _ (λ k y q l e. search rules) c.from_fn.ensures.items

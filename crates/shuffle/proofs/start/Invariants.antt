@@ -4,7 +4,4 @@ use Rattle.word.specs.Word.{le4}
 use Rattle.shuffle.proofs.start.Given as goal
 
 abbrev pub invariant-loop-t : goal.invariant-loop-t
-invariant-loop-t l = (l.t ≤ l.n) × Written le4 l.t (l.t * 4) l.initial.section l.section
-
-abbrev pub decreases-loop-t : goal.decreases-loop-t
-decreases-loop-t l = l.n - l.t
+invariant-loop-t l = Written le4 l.t (l.t * 4) l.initial.section l.section

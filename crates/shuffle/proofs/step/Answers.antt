@@ -17,11 +17,11 @@ returns-then-fits-left c =
           c.fits.ensures c.if-fits-left.true (c.swap.ensures n p K);
     }
 
-pub overflow_sub-result-2 : goal.overflow_sub-result-2
-overflow_sub-result-2 c = some_left c.fits.result c.args.s.left c.if-fits-left.false
+pub overflow_sub-result-else-fits-left : goal.overflow_sub-result-else-fits-left
+overflow_sub-result-else-fits-left c = some_left c.fits.result c.args.s.left c.if-fits-left.false
 
-pub returns : goal.returns
-returns c =
+pub returns-else-fits-left : goal.returns-else-fits-left
+returns-else-fits-left c =
     let some = some_left c.fits.result c.args.s.left c.if-fits-left.false in record {
       less = search rules;
       by_index = λ w k e n p K.

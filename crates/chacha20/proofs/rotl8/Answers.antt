@@ -1,7 +1,0 @@
-use Rattle.word.specs.Word.{rotl}
-use Rattle.word.specs.WordLaws.{turned}
-use Rattle.chacha20.proofs.rotl8.Goals as goal
-
-pub returns : goal.returns
-unfolding rotl
-returns c = turned c.args.x 8 24 c.ranges.x.fits
