@@ -11,7 +11,7 @@ ghost use Rattle.block.specs.Group.{blocks};
 use algebra::Xor;
 
 // The low and the high 64 bits.
-#[derive(Clone, Copy, Debug, PartialEq, Eq)]
+#[derive(Clone, Copy)]
 pub struct Block(pub u64, pub u64);
 
 impl Block {
@@ -60,11 +60,11 @@ impl Xor for Block {
     ghost group = { blocks };
 
     fn zero() -> Block {
-        Block(0, 0)
+        Block::zero()
     }
 
     fn xor(self, o: Block) -> Block {
-        Block(self.0 ^ o.0, self.1 ^ o.1)
+        Block::xor(self, o)
     }
 }
 
