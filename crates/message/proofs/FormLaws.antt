@@ -3,7 +3,7 @@ use Rattle.std.specs.Prelude.{◌≡◌, Bool, ◌&&◌, List, ◌⊎◌, length
 use Rattle.std.proofs.Math.Path.{refl, ap}
 use Rattle.std.proofs.Common.{sym, ap₂, ◌∙◌, subst, inl, inr, zero-mul, suc-mul, add-zero, get_or-drop}
 use Rattle.std.proofs.Math.Bool.{true, false}
-use Prim.Native.Nat.{ℕ, zero, suc, ◌+◌, ◌-◌, ◌*◌, ◌<◌, ◌≤◌}
+use Prim.Native.Nat.{ℕ, zero, suc, ◌+◌, ◌*◌, ◌<◌, ◌≤◌}
 use native.Mathlib.Omega.{arith}
 use Rattle.std.proofs.Math.ListN.{length-drop}
 use Rattle.std.proofs.Math.Dec.{ltb, leb}
@@ -14,7 +14,7 @@ use Rattle.block.specs.Block.{word_at}
 use Rattle.block.specs.Trip.{word-drop}
 use Rattle.message.specs.declared.Kind.{Kind}
 use Rattle.message.specs.declared.Kind.TheVariants.{Items, Dms, Dvalues, Options}
-use Rattle.message.specs.Format.{item_len, item_at, count_of, decodes, bits, item_of}
+use Rattle.message.specs.Format.{item_len, item_at, count_of, decodes, item_of}
 use Rattle.message.specs.Format.{item_due, form_by, form_of}
 use Rattle.message.specs.FormatLaws.{and-true, of-bools, vec-held, items-held, bucket-held, bucket-bytes, bucket-due, Decoded, at-le, decoded, read_none, read_some, inners_due, counts-are, Formed}
 

@@ -5,6 +5,10 @@ use Rattle.lists.specs.Kit.{drop}
 use native.Mathlib.Nat.{suc-mul}
 use native.Mathlib.Numerals.{add-one}
 use lib.ListN.{length-drop}
+use Rattle.std.specs.Prelude.{Option, None, Some}
+use Rattle.std.specs.Option.{unwrap_or}
+use Rattle.message.specs.declared.Reading.{Reading}
+use Rattle.message.specs.Found.{Long, Told}
 use lib.Dec.{ltb, eqb}
 use borrow.Author.Tests.{ltb-true, ltb-false, eq-eqb, ne_eqb}
 use Rattle.lists.specs.Pick.{pick}
@@ -12,12 +16,17 @@ use Rattle.lists.specs.All.{all_of_lem, all-zero, all-turn}
 use Rattle.lists.specs.Over.{in-chunks}
 use Rattle.message.specs.declared.Kind.{Kind}
 use Rattle.message.specs.declared.Kind.TheVariants.{Items}
-use Rattle.message.specs.Format.{bools, vec_len, item_len, item_at, count_of, decodes, item_of, value_of, Value, read_of, item_due, form_by, form_of, used_of}
+use Rattle.message.specs.Format.{bools, vec_len, item_len, item_at, count_of, decodes, item_of, Decoding, Undecoded, read_of, item_due, form_by, form_of, used_of}
 use Rattle.message.specs.Format.{due_of}
 use Rattle.message.specs.FormatLaws.{item-le, at_zero, at_next, decoded, decodes-of, decodes-bad, used-some, read_none, read_some}
 use Rattle.message.specs.FormatLaws.{inners_due, counts-are, vec-some, items-some, items-not, at-le}
 use Rattle.message.proofs.FormLaws.{fixed-at}
 use Rattle.message.proofs.Laws.{bools-none}
+
+-- a length that was told, 0 for nothing
+pub len-is : (o : Option ℕ) (n : ℕ) → Long n o → unwrap_or o 0 ≡ n
+len-is None n h = sym h
+len-is (Some k) n h = h.0
 
 -- the first t items decode, and item t begins at pos
 pub record Walked (K : Kind) (m : List ℕ) (t pos : ℕ) : Type 0 where
@@ -36,7 +45,7 @@ module _ (K : Kind) (m : List ℕ) where
     pub walked-room : pos + n ≤ length m
     walked-room = omega (arith, w.fits, item-le K (drop pos m), length-drop pos m)
 
-    pub walked-turn : (n ≡ 0 → ⊥) → Walked K m (t + 1) (pos + n)
+    pub walked-turn : 0 < n → Walked K m (t + 1) (pos + n)
     walked-turn k = record { here = next; fits = walked-room; items = λ j l. go j l (ltb j t) refl }
       where
         next : pos + n ≡ item_at K m (t + 1)
@@ -71,48 +80,49 @@ module _ (K : Kind) (m : List ℕ) where
 
 -- ---- what the reader tells
 module _ (K : Kind) (count : ℕ) (m : List ℕ) where
-  pub read-bad : decodes K m ≡ false → (0 ≡ used_of (read_of K m)) × (false ≡ due_of K count (read_of K m))
-  unfolding used_of due_of
-  read-bad e = (sym (ap used_of (read_none K m e)), sym (ap (due_of K count) (read_none K m e)))
-
   pub read-end : (t pos found : ℕ) (inner : Bool) → Walked K m t pos → 8 ≤ length m → t ≡ found → found ≡ count_of m
-      → inner ≡ inners_due K t m → (pos ≡ used_of (read_of K m)) × ((eqb found count && inner) ≡ due_of K count (read_of K m))
+      → inner ≡ inners_due K t m
+      → (0 < pos) × (pos ≡ used_of (read_of K m)) × ((eqb found count && inner) ≡ due_of K count (read_of K m))
   unfolding used_of due_of
   read-end t pos found inner w h e f i = (
-    w.here ∙ ap (item_at K m) (e ∙ f) ∙ sym (ap used_of r),
+    omega (arith, here, used-some K m d),
+    here ∙ sym (ap used_of (read_some K m d)),
     ap₂ (λ (n : ℕ) (b : Bool). eqb n count && b) f (i ∙ ap (λ n. inners_due K n m) (e ∙ f)) ∙ sym (counts-are K count m)
-        ∙ sym (ap (due_of K count) r),
+        ∙ sym (ap (due_of K count) (read_some K m d)),
   )
     where
-      r : read_of K m ≡ Value (value_of K m) (item_at K m (count_of m))
-      r = read_some K m (decodes-of K m (record { head = h; item = λ j l. w.items j (omega arith) }))
+      d : decodes K m ≡ true
+      d = decodes-of K m (record { head = h; item = λ j l. w.items j (omega arith) })
+
+      here : pos ≡ item_at K m (count_of m)
+      here = w.here ∙ ap (item_at K m) (e ∙ f)
 
   -- ---- 13, 21, 6 or 0
-  module _ (used : ℕ) (due : Bool) (eu : used ≡ used_of (read_of K m)) (ed : due ≡ due_of K count (read_of K m)) where
-    pub form-none : used ≡ 0 → 13 ≡ form_of K count m
-    unfolding form_of form_by used_of
-    form-none z = go (decodes K m) refl
-      where
-        go : (b : Bool) → decodes K m ≡ b → 13 ≡ form_of K count m
-        go false e = sym (ap (form_by K count (length m)) (read_none K m e))
-        go true e = absurd (omega (arith, used-some K m e, eu ∙ ap used_of (read_some K m e), z))
+  pub none-told : (d : Decoding) (o : Option Reading) → ((r : Reading) → o ≡ Some r → ⊥) → Told K count d o → d ≡ Undecoded
+  none-told d None n h = h
+  none-told d (Some r) n h = absurd (n r refl)
 
-    form-some : (used ≡ 0 → ⊥) → pick (eqb used (length m)) (pick due 0 6) 21 ≡ form_of K count m
+  pub form-none : read_of K m ≡ Undecoded → form_of K count m ≡ 13
+  unfolding form_of form_by
+  form-none e = ap (form_by K count (length m)) e
+
+  module _ (used : ℕ) (due : Bool) (some : 0 < used) (eu : used ≡ used_of (read_of K m)) (ed : due ≡ due_of K count (read_of K m)) where
+    form-some : form_of K count m ≡ pick (eqb used (length m)) (pick due 0 6) 21
     unfolding form_of form_by used_of due_of
-    form-some ne = go (decodes K m) refl
+    form-some = go (decodes K m) refl
       where
-        go : (b : Bool) → decodes K m ≡ b → pick (eqb used (length m)) (pick due 0 6) 21 ≡ form_of K count m
-        go false e = absurd (ne (eu ∙ ap used_of (read_none K m e)))
+        go : (b : Bool) → decodes K m ≡ b → form_of K count m ≡ pick (eqb used (length m)) (pick due 0 6) 21
+        go false e = absurd (omega (arith, eu ∙ ap used_of (read_none K m e)))
         go true e =
             let r = read_some K m e in
-            ap₂ (λ (n : ℕ) (b : Bool). pick (eqb n (length m)) (pick b 0 6) 21) (eu ∙ ap used_of r) (ed ∙ ap (due_of K count) r)
-            ∙ sym (ap (form_by K count (length m)) r)
+            ap (form_by K count (length m)) r
+            ∙ sym (ap₂ (λ (n : ℕ) (b : Bool). pick (eqb n (length m)) (pick b 0 6) 21) (eu ∙ ap used_of r) (ed ∙ ap (due_of K count) r))
 
-    pub form-after : (used ≡ 0 → ⊥) → (used ≡ length m → ⊥) → 21 ≡ form_of K count m
-    form-after ne n = sym (ap (λ (b : Bool). pick b (pick due 0 6) 21) (ne_eqb used (length m) n)) ∙ form-some ne
+    pub form-after : (used ≡ length m → ⊥) → form_of K count m ≡ 21
+    form-after n = form-some ∙ ap (λ (b : Bool). pick b (pick due 0 6) 21) (ne_eqb used (length m) n)
 
-    pub form-whole : (used ≡ 0 → ⊥) → used ≡ length m → (x : ℕ) → pick due 0 6 ≡ x → x ≡ form_of K count m
-    form-whole ne e x p = sym p ∙ sym (ap (λ (b : Bool). pick b (pick due 0 6) 21) (eq-eqb used (length m) e)) ∙ form-some ne
+    pub form-whole : used ≡ length m → form_of K count m ≡ pick due 0 6
+    form-whole e = form-some ∙ ap (λ (b : Bool). pick b (pick due 0 6) 21) (eq-eqb used (length m) e)
 
 -- ---- items of a fixed size
 and-unit : (b : Bool) → b ≡ (b && true)
@@ -142,18 +152,20 @@ module _ (size c : ℕ) (m : List ℕ) (some : 0 < size) where
     pub fixed-turn : (t pos : ℕ) → Walked I m t pos → t < count_of m → bools c (drop pos m) ≡ true → Walked I m (t + 1) (pos + size)
     fixed-turn t pos w l b =
         walked-turn I m t pos size w
-        (sym (items-some size c (drop pos m) (omega (arith, fixed-room t pos w l, length-drop pos m)) b)) (λ z. omega (arith, some, z))
+        (sym (items-some size c (drop pos m) (omega (arith, fixed-room t pos w l, length-drop pos m)) b)) some
 
     pub fixed-stop : (t pos : ℕ) → Walked I m t pos → t < count_of m → bools c (drop pos m) ≡ false → decodes I m ≡ false
     fixed-stop t pos w l b = walked_stop I m t pos 0 w (sym (items-not size c (drop pos m) b)) l refl
 
     -- the end of the list
     pub fixed-end : (count used found : ℕ) (t pos : ℕ) → Walked I m t pos → t ≡ count_of m → used ≡ vec_len size m → found ≡ count_of m
-        → (used ≡ used_of (read_of I m)) × (eqb found count ≡ due_of I count (read_of I m))
+        → (0 < used) × (used ≡ used_of (read_of I m)) × (eqb found count ≡ due_of I count (read_of I m))
     unfolding inners_due item_due
     fixed-end count used found t pos w e eu ef =
         let r = read-end I count m t pos found true w (omega arith) (e ∙ sym ef) ef (sym (all_of_lem t (λ t. true) (λ t l. refl))) in
-        (eu ∙ vec-some size m h ∙ ap (λ n. 8 + n * size) (sym e) ∙ sym (fixed-at size c m t w.items) ∙ sym w.here ∙ r.0, and-unit (eqb found count) ∙ r.1)
+        let p : used ≡ pos =
+        eu ∙ vec-some size m h ∙ ap (λ n. 8 + n * size) (sym e) ∙ sym (fixed-at size c m t w.items) ∙ sym w.here in
+        (omega (arith, p, r.0), p ∙ r.1, and-unit (eqb found count) ∙ r.2)
 
     -- without bools, every item
     pub plain-items : c ≡ 0 → (t : ℕ) → t ≤ count_of m → Walked I m t (8 + t * size)

@@ -1,4 +1,5 @@
 pub mod Format
 pub mod FormatLaws
+pub mod Found
 pub mod Read
 pub mod Examples

@@ -1,15 +1,19 @@
 // Messages read: bincode legacy lists (document 01, "Messages"), where they lie in the incoming buffer. One reader for every kind of list,
-// and one walk over a message: it tells the length used, and `form_of` 13, 21, 6 or nothing wrong; `part` hands back the part of the buffer
+// and one walk over a message: it tells the length used, and `form_of` what is wrong with it; `part` hands back the part of the buffer
 // that holds a message. The crate encode writes them. From src/channel.rs (list checks) and src/utils/serde.rs of polytune.
 #![tactic(auto)]
 
-ghost use Rattle.std.specs.Prelude.{◌≡◌, true, ℕ, ◌+◌, ◌<◌, ◌≤◌, min, length, drop};
+ghost use Rattle.std.specs.Prelude.{◌≡◌, true, ℕ, ◌+◌, ◌<◌, ◌≤◌, length, drop};
 ghost use Rattle.lists.specs.Sect.{get};
 ghost use Rattle.message.specs.Format as F;
+ghost use Rattle.message.specs.Found.{Long, Told};
 ghost use Rattle.message.specs.Read as R;
+ghost use Rattle.refusals.specs.Reason.{code_of};
+
+use refusals::Reason;
 
 // What the items of a list are.
-#[derive(Clone, Copy)]
+#[derive(Clone, Copy, Debug, PartialEq, Eq)]
 pub enum Kind {
     // A fixed number of bytes, the first few of them bools: size, bools.
     Items(usize, usize),
@@ -21,101 +25,77 @@ pub enum Kind {
     Options,
 }
 
-// The `count` bytes from `at` are bools.
+// The `count` bytes from `at` on, as far as s goes, are bools.
 fn bools(s: &[u8], at: usize, count: usize) -> bool
-    requires { at + count ≤ length s.now }
+    requires { at ≤ length s.now }
     ensures { result ≡ F.bools count (drop at s.now) }
 {
-    let mut k = 0;
-    while k < count {
-        if 1 < s[at + k] {
-            return false;
-        }
-        k += 1;
-    }
-    true
+    let end = at + count.min(s.len() - at);
+    s[at..end].iter().all(|b| *b <= 1)
 }
 
-// The bytes of the list of items of `size` bytes at `at`, 0 if there is none. No count makes the product wrap.
-fn vec_len(s: &[u8], at: usize, size: usize) -> usize
+// The bytes of the list of items of `size` bytes at `at`. No count makes the product wrap.
+fn vec_len(s: &[u8], at: usize, size: usize) -> Option<usize>
     requires { (at ≤ length s.now) × (0 < size) }
-    ensures { result ≡ F.vec_len size (drop at s.now) }
+    ensures { Long (F.vec_len size (drop at s.now)) result }
 {
     let left = s.len() - at;
     if left < 8 {
-        return 0;
+        return None;
     }
     let count = block::load64(s, at);
     let room = (left - 8) / size;
     if (room as u64) < count {
-        return 0;
+        return None;
     }
-    8 + count as usize * size
+    Some(8 + count as usize * size)
 }
 
-// The lesser of two.
-fn least(a: usize, b: usize) -> usize
-    ensures { result ≡ min a b }
-{
-    if a < b { a } else { b }
-}
-
-// The bytes of the item of `size` bytes at `at`, the first `count` of them bools; 0 if there is none.
-fn items_len(s: &[u8], at: usize, size: usize, count: usize) -> usize
+// The bytes of the item of `size` bytes at `at`, the first `count` of them bools. An item takes at least a byte.
+fn items_len(s: &[u8], at: usize, size: usize, count: usize) -> Option<usize>
     requires { at ≤ length s.now }
-    ensures { result ≡ F.item_len (Kind.Items size count) (drop at s.now) }
+    ensures { Long (F.item_len (Kind.Items size count) (drop at s.now)) result }
 {
-    let left = s.len() - at;
-    if left < size {
-        return 0;
+    if size == 0 || s.len() - at < size || !bools(s, at, count) {
+        return None;
     }
-    if bools(s, at, least(left, count)) {
-        size
-    } else {
-        0
-    }
+    Some(size)
 }
 
-// The bytes of the bucket at `at`: a list of bools and a list of Blocks; 0 if there is none.
-fn dvalue_len(s: &[u8], at: usize, due: usize) -> usize
+// The bytes of the bucket at `at`: a list of bools and a list of Blocks.
+fn dvalue_len(s: &[u8], at: usize, due: usize) -> Option<usize>
     requires { at ≤ length s.now }
-    ensures { result ≡ F.item_len (Kind.Dvalues due) (drop at s.now) }
+    ensures { Long (F.item_len (Kind.Dvalues due) (drop at s.now)) result }
 {
-    let ds = vec_len(s, at, 1);
-    if ds == 0 {
-        return 0;
+    let ds = vec_len(s, at, 1)?;
+    if !bools(s, at + 8, ds - 8) {
+        return None;
     }
-    if bools(s, at + 8, ds - 8) {
-        let macs = vec_len(s, at + ds, 16);
-        if macs == 0 { 0 } else { ds + macs }
-    } else {
-        0
-    }
+    let macs = vec_len(s, at + ds, 16)?;
+    Some(ds + macs)
 }
 
-// The bytes of the option at `at`: 0 alone, or 1 and a Block; 0 if there is none.
-fn option_len(s: &[u8], at: usize) -> usize
+// The bytes of the option at `at`: 0 alone, or 1 and a Block.
+fn option_len(s: &[u8], at: usize) -> Option<usize>
     requires { at ≤ length s.now }
-    ensures { result ≡ F.item_len Kind.Options (drop at s.now) }
+    ensures { Long (F.item_len Kind.Options (drop at s.now)) result }
 {
     let left = s.len() - at;
     if left == 0 {
-        return 0;
+        return None;
     }
-    let tag = s[at];
-    if tag == 0 {
-        return 1;
+    match s[at] {
+        0 => Some(1),
+        1 if left < 17 => None,
+        1 => Some(17),
+        _ => None,
     }
-    if tag != 1 {
-        return 0;
-    }
-    if left < 17 { 0 } else { 17 }
 }
 
-// The bytes of the item at `at`, 0 if there is none.
-fn item_len(kind: Kind, s: &[u8], at: usize) -> usize
+// The bytes of the item at `at`.
+fn item_len(kind: Kind, s: &[u8], at: usize) -> Option<usize>
     requires { at ≤ length s.now }
-    ensures { result ≡ F.item_len kind (drop at s.now) }
+    ensures { Long (F.item_len kind (drop at s.now)) result }
 {
     match kind {
         Kind::Items(size, count) => items_len(s, at, size, count),
@@ -130,11 +110,9 @@ pub fn item_at(kind: Kind, m: &[u8], t: usize) -> usize
     requires { (F.decodes kind m.now ≡ true) × (t ≤ F.count_of m.now) }
     ensures { result ≡ F.item_at kind m.now t }
 {
-    let mut k = 0;
     let mut pos = 8;
-    while k < t {
-        pos += item_len(kind, m, pos);
-        k += 1;
+    for k in 0..t {
+        pos += item_len(kind, m, pos).unwrap_or(0);
     }
     pos
 }
@@ -144,11 +122,7 @@ fn bucket_due(s: &[u8], at: usize, due: usize) -> bool
     requires { (at ≤ length s.now) × (0 < F.item_len (Kind.Dvalues due) (drop at s.now)) }
     ensures { result ≡ F.item_due (Kind.Dvalues due) (F.item_of (Kind.Dvalues due) (drop at s.now)) }
 {
-    let ds = block::load64(s, at);
-    if ds != due as u64 {
-        return false;
-    }
-    block::load64(s, at + 8 + due) == due as u64
+    block::load64(s, at) == due as u64 && block::load64(s, at + 8 + due) == due as u64
 }
 
 // The inner lists of the item at `at` have the counts that are due.
@@ -157,130 +131,89 @@ fn inner_due(kind: Kind, s: &[u8], at: usize) -> bool
     ensures { result ≡ F.item_due kind (F.item_of kind (drop at s.now)) }
 {
     match kind {
-        Kind::Items(_, _) => true,
-        Kind::Dms => true,
         Kind::Dvalues(due) => bucket_due(s, at, due),
-        Kind::Options => true,
+        _ => true,
     }
 }
 
-// What is read of a message: the length used, its count included, 0 if it doesn't decode; and whether the counts are those due.
+// What is read of a message: the length used, its count included, and whether the counts are those due.
 #[derive(Clone, Copy)]
-pub struct Reading {
-    pub used: usize,
-    pub due: bool,
+struct Reading {
+    used: usize,
+    due: bool,
 }
 
 // A list read item by item. Every item takes at least a byte, so the work is bounded by m's length, whatever the count says.
-fn read_each(kind: Kind, count: usize, m: &[u8]) -> Reading
-    ensures { (result.used ≡ F.used_of (F.read_of kind m.now)) × (result.due ≡ F.due_of kind count (F.read_of kind m.now)) }
+fn read_each(kind: Kind, count: usize, m: &[u8]) -> Option<Reading>
+    ensures { Told kind count (F.read_of kind m.now) result }
 {
     if m.len() < 8 {
-        return Reading {
-            used: 0,
-            due: false,
-        };
+        return None;
     }
     let found = block::load64(m, 0);
     let mut inner = true;
-    let mut t: u64 = 0;
     let mut pos = 8;
-    while t < found {
-        let len = item_len(kind, m, pos);
-        if len == 0 {
-            return Reading {
-                used: 0,
-                due: false,
-            };
-        }
+    for t in 0..found {
+        let len = item_len(kind, m, pos)?;
         inner = inner & inner_due(kind, m, pos);
         pos += len;
-        t += 1;
     }
-    Reading {
+    Some(Reading {
         used: pos,
         due: (found == count as u64) & inner,
-    }
+    })
 }
 
 // A list of items of a fixed size read: where they lie is known from the count, and only their bools are looked at.
-fn read_items(size: usize, flags: usize, count: usize, m: &[u8]) -> Reading
+fn read_items(size: usize, flags: usize, count: usize, m: &[u8]) -> Option<Reading>
     requires { 0 < size }
-    ensures { (result.used ≡ F.used_of (F.read_of (Kind.Items size flags) m.now))
-        × (result.due ≡ F.due_of (Kind.Items size flags) count (F.read_of (Kind.Items size flags) m.now)) }
+    ensures { Told (Kind.Items size flags) count (F.read_of (Kind.Items size flags) m.now) result }
 {
-    let used = vec_len(m, 0, size);
-    if used == 0 {
-        return Reading {
-            used: 0,
-            due: false,
-        };
-    }
+    let used = vec_len(m, 0, size)?;
     let found = block::load64(m, 0);
+    let due = found == count as u64;
     if flags == 0 {
-        return Reading {
-            used: used,
-            due: found == count as u64,
-        };
+        return Some(Reading { used, due });
     }
-    let mut k: u64 = 0;
-    let mut pos = 8;
-    while k < found {
-        if !bools(m, pos, least(m.len() - pos, flags)) {
-            return Reading {
-                used: 0,
-                due: false,
-            };
+    for k in 0..found as usize {
+        if !bools(m, 8 + k * size, flags) {
+            return None;
         }
-        pos += size;
-        k += 1;
     }
-    Reading {
-        used: used,
-        due: found == count as u64,
-    }
+    Some(Reading { used, due })
 }
 
 // The reader.
-pub fn read(kind: Kind, count: usize, m: &[u8]) -> Reading
-    ensures { (result.used ≡ F.used_of (F.read_of kind m.now)) × (result.due ≡ F.due_of kind count (F.read_of kind m.now)) }
+fn read(kind: Kind, count: usize, m: &[u8]) -> Option<Reading>
+    ensures { Told kind count (F.read_of kind m.now) result }
 {
     match kind {
-        Kind::Items(size, flags) => {
-            if size == 0 {
-                read_each(kind, count, m)
-            } else {
-                read_items(size, flags, count, m)
-            }
-        }
-        Kind::Dms => read_each(kind, count, m),
-        Kind::Dvalues(_) => read_each(kind, count, m),
-        Kind::Options => read_each(kind, count, m),
+        Kind::Items(size, flags) if size != 0 => read_items(size, flags, count, m),
+        _ => read_each(kind, count, m),
     }
 }
 
-// 13, 21 or 6 of a message, else 0: it decodes, ends where its value ends, and has the counts that are due.
-pub fn form_of(kind: Kind, count: usize, m: &[u8]) -> u8
-    ensures { result ≡ F.form_of kind count m.now }
+// What is wrong with a message: it doesn't decode, doesn't end where its value ends, or hasn't the counts that are due.
+pub fn form_of(kind: Kind, count: usize, m: &[u8]) -> Result<(), Reason>
+    ensures { code_of result ≡ F.form_of kind count m.now }
 {
-    let r = read(kind, count, m);
-    if r.used == 0 {
-        return 13;
-    }
+    let Some(r) = read(kind, count, m) else {
+        return Err(Reason::Undecodable);
+    };
     if r.used != m.len() {
-        return 21;
+        return Err(Reason::TrailingBytes);
     }
-    if r.due { 0 } else { 6 }
+    if !r.due {
+        return Err(Reason::InvalidLength);
+    }
+    Ok(())
 }
 
 // A part of `len` bytes from `start` lies within a buffer of `total` bytes.
 pub fn inside(total: usize, start: usize, len: usize) -> bool
     ensures { result ≡ R.inside total start len }
 {
-    if total < start {
-        return false;
-    }
-    len <= total - start
+    start <= total && len <= total - start
 }
 
 // The part of the incoming buffer that holds a message.
@@ -288,6 +221,5 @@ pub fn part(incoming: &[u8], start: usize, len: usize) -> &[u8]
     requires { R.inside (length incoming.now) start len ≡ true }
     ensures { result.now ≡ get start len incoming.now }
 {
-    let end = start + len;
-    &incoming[start..end]
+    &incoming[start..start + len]
 }

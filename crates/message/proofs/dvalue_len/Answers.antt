@@ -1,59 +1,49 @@
 use Rattle.std.specs.Prelude.{◌+◌, ◌≤◌}
-use Rattle.lists.specs.Kit.{arith, length}
+use Rattle.lists.specs.Kit.{sym, ◌∙◌, arith, length}
 use Rattle.message.proofs.Laws.{bucket-end, first-list, bucket-no, bucket-cut, bucket-yes, bucket-fits}
 use Rattle.message.proofs.dvalue_len.Goals as goal
-use Rattle.message.proofs.dvalue_len.Goals.{Else-ds-eq0}
+use Rattle.message.proofs.dvalue_len.Goals.{In_ok-ds}
 
-pub returns-then-ds-eq0 : goal.returns-then-ds-eq0
-returns-then-ds-eq0 c =
-    let a = c.args in
-    bucket-end a.s.now a.at a.due c.vec_len-ds.result c.vec_len-ds.ensures c.if-ds-eq0.true
+pub returns-in_err-ds : goal.returns-in_err-ds
+returns-in_err-ds c = rw c.from_residual.ensures (bucket-end c.args.s.now c.args.at c.args.due c.in_err-ds.ensures)
 
 -- the first list lies within
-within : (c : Else-ds-eq0) → let a = c.args in
-    (8 ≤ c.vec_len-ds.result) × (a.at + c.vec_len-ds.result ≤ length a.s.now)
-within c =
-    let a = c.args in
-    first-list a.s.now a.at a.due c.vec_len-ds.result c.vec_len-ds.ensures c.if-ds-eq0.false
+within : (c : In_ok-ds) → (8 ≤ c.in_ok-ds.ds) × (c.args.at + c.in_ok-ds.ds ≤ length c.args.s.now)
+within c = first-list c.args.s.now c.args.at c.args.due c.in_ok-ds.ds c.in_ok-ds.ensures.0 c.in_ok-ds.ensures.1
 
 pub overflow_sub-ds : goal.overflow_sub-ds
-overflow_sub-ds c = (within (goal.at.overflow_sub-ds c).Else-ds-eq0).0
+overflow_sub-ds c = omega (arith, within (goal.at.overflow_sub-ds c).In_ok-ds)
 
 pub bools-requires : goal.bools-requires
-bools-requires c = omega (arith, within (goal.at.bools-requires c).Else-ds-eq0)
+bools-requires c = omega (arith, within (goal.at.bools-requires c).In_ok-ds)
 
-pub overflow_add-at-then-bools : goal.overflow_add-at-then-bools
-overflow_add-at-then-bools c = omega (arith, within (goal.at.overflow_add-at-then-bools c).Else-ds-eq0)
+pub returns-then-not-bools : goal.returns-then-not-bools
+returns-then-not-bools c =
+    bucket-no c.args.s.now c.args.at c.args.due c.in_ok-ds.ds c.in_ok-ds.ensures.0 c.in_ok-ds.ensures.1
+    (sym c.bools.ensures ∙ c.if-not-bools.true)
 
-pub vec_len-macs-requires : goal.vec_len-macs-requires
-vec_len-macs-requires c = omega (arith, within (goal.at.vec_len-macs-requires c).Else-ds-eq0)
+pub overflow_add-at-2 : goal.overflow_add-at-2
+overflow_add-at-2 c = omega (arith, within (goal.at.overflow_add-at-2 c).In_ok-ds)
+
+pub vec_len-requires-2 : goal.vec_len-requires-2
+vec_len-requires-2 c = (omega (arith, within (goal.at.vec_len-requires-2 c).In_ok-ds), omega arith)
+
+pub returns-in_err-macs : goal.returns-in_err-macs
+returns-in_err-macs c =
+    rw c.from_residual-in_err-macs.ensures
+    (bucket-cut c.args.s.now c.args.at c.args.due c.in_ok-ds.ds c.in_ok-ds.ensures.0 c.in_ok-ds.ensures.1 c.in_err-macs.ensures)
 
 pub overflow_add-result : goal.overflow_add-result
 overflow_add-result c =
-    let a = c.args in
     omega (
       arith,
-      bucket-fits a.s.now a.at a.due c.vec_len-ds.result c.vec_len-ds.ensures c.if-ds-eq0.false
-          c.bools.result c.bools.ensures
-          c.vec_len-macs.result c.vec_len-macs.ensures,
+      bucket-fits c.args.s.now c.args.at c.args.due c.in_ok-ds.ds c.in_ok-ds.ensures.0 c.in_ok-ds.ensures.1 c.in_ok-macs.macs
+          c.in_ok-macs.ensures.0,
     )
 
-pub returns-then-macs-eq0 : goal.returns-then-macs-eq0
-returns-then-macs-eq0 c =
-    let a = c.args in
-    bucket-cut a.s.now a.at a.due c.vec_len-ds.result c.vec_len-ds.ensures c.if-ds-eq0.false
-    c.bools.result c.bools.ensures
-    c.vec_len-macs.result c.vec_len-macs.ensures c.if-macs-eq0.true
-
-pub returns-else-macs-eq0 : goal.returns-else-macs-eq0
-returns-else-macs-eq0 c =
-    let a = c.args in
-    bucket-yes a.s.now a.at a.due c.vec_len-ds.result c.vec_len-ds.ensures c.if-ds-eq0.false
-    c.bools.result c.bools.ensures
-    c.vec_len-macs.result c.vec_len-macs.ensures c.if-bools.true c.if-macs-eq0.false
-
-pub returns-else-bools : goal.returns-else-bools
-returns-else-bools c =
-    let a = c.args in
-    bucket-no a.s.now a.at a.due c.vec_len-ds.result c.vec_len-ds.ensures c.if-ds-eq0.false
-    c.bools.result c.bools.ensures c.if-bools.false
+pub returns : goal.returns
+returns c = (
+  bucket-yes c.args.s.now c.args.at c.args.due c.in_ok-ds.ds c.in_ok-ds.ensures.0 c.in_ok-ds.ensures.1 c.in_ok-macs.macs
+      c.in_ok-macs.ensures.0 (sym c.bools.ensures ∙ c.if-not-bools.false) c.in_ok-macs.ensures.1,
+  omega (arith, c.in_ok-ds.ensures.1),
+)

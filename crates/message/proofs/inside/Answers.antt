@@ -1,14 +1,11 @@
-use Rattle.std.specs.Prelude.{◌+◌}
-use Rattle.lists.specs.Kit.{sym, arith}
-use borrow.Author.Tests.{lt-leb}
 use Rattle.message.specs.Read as R
-use Rattle.message.proofs.Laws.{inside-test}
+use Rattle.message.proofs.Laws.{inside-test, inside-past}
 use Rattle.message.proofs.inside.Goals as goal
 
-pub returns-then-total-start : goal.returns-then-total-start
+pub returns-then-start-total : goal.returns-then-start-total
 unfolding R.inside
-returns-then-total-start c = let a = c.args in sym (lt-leb (a.start + a.len) a.total (omega arith))
+returns-then-start-total c = inside-test c.args.total c.args.start c.args.len c.if-start-total.true
 
-pub returns : goal.returns
+pub returns-else-start-total : goal.returns-else-start-total
 unfolding R.inside
-returns c = let a = c.args in inside-test a.total a.start a.len c.if-total-start.false
+returns-else-start-total c = inside-past c.args.total c.args.start c.args.len c.if-start-total.false

@@ -11,8 +11,8 @@ within : (c : Start) → c.args.start + c.args.len ≤ length c.args.incoming.no
 unfolding R.inside
 within c = leb-true (c.args.start + c.args.len) (length c.args.incoming.now) c.requires
 
-pub overflow_add-end : goal.overflow_add-end
-overflow_add-end c = omega (arith, within (goal.at.overflow_add-end c).Start)
+pub overflow_add-result : goal.overflow_add-result
+overflow_add-result c = omega (arith, within (goal.at.overflow_add-result c).Start)
 
 pub slice_bounds-result-end : goal.slice_bounds-result-end
 slice_bounds-result-end c = omega (arith, within (goal.at.slice_bounds-result-end c).Start)

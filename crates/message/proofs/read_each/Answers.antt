@@ -1,69 +1,47 @@
-use Rattle.std.specs.Prelude.{◌≡◌, ◌+◌, ◌-◌, ◌≤◌}
-use Rattle.lists.specs.Kit.{arith, length, rules}
-use Rattle.message.specs.FormatLaws.{decodes-short}
-use Rattle.message.proofs.Walk.{walked_start, walked-room, walked-turn, walked_stop, inners-none, inners-turn, read-bad}
-use Rattle.message.proofs.Walk.{read-end}
+use Rattle.std.specs.Prelude.{◌≡◌}
+use Rattle.lists.specs.Kit.{sym, arith}
+use Rattle.message.specs.FormatLaws.{decodes-short, read_none}
+use Rattle.message.proofs.Walk.{walked_start, walked-room, walked-turn, walked_stop, inners-none, inners-turn, read-end}
 use Rattle.message.proofs.read_each.Goals as goal
-use Rattle.message.proofs.read_each.Goals.{Else-len-eq0}
 
 pub returns-then-m-lt8 : goal.returns-then-m-lt8
-returns-then-m-lt8 c =
-    let a = c.args in read-bad a.kind a.count a.m.now (decodes-short a.kind a.m.now c.if-m-lt8.true)
-
-pub load64-found-requires : goal.load64-found-requires
-load64-found-requires c = search rules
+returns-then-m-lt8 c = read_none c.args.kind c.args.m.now (decodes-short c.args.kind c.args.m.now c.if-m-lt8.true)
 
 pub loop-t-init : goal.loop-t-init
-loop-t-init c =
-    let a = c.args in
-    (search rules, (walked_start a.kind a.m.now c.if-m-lt8.false, inners-none a.kind a.m.now))
+loop-t-init c = (walked_start c.args.kind c.args.m.now c.if-m-lt8.false, inners-none c.args.kind c.args.m.now)
 
-pub item_len-len-requires : goal.item_len-len-requires
-item_len-len-requires c = search rules
+pub item_len-requires : goal.item_len-requires
+item_len-requires c = c.loop-t.invariant.0.fits
 
-pub returns-then-len-eq0 : goal.returns-then-len-eq0
-returns-then-len-eq0 c =
-    let a = c.args in
-    read-bad a.kind a.count a.m.now
-    (walked_stop a.kind a.m.now c.loop-t.t c.loop-t.pos c.item_len-len.result c.loop-t.invariant.1.0 c.item_len-len.ensures
-    (omega (arith, c.load64-found.ensures, c.loop-t-test.true)) c.if-len-eq0.true)
-
--- the item lies within
-room : (c : Else-len-eq0) → c.loop-t.pos + c.item_len-len.result ≤ length c.args.m.now
-room c =
-    let a = c.args in
-    walked-room a.kind a.m.now c.loop-t.t c.loop-t.pos c.item_len-len.result c.loop-t.invariant.1.0
-    c.item_len-len.ensures
+pub returns-in_err-len : goal.returns-in_err-len
+returns-in_err-len c =
+    rw c.from_residual.ensures
+    (read_none c.args.kind c.args.m.now
+    (walked_stop c.args.kind c.args.m.now c.loop-t.t c.loop-t.pos 0 c.loop-t.invariant.0 (sym c.in_err-len.ensures)
+    (omega (arith, c.load64-found.ensures, c.loop-t-test.true)) (omega arith)))
 
 pub inner_due-inner-requires : goal.inner_due-inner-requires
-inner_due-inner-requires c =
-    (c.loop-t.invariant.1.0.fits, omega (arith, c.item_len-len.ensures, c.if-len-eq0.false))
+inner_due-inner-requires c = (c.loop-t.invariant.0.fits, omega (arith, c.in_ok-len.ensures.0, c.in_ok-len.ensures.1))
 
 pub overflow_add-pos : goal.overflow_add-pos
-overflow_add-pos c = omega (arith, room (goal.at.overflow_add-pos c).Else-len-eq0)
-
-pub overflow_add-t : goal.overflow_add-t
-overflow_add-t c = search rules
-
-pub loop-t-smaller : goal.loop-t-smaller
-loop-t-smaller c = omega (arith, room (goal.at.loop-t-smaller c).Else-len-eq0, c.if-len-eq0.false)
+overflow_add-pos c =
+    omega (
+      arith,
+      walked-room c.args.kind c.args.m.now c.loop-t.t c.loop-t.pos c.in_ok-len.len c.loop-t.invariant.0 c.in_ok-len.ensures.0,
+    )
 
 pub loop-t-preserved : goal.loop-t-preserved
 loop-t-preserved c =
     let a = c.args in
-    let w = c.loop-t.invariant.1.0 in (
-      search rules,
-      (
-        walked-turn a.kind a.m.now c.loop-t.t c.loop-t.pos c.item_len-len.result w c.item_len-len.ensures
-            c.if-len-eq0.false,
-        inners-turn a.kind a.m.now c.loop-t.t c.loop-t.pos w c.loop-t.inner c.inner_due-inner.result c.loop-t.invariant.1.1
-            c.inner_due-inner.ensures,
-      ),
+    let w = c.loop-t.invariant.0 in (
+      walked-turn a.kind a.m.now c.loop-t.t c.loop-t.pos c.in_ok-len.len w c.in_ok-len.ensures.0 c.in_ok-len.ensures.1,
+      inners-turn a.kind a.m.now c.loop-t.t c.loop-t.pos w c.loop-t.inner c.inner_due-inner.result c.loop-t.invariant.1
+          c.inner_due-inner.ensures,
     )
 
 pub returns : goal.returns
 returns c =
     let a = c.args in
     let e : c.loop-t.t ≡ c.load64-found.result = omega arith in
-    read-end a.kind a.count a.m.now c.loop-t.t c.loop-t.pos c.load64-found.result c.loop-t.inner c.loop-t.invariant.1.0
-    c.if-m-lt8.false e c.load64-found.ensures c.loop-t.invariant.1.1
+    read-end a.kind a.count a.m.now c.loop-t.t c.loop-t.pos c.load64-found.result c.loop-t.inner c.loop-t.invariant.0 c.if-m-lt8.false e
+    c.load64-found.ensures c.loop-t.invariant.1

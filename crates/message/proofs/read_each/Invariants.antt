@@ -1,11 +1,7 @@
-use Rattle.std.specs.Prelude.{◌≡◌, ◌-◌, ◌≤◌}
-use Rattle.lists.specs.Kit.{length}
+use Rattle.std.specs.Prelude.{◌≡◌}
 use Rattle.message.specs.FormatLaws.{inners_due}
 use Rattle.message.proofs.Walk.{Walked}
 use Rattle.message.proofs.read_each.Given as goal
 
 abbrev pub invariant-loop-t : goal.invariant-loop-t
-invariant-loop-t l = (l.t ≤ l.found) × (Walked l.kind l.m l.t l.pos × (l.inner ≡ inners_due l.kind l.t l.m))
-
-abbrev pub decreases-loop-t : goal.decreases-loop-t
-decreases-loop-t l = length l.m - l.pos
+invariant-loop-t l = Walked l.kind l.m l.t l.pos × (l.inner ≡ inners_due l.kind l.t l.m)
