@@ -1,5 +1,7 @@
 -- The lengths and forms as the table has them are those of the plan; what follows for a call that is not refused; messages by a mail.
-use Rattle.std.specs.Prelude.{◌≡◌, ◌≢◌, Bool, false, not, ◌&&◌, ◌||◌, ℕ, ◌+◌, ◌-◌, ◌*◌, ◌<◌, ◌≤◌, length, set, replicate, ltb, leb}
+use Rattle.std.specs.Prelude.{◌≡◌, ◌≢◌, ◌++◌, ⊤, Result, drop, Bool, false, not, ◌&&◌, ◌||◌, ℕ, ◌+◌, ◌-◌, ◌*◌, ◌<◌, ◌≤◌, length, set, replicate, ltb, leb}
+use Rattle.engine.specs.declared.Refusal.{Refusal}
+use Rattle.lists.specs.Tab.{tab-get_or}
 use Rattle.std.proofs.Math.Path.{refl, sym, ap, ap₂, fun_ext}
 use Rattle.std.proofs.Common.{◌∙◌, subst, arith}
 use Rattle.std.proofs.Math.Bool.{true}
@@ -150,21 +152,12 @@ parts-any incoming starts lens missing r out f = refl
 
 -- ---- the parts lie inside
 module _ (n l i : ℕ) (q : Lent) where
-  parts_are : parts_in (frame n l i) q ≡ all_of n (fits i q)
+  pub parts_are : all_of n (fits i q) ≡ parts_in (frame n l i) q
   unfolding parts_in fits
-  parts_are = all-ext n _ _ (λ k h. ap (λ b. pick b (pick (gone q k) true (inside q k)) true) (other-neq (frame n l i) k h))
-
-  pub parts-bad : (k : ℕ) → k < n → fits i q k ≡ false → false ≡ parts_in (frame n l i) q
-  parts-bad k h e = sym (parts_are ∙ all-false n (fits i q) k h e)
-
-  pub parts-end : (k : ℕ) → k ≡ n → all_of k (fits i q) ≡ true → true ≡ parts_in (frame n l i) q
-  parts-end k e h = sym (parts_are ∙ ap (λ m. all_of m (fits i q)) (sym e) ∙ h)
+  parts_are = sym (all-ext n _ _ (λ k h. ap (λ b. pick b (pick (gone q k) true (inside q k)) true) (other-neq (frame n l i) k h)))
 
   pub parts-fit : parts_in (frame n l i) q ≡ true → (k : ℕ) → k < n → fits i q k ≡ true
-  parts-fit h = of-all n (fits i q) (sym parts_are ∙ h)
-
-pub fits-turn : (i : ℕ) (q : Lent) (k : ℕ) → all_of k (fits i q) ≡ true → fits i q k ≡ true → all_of (k + 1) (fits i q) ≡ true
-fits-turn i q k h e = all-turn k (fits i q) ∙ ap₂ ◌&&◌ h e
+  parts-fit h = of-all n (fits i q) (parts_are ∙ h)
 
 module _ (i : ℕ) (q : Lent) (k : ℕ) where
   pub fits-own : k ≡ i → true ≡ fits i q k
@@ -201,25 +194,19 @@ module _ (i : ℕ) (q : Lent) (k : ℕ) where
   fault-there K c h x e = rw (eq-eqb _ _ h) (e ∙ ap (Format.form_of K c) (sym (part-is q k)))
 
 -- ---- a number for each party, one after another in eight
-module _ (g : ℕ → ℕ) where
-  pub eight-none : replicate 8 0 ≡ eight 0 g
-  eight-none = tab-zero g (replicate 8 0)
+eight-at : (g : ℕ → ℕ) (n j : ℕ) → j < n → get_or (eight n g) j 0 ≡ g j
+eight-at g n j h = get_or-append (tab n g) _ 0 j (omega (arith, length-tab n g)) ∙ get_or-tab n j g 0 h
 
-  pub eight-turn : (j : ℕ) (d : List ℕ) (x : ℕ) → j < 8 → d ≡ eight j g → x ≡ g j → set d j x ≡ eight (j + 1) g
-  eight-turn j d x h e ex = ap₂ (λ (y : List ℕ) v. set y j v) e ex ∙ tab-step j g (replicate 8 0) h
-
-  pub eight-end : (n j : ℕ) (d : List ℕ) → d ≡ eight j g → j ≡ n → d ≡ eight n g
-  eight-end n j d e h = e ∙ ap (λ m. eight m g) h
-
-  eight-at : (n j : ℕ) → j < n → get_or (eight n g) j 0 ≡ g j
-  eight-at n j h = get_or-append (tab n g) _ 0 j (omega (arith, length-tab n g)) ∙ get_or-tab n j g 0 h
+-- n numbers in place of the first of eight
+pub eight-is : (s : List ℕ) (n : ℕ) → length s ≡ n → s ++ drop n (replicate 8 0) ≡ eight n (λ k. get_or s k 0)
+eight-is s n h = ap (λ (x : List ℕ). x ++ drop n (replicate 8 0)) (sym (tab-get_or s 0) ∙ ap (λ m. tab m (λ k. get_or s k 0)) h)
 
 -- ---- the messages by a mail
 -- what the loop looks at is what the table says
-pub form-found : (n i l k : ℕ) (q : Lent) (K : Kind) (c : ℕ) → K ≡ kind_of l k → c ≡ count_due n l k → (x p : ℕ)
-    → Finds x p (by_party (frame n l i) (kind_fault K c q)) → Finds x p (by_party (frame n l i) (form_fault (rule_of table k) (frame n l i) q))
-form-found n i l k q K c eK ec x p h =
-    subst (λ (g : ℕ → ℕ). Finds x p (by_party (frame n l i) g))
+pub form-found : (n i l k : ℕ) (q : Lent) (K : Kind) (c : ℕ) → K ≡ kind_of l k → c ≡ count_due n l k → (v : Result ⊤ Refusal)
+    → Finds v (by_party (frame n l i) (kind_fault K c q)) → Finds v (by_party (frame n l i) (form_fault (rule_of table k) (frame n l i) q))
+form-found n i l k q K c eK ec v h =
+    subst (λ (g : ℕ → ℕ). Finds v (by_party (frame n l i) g))
     (fun_ext (λ j. ap₂ (λ X y. kind_fault X y q j) eK ec ∙ sym (fault-is k n l i q j))) h
 
 -- where no message has a fault of form, a round is lent this

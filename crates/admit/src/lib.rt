@@ -1,9 +1,10 @@
 // What a round call refuses before it looks at what was received (document 01, "Round call: 20, 19, 17, 18"; 18 no longer occurs since 02,
-// order 6): it leaves everything as it was. 14, 13, 21 and 6: crate form. The definitions are those of crates/engine (Step, Plain) over the table of crates/rounds. Nothing here is
-// secret. A host may lend anything: every number is taken as it comes, and no sum wraps.
+// order 6): it leaves everything as it was. 14, 13, 21 and 6: crate form. The definitions are those of crates/engine (Step, Plain) over the
+// table of crates/rounds. Nothing here is secret. A host may lend anything: every number is taken as it comes, and no sum wraps.
 #![tactic(auto)]
 
 ghost use Rattle.std.specs.Prelude.{◌≡◌, true, ◌&&◌, [], ℕ, ◌<◌, ◌≤◌, length, eqb};
+ghost use Rattle.refusals.specs.Reason.{code_of};
 ghost use Rattle.plan.specs.Plan.{InRange};
 ghost use Rattle.engine.specs.Step.{frame, parts_in, reason_of};
 ghost use Rattle.engine.specs.Plain.{protocol_of, lent_of};
@@ -12,7 +13,8 @@ ghost use Rattle.rounds.specs.Table as T;
 ghost use Rattle.rounds.specs.Table.{table};
 ghost use Rattle.admit.specs.Admit.{loan, given, lengths_fit, fits};
 
-use engine::Session;
+use engine::{Frame, Session};
+use refusals::Reason;
 
 // ---- 20
 
@@ -27,11 +29,8 @@ fn fine(n: usize, i: usize, l: usize) -> bool
 pub fn alive(s: Session) -> bool
     ensures { result ≡ (protocol_of table).alive s }
 {
-    let party = s.party;
-    let counts = s.counts;
-    let n = party.n;
-    let l = party.l;
-    fine(n, party.i, l) & batches::are_whole(l, counts) & plan::is_round(n, s.due)
+    let Frame { n, i, l } = s.party;
+    fine(n, i, l) & batches::are_whole(l, s.counts) & plan::is_round(n, s.due)
 }
 
 // ---- 17 of what is lent
@@ -44,18 +43,21 @@ fn r_fits(r: usize, l: usize) -> bool
     (r == plan::r_len(l)) | draw::is_seed(r)
 }
 
-// 17 of the r Blocks that are lent with the call for round k, or 0. They are due by the round that it writes.
-pub fn lent(k: usize, n: usize, l: usize, r: &[u8]) -> u8
+// The r Blocks that are lent with the call for round k are as many as are due. They are due by the round that it writes.
+pub fn lent(k: usize, n: usize, l: usize, r: &[u8]) -> Result<(), Reason>
     requires { InRange n l }
-    ensures { result ≡ lent_of table k n l (loan r.now) }
+    ensures { code_of result ≡ lent_of table k n l (loan r.now) }
 {
-    if plan::next_round(n, k) == plan::FABITN {
-        if r_fits(r.len(), l) {
-            return 0;
-        }
-        return 17;
+    let due = if plan::next_round(n, k) == plan::FABITN {
+        r_fits(r.len(), l)
+    } else {
+        r.len() == 0
+    };
+    if due {
+        Ok(())
+    } else {
+        Err(Reason::WrongBuffer)
     }
-    if r.len() == 0 { 0 } else { 17 }
 }
 
 // ---- 17 of the buffers
@@ -112,20 +114,13 @@ fn parts_in(
     requires { (length starts.now ≡ n) × (length lens.now ≡ n) × (length missing.now ≡ n) }
     ensures { (l : ℕ) → result ≡ parts_in (frame n l i) (given incoming.now starts.now lens.now missing.now [] []) }
 {
-    let mut k = 0;
-    while k < n {
-        if !part_in(incoming, starts, lens, missing, i, k) {
-            return false;
-        }
-        k += 1;
-    }
-    true
+    lists::all_of(n, |k| part_in(incoming, starts, lens, missing, i, k))
 }
 
 // ---- the call
 
-// The first reason to refuse the call for round k, 0 for none.
-pub fn reason(
+// The first reason to refuse the call for round k.
+pub fn check(
     s: Session,
     k: usize,
     incoming: &[u8],
@@ -135,21 +130,17 @@ pub fn reason(
     r: &[u8],
     work: &[u8],
     out: &[u8],
-) -> u8
-    ensures { result ≡ reason_of (protocol_of table) s k
+) -> Result<(), Reason>
+    ensures { code_of result ≡ reason_of (protocol_of table) s k
         (given incoming.now starts.now lens.now missing.now r.now out.now)
         work.now }
 {
-    let party = s.party;
-    let n = party.n;
-    let i = party.i;
-    let l = party.l;
-    let due = s.due;
+    let Frame { n, i, l } = s.party;
     if !alive(s) {
-        return 20;
+        return Err(Reason::NoSession);
     }
-    if k != due {
-        return 19;
+    if k != s.due {
+        return Err(Reason::WrongRound);
     }
     if !lengths(
         n,
@@ -161,10 +152,10 @@ pub fn reason(
         lens.len(),
         missing.len(),
     ) {
-        return 17;
+        return Err(Reason::WrongBuffer);
     }
     if !parts_in(incoming, starts, lens, missing, n, i) {
-        return 17;
+        return Err(Reason::WrongBuffer);
     }
     lent(k, n, l, r)
 }

@@ -30,6 +30,8 @@ pub enum Reason {
     TooMany = 16,
     // "a lent buffer of a wrong length, or a message part outside it"
     WrongBuffer = 17,
+    // "the list is no permutation of 0 to l·b − 1": it no longer occurs (02, order 6)
+    NoPermutation = 18,
     // "a call for another round than the one due"
     WrongRound = 19,
     // "the session is done or ended"
@@ -79,6 +81,7 @@ impl TryFrom<u8> for Reason {
             15 => Ok(Reason::PartyOutOfRange),
             16 => Ok(Reason::TooMany),
             17 => Ok(Reason::WrongBuffer),
+            18 => Ok(Reason::NoPermutation),
             19 => Ok(Reason::WrongRound),
             20 => Ok(Reason::NoSession),
             21 => Ok(Reason::TrailingBytes),

@@ -1,40 +1,33 @@
 -- `admit::lent` meets its contract.
 use Rattle.std.specs.Prelude.{◌≡◌}
-use Rattle.lists.specs.Kit.{refl, sym, ap, ℕ, length}
-use lib.Dec.{eqb}
-use borrow.Author.Tests.{eq-eqb, ne_eqb}
+use Rattle.lists.specs.Kit.{sym, ap, ◌∙◌, ℕ, Bool}
 use Rattle.lists.specs.Pick.{pick}
 use Rattle.engine.specs.Plain.{lent_of}
 use Rattle.rounds.specs.Table.{table}
 use Rattle.admit.specs.Admit.{loan}
 use Rattle.admit.proofs.AdmitLaws.{lent_of_lem, lent-r, lent-rest}
 use Rattle.admit.proofs.lent.Goals as goal
-use Rattle.admit.proofs.lent.Goals.{After-r_fits, Else-next_round-eq-FABITN}
+use Rattle.admit.proofs.lent.Goals.{Joined-next_round-eq-FABITN, then-next_round-eq-FABITN, else-next_round-eq-FABITN}
 
--- `fabitn` is written
-
-strings : (c : After-r_fits) → (x : ℕ) → x ≡ pick c.r_fits.result 0 17
+-- by what is due
+answers : (c : Joined-next_round-eq-FABITN) → (x : ℕ) → x ≡ pick c.if-next_round-eq-FABITN.due 0 17
     → x ≡ lent_of table c.args.k c.args.n c.args.l (loan c.args.r.now)
-strings c x e =
-    lent_of_lem c.args.k c.args.n c.args.l c.next_round.result x (loan c.args.r.now) c.next_round.ensures
-    (lent-r c.next_round.result c.args.n c.args.l c.args.r.now c.if-next_round-eq-FABITN.true x c.r_fits.result c.r_fits.ensures e)
+answers c x e =
+    let j = c.next_round.result in
+    let n = c.args.n in
+    let l = c.args.l in
+    let r = c.args.r.now in
+    let due = c.if-next_round-eq-FABITN.due in
+    elim c.if-next_round-eq-FABITN.branch [
+      | then-next_round-eq-FABITN w ↦
+          lent_of_lem c.args.k n l j x (loan r) c.next_round.ensures
+          (lent-r j n l r w.if-next_round-eq-FABITN.true x due (w.due-is ∙ w.r_fits-due.ensures) e)
+      | else-next_round-eq-FABITN w ↦
+          lent_of_lem c.args.k n l j x (loan r) c.next_round.ensures (lent-rest j n l r w.if-next_round-eq-FABITN.false x due w.due-is e)
+    ]
 
-pub returns-then-r_fits : goal.returns-then-r_fits
-returns-then-r_fits c = strings (goal.at.returns-then-r_fits c).After-r_fits 0 (ap (λ b. pick {A = ℕ} b 0 17) (sym c.if-r_fits.true))
+pub returns-then-due : goal.returns-then-due
+returns-then-due c = answers (goal.at.returns-then-due c).Joined-next_round-eq-FABITN 0 (ap (λ (b : Bool). pick {A = ℕ} b 0 17) (sym c.if-due.true))
 
-pub returns-then-next_round-eq-FABITN : goal.returns-then-next_round-eq-FABITN
-returns-then-next_round-eq-FABITN c = strings (goal.at.returns-then-next_round-eq-FABITN c).After-r_fits 17 (ap (λ b. pick {A = ℕ} b 0 17) (sym c.if-r_fits.false))
-
--- another round, or none
-
-rest : (c : Else-next_round-eq-FABITN) → (x : ℕ) → x ≡ pick (eqb (length c.args.r.now) 0) 0 17
-    → x ≡ lent_of table c.args.k c.args.n c.args.l (loan c.args.r.now)
-rest c x e =
-    lent_of_lem c.args.k c.args.n c.args.l c.next_round.result x (loan c.args.r.now) c.next_round.ensures
-    (lent-rest c.next_round.result c.args.n c.args.l c.args.r.now c.if-next_round-eq-FABITN.false x _ refl e)
-
-pub returns-then-r-eq0 : goal.returns-then-r-eq0
-returns-then-r-eq0 c = rest (goal.at.returns-then-r-eq0 c).Else-next_round-eq-FABITN 0 (ap (λ b. pick {A = ℕ} b 0 17) (sym (eq-eqb _ 0 c.if-r-eq0.true)))
-
-pub returns-else-r-eq0 : goal.returns-else-r-eq0
-returns-else-r-eq0 c = rest (goal.at.returns-else-r-eq0 c).Else-next_round-eq-FABITN 17 (ap (λ b. pick {A = ℕ} b 0 17) (sym (ne_eqb _ 0 c.if-r-eq0.false)))
+pub returns-else-due : goal.returns-else-due
+returns-else-due c = answers (goal.at.returns-else-due c).Joined-next_round-eq-FABITN 17 (ap (λ (b : Bool). pick {A = ℕ} b 0 17) (sym c.if-due.false))
