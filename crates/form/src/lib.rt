@@ -61,8 +61,6 @@ pub fn form(incoming: &[u8], mail: Mail, missing: &[u8], f: Frame, k: usize) -> 
 {
     let kind = plan::kind_of(f.l, k);
     let count = plan::count_due(f.n, f.l, k);
-    rounds::by_party(
-        f,
-        |j| form_one(incoming, mail, missing, kind, count, f.i, j),
-    )
+    let check = |j| form_one(incoming, mail, missing, kind, count, f.i, j);
+    rounds::by_party(f, check)
 }

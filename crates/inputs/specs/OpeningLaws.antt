@@ -1,5 +1,8 @@
 -- Opening by the case it falls into.
-use Rattle.std.specs.Prelude.{◌≡◌, Bool, ◌&&◌, ◌≢◌, List, ℕ, ◌+◌, ◌-◌, ◌*◌, length, get_or}
+use Rattle.refusals.specs.declared.Reason.{Reason}
+use Rattle.refusals.specs.Reason.{number, code_of, number-some}
+use Rattle.std.specs.Result.{result_and}
+use Rattle.std.specs.Prelude.{◌≡◌, ⊤, Result, Ok, Err, Bool, ◌&&◌, ◌≢◌, List, ℕ, ◌+◌, ◌-◌, ◌*◌, length, get_or}
 use Rattle.std.proofs.Math.Path.{refl, sym, ap, ap₂}
 use Rattle.std.proofs.Common.{◌∙◌, arith}
 use Rattle.std.proofs.Math.Bool.{true, false}
@@ -32,6 +35,12 @@ pub or_right : (x y : ℕ) → x ≡ 0 → or_fault x y ≡ y
 unfolding or_fault
 or_right x y h = rw (eq-eqb x 0 h) refl
 
+-- the first of two refusals
+pub code-and : (a b : Result ⊤ Reason) → code_of (result_and a b) ≡ or_fault (code_of a) (code_of b)
+unfolding or_fault
+code-and (Ok _) b = refl
+code-and (Err r) b = sym (or_left (number r) (code_of b) (number-some r))
+
 and-true : (b : Bool) → b ≡ (b && true)
 and-true true = refl
 and-true false = refl
@@ -46,20 +55,15 @@ and-6 p q r s t u e =
     let b = and-3 (p && q) r s a.0 in
     (and_first p q b.0, and_second p q b.0, b.1, b.2, a.1, a.2)
 
--- ---- the rows of the masks
-module _ (f : Frame) (masks : List ℕ) (k : ℕ) (good : Bool) (h : good ≡ all_of k (row? f masks)) where
-  pub row_other : (count : ℕ) (r : Bool) → f.i ≢ k → count ≡ leaky f.l → r ≡ all_of count (λ t. leb (get_or masks (k * count + t) 0) 1)
-      → (good && r) ≡ all_of (k + 1) (row? f masks)
-  unfolding row?
-  row_other count r ne e hr =
-      all_more (row? f masks) k good r h
-      (hr ∙ ap (λ m. all_of m (λ t. leb (get_or masks (k * m + t) 0) 1)) e ∙ rw (neq-true f.i k ne) refl)
+-- ---- a row of the masks
+pub row-own : (f : Frame) (masks : List ℕ) (k : ℕ) → f.i ≡ k → true ≡ row? f masks k
+unfolding row?
+row-own f masks k e = rw (e, neq-self k) refl
 
-  pub row-own : f.i ≡ k → good ≡ all_of (k + 1) (row? f masks)
-  unfolding row?
-  row-own e =
-      let own : true ≡ row? f masks k = rw (e, neq-self k) refl in
-      h ∙ and-true (all_of k (row? f masks)) ∙ ap (λ b. all_of k (row? f masks) && b) own ∙ sym (all-turn k (row? f masks))
+pub row_other : (f : Frame) (masks : List ℕ) (k count : ℕ) (r : Bool) → f.i ≢ k → count ≡ leaky f.l
+    → r ≡ all_of count (λ t. leb (get_or masks (k * count + t) 0) 1) → r ≡ row? f masks k
+unfolding row?
+row_other f masks k count r ne e h = h ∙ ap (λ m. all_of m (λ t. leb (get_or masks (k * m + t) 0) 1)) e ∙ rw (neq-true f.i k ne) refl
 
 -- ---- the chain of the definition
 -- p: n and i are in range; counts: what is refused of the counts. What stands behind these tests may lean on them.

@@ -6,15 +6,17 @@
 ghost use Rattle.std.specs.Prelude.{◌≡◌, ◌+◌, ◌*◌, ◌≤◌, ◌<◌, length, get_or, leb};
 ghost use Rattle.lists.specs.All.{all_of};
 ghost use Rattle.lists.specs.Pick.{pick};
+ghost use Rattle.refusals.specs.Reason.{number, code_of};
 ghost use Rattle.rounds.specs.Area.{MASKS, size_of};
-ghost use Rattle.rounds.specs.Opening.{or_fault, lengths_fault};
+ghost use Rattle.rounds.specs.Opening.{lengths_fault};
 ghost use Rattle.area.specs.Given.{Ranged};
-ghost use Rattle.inputs.specs.Given.{Counted, lists?, buffers?, masks?, bytes_of, found_at, Lists};
+ghost use Rattle.inputs.specs.Given.{Counted, lists?, buffers?, row?, masks?, bytes_of, found_at, Lists};
 
 use engine::Frame;
+use refusals::Reason;
 
 // The lengths of what is lent.
-#[derive(Clone, Copy)]
+#[derive(Clone, Copy, Debug, PartialEq, Eq)]
 pub struct Lens {
     pub delta: usize,
     pub seed: usize,
@@ -27,18 +29,11 @@ pub struct Lens {
     pub out: usize,
 }
 
-// `code` where something isn't as it is due, else 0.
-fn unless(due: bool, code: u8) -> u8
-    ensures { result ≡ pick due 0 code }
+// Refused for a reason where something isn't as it is due.
+fn unless(due: bool, reason: Reason) -> Result<(), Reason>
+    ensures { code_of result ≡ pick due 0 (number reason) }
 {
-    if due { 0 } else { code }
-}
-
-// The first of two reasons, where 0 is none.
-fn first(a: u8, b: u8) -> u8
-    ensures { result ≡ or_fault a b }
-{
-    if a == 0 { b } else { a }
+    if due { Ok(()) } else { Err(reason) }
 }
 
 // Whether the share lists are as long as they should.
@@ -67,30 +62,34 @@ fn buffers_due(f: Frame, v: Lens) -> bool
 
 // The first reason that the numbers and the lengths give, 15, that of the counts, 6, 17, by the lengths of the share lists and whether the
 // rest is as long as it should. Where n or the counts are refused, the lengths due mean nothing.
-pub fn lengths_fault(f: Frame, counts: u8, bits: usize, alpha: usize, beta: usize, rest: bool) -> u8
-    requires { Counted f counts }
-    ensures { result ≡ lengths_fault f counts bits alpha beta rest }
+pub fn check_lengths(
+    f: Frame,
+    counts: Result<(), Reason>,
+    bits: usize,
+    alpha: usize,
+    beta: usize,
+    rest: bool,
+) -> Result<(), Reason>
+    requires { Counted f (code_of counts) }
+    ensures { code_of result ≡ lengths_fault f (code_of counts) bits alpha beta rest }
 {
-    let n = f.n;
-    let i = f.i;
-    let party = unless(plan::parties(n) & (i < n), 15);
-    let lists = unless(lists_due(f, bits, alpha, beta), 6);
-    let buffers = unless(rest, 17);
-    first(party, first(counts, first(lists, buffers)))
+    let party = unless(plan::parties(f.n) & (f.i < f.n), Reason::PartyOutOfRange);
+    let lists = unless(lists_due(f, bits, alpha, beta), Reason::InvalidLength);
+    let buffers = unless(rest, Reason::WrongBuffer);
+    party.and(counts.and(lists.and(buffers)))
 }
 
-// Whether `count` bytes from `at` on are 0 or 1. All are looked at.
-fn row_good(masks: &[u8], at: usize, count: usize) -> bool
-    requires { at + count ≤ length masks.now }
-    ensures { result ≡ all_of count (λ t. leb (get_or masks.now (at + t) 0) 1) }
+// Whether the bytes of row k of the masks are 0 or 1, or the row is the own one. All are looked at.
+fn row_good(masks: &[u8], f: Frame, k: usize) -> bool
+    requires { (Ranged f) × (length masks.now ≡ size_of f MASKS) × (k < f.n) }
+    ensures { result ≡ row? f masks.now k }
 {
-    let mut good = true;
-    let mut t = 0;
-    while t < count {
-        good = good & (masks[at + t] <= 1);
-        t += 1;
+    if f.i == k {
+        return true;
     }
-    good
+    let count = plan::leaky(f.l);
+    let at = k * count;
+    lists::all_of(count, |t| masks[at + t] <= 1)
 }
 
 // Whether all mask bytes are, the own row left out.
@@ -98,55 +97,38 @@ fn masks_good(masks: &[u8], f: Frame) -> bool
     requires { (Ranged f) × (length masks.now ≡ size_of f MASKS) }
     ensures { result ≡ masks? f masks.now }
 {
-    let n = f.n;
-    let i = f.i;
-    let l = f.l;
-    let count = plan::leaky(l);
-    let mut good = true;
-    let mut k = 0;
-    while k < n {
-        if i != k {
-            good = good & row_good(masks, k * count, count);
-        }
-        k += 1;
-    }
-    good
+    lists::all_of(f.n, |k| row_good(masks, f, k))
 }
 
-// The first reason that the lent bytes give: bits, alpha, beta, then masks.
-fn bytes_fault(f: Frame, bits: &[u8], alpha: &[u8], beta: &[u8], masks: &[u8]) -> u8
+// The first reason that the lent bytes give: bits, alpha, beta, then masks. All are looked at.
+fn check_bytes(f: Frame, bits: &[u8], alpha: &[u8], beta: &[u8], masks: &[u8]) -> Result<(), Reason>
     requires { (Ranged f) × Lists f (length bits.now) (length alpha.now) (length beta.now)
         × (length masks.now ≡ size_of f MASKS) }
-    ensures { result ≡ bytes_of f bits.now alpha.now beta.now masks.now }
+    ensures { code_of result ≡ bytes_of f bits.now alpha.now beta.now masks.now }
 {
-    let n = f.n;
-    let i = f.i;
-    let l = f.l;
+    let Frame { n, i, l } = f;
     let b = records::check_records(bits, n, i, plan::bits_count(l));
     let x = records::check_records(alpha, n, i, l);
     let y = records::check_records(beta, n, i, l);
-    let m = unless(masks_good(masks, f), 1);
-    first(b, first(x, first(y, m)))
+    let m = unless(masks_good(masks, f), Reason::InvalidBitValue);
+    b.and(x.and(y.and(m)))
 }
 
-// The first reason to refuse, 0 for none; counts: that of the counts.
-pub fn reason(
+// The first reason to refuse; counts: what is refused of the counts.
+pub fn check(
     f: Frame,
-    counts: u8,
+    counts: Result<(), Reason>,
     v: Lens,
     bits: &[u8],
     alpha: &[u8],
     beta: &[u8],
     masks: &[u8],
-) -> u8
-    requires counted { Counted f counts }
+) -> Result<(), Reason>
+    requires counted { Counted f (code_of counts) }
     requires bits_value { (v.bits ≡ length bits.now) × (v.alpha ≡ length alpha.now) × (v.beta ≡ length beta.now)
         × (v.masks ≡ length masks.now) }
-    ensures { result ≡ found_at f counts v bits.now alpha.now beta.now masks.now }
+    ensures { code_of result ≡ found_at f (code_of counts) v bits.now alpha.now beta.now masks.now }
 {
-    let code = lengths_fault(f, counts, v.bits, v.alpha, v.beta, buffers_due(f, v));
-    if code != 0 {
-        return code;
-    }
-    bytes_fault(f, bits, alpha, beta, masks)
+    check_lengths(f, counts, v.bits, v.alpha, v.beta, buffers_due(f, v))?;
+    check_bytes(f, bits, alpha, beta, masks)
 }

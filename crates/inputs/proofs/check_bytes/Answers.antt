@@ -2,7 +2,8 @@ use Rattle.std.specs.Prelude.{◌*◌}
 use Rattle.lists.specs.Kit.{refl, ap, arith, rules}
 use Rattle.share.specs.Lent.{lent_len}
 use Rattle.inputs.specs.Given.{bytes_of}
-use Rattle.inputs.proofs.bytes_fault.Goals as goal
+use Rattle.inputs.specs.OpeningLaws.{code-and}
+use Rattle.inputs.proofs.check_bytes.Goals as goal
 
 pub check_records-b-requires : goal.check_records-b-requires
 check_records-b-requires c =
@@ -24,9 +25,12 @@ check_records-y-requires c = search rules
 pub returns : goal.returns
 unfolding bytes_of
 returns c = rw (
-  c.first-3.ensures,
-  c.first-2.ensures,
-  c.first.ensures,
+  c.and-3.ensures,
+  code-and,
+  c.and-2.ensures,
+  code-and,
+  c.and.ensures,
+  code-and,
   c.unless-m.ensures,
   c.masks_good.ensures,
   c.check_records-y.ensures,
