@@ -63,11 +63,9 @@ fn combine_all(out: &mut [u8], triples: &[u8], d: &[u8], n: usize, i: usize)
     let len = share::lent_len(n);
     let z = Z * len;
     put_y(&mut out[len..z], triples, 0, n, i);
-    let mut k = 0;
-    while k < n {
+    for k in 0..n {
         let s = party(triples, &x_places[..count], d, n, i, k);
         bucket_sum::put_entries(&mut out[LABEL..], z, k, s);
-        k += 1;
     }
     let b = bucket_sum::sum_bits(triples, &x_places[..count], d, len, triples, Z, len);
     share::put_lent_head(out, n, i, b.x);
@@ -78,12 +76,10 @@ fn combine_all(out: &mut [u8], triples: &[u8], d: &[u8], n: usize, i: usize)
 fn bits_fault(d: &[u8]) -> u8
     ensures { result ≡ pick (all_of (length d.now) (λ e. leb (get_or d.now e 0) 1)) 0 1 }
 {
-    let mut e = 0;
-    while e < d.len() {
+    for e in 0..d.len() {
         if 1 < d[e] {
             return 1;
         }
-        e += 1;
     }
     0
 }

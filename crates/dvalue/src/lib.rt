@@ -38,13 +38,11 @@ fn put_bucket(out: &mut [u8], recs: &[u8], perm: &[u8], f: Frame, j: usize, k: u
     let due = buckets::later(f);
     let y0 = buckets::y_at(perm, f, j, 0);
     encode::put_dvalue_counts(out, due);
-    let mut e = 0;
-    while e < due {
+    for e in 0..due {
         let y1 = buckets::y_at(perm, f, j, e + 1);
         let bit = share::sum_bit(recs, y0, recs, y1);
         let mac = share::sum_mac(recs, y0, recs, y1, k);
         encode::put_dvalue(out, due, e, bit, mac.0);
-        e += 1;
     }
 }
 
@@ -58,12 +56,10 @@ fn put_message(out: &mut [u8], recs: &[u8], perm: &[u8], f: Frame, k: usize)
     let size = bucket_len(f);
     let count = f.l;
     encode::put_count(&mut out[0..COUNT], count);
-    let mut j = 0;
-    while j < count {
+    for j in 0..count {
         let a = COUNT + j * size;
         let e = a + size;
         put_bucket(&mut out[a..e], recs, perm, f, j, k);
-        j += 1;
     }
 }
 
@@ -78,13 +74,11 @@ fn put_messages(out: &mut [u8], recs: &[u8], perm: &[u8], f: Frame)
     let i = f.i;
     let len = plan::msg_len(n, f.l, 21);
     let last = n - 1;
-    let mut q = 0;
-    while q < last {
+    for q in 0..last {
         let a = q * len;
         let e = a + len;
         let k = plan::other(i, q);
         put_message(&mut out[a..e], recs, perm, f, k);
-        q += 1;
     }
 }
 

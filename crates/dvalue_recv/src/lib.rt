@@ -2,15 +2,14 @@
 // crates/rounds (Buckets). The permutation is public; bits, MACs, keys and delta decide no branch and no index.
 #![tactic(auto)]
 
-ghost use Rattle.std.specs.Prelude.{◌≡◌, ◌-◌, ◌*◌, ◌<◌, ◌≤◌, ◌++◌, length, replicate};
-ghost use Rattle.algebra.specs.Group.{bits, sel};
-ghost use Rattle.algebra.specs.Sum.{neq};
+ghost use Rattle.std.specs.Prelude.{◌≡◌, ◌≢◌, ◌-◌, ◌*◌, ◌<◌, ◌≤◌, ◌++◌, length, replicate};
+ghost use Rattle.refusals.specs.Reason.{code_of};
 ghost use Rattle.plan.specs.Plan.{bucket_size};
 ghost use Rattle.message.specs.declared.Kind.TheVariants as Kind;
 ghost use Rattle.rounds.specs.Area as Area;
 ghost use Rattle.rounds.specs.Mail.{letter};
 ghost use Rattle.rounds.specs.EchoLaws.{Received};
-ghost use Rattle.rounds.specs.FaultLaws.{Finds, fault_at};
+ghost use Rattle.rounds.specs.FaultLaws.{Finds};
 ghost use Rattle.rounds.specs.Buckets as B;
 ghost use Rattle.rounds.specs.Table as Table;
 ghost use Rattle.area.specs.Given.{Ranged, Work, Place};
@@ -21,8 +20,9 @@ ghost use Rattle.dvalue_recv.specs.Opened.{told_sum, d_row};
 
 use area::Span;
 use dvalue::{COUNT, MAC};
-use engine::Frame;
-use rounds::{Fault, Mail};
+use engine::{Frame, Verdict};
+use refusals::Reason;
+use rounds::Mail;
 use share::Delta;
 
 // The most later entries that a bucket has.
@@ -56,8 +56,7 @@ fn bucket_holds(
     let macs = bits + due + COUNT;
     let first = buckets::y_at(perm, f, j, 0);
     let mut ok = true;
-    let mut e = 0;
-    while e < due {
+    for e in 0..due {
         let next = buckets::y_at(perm, f, j, e + 1);
         ok = ok
             & share::mac_holds(
@@ -71,7 +70,6 @@ fn bucket_holds(
                 k,
                 delta,
             );
-        e += 1;
     }
     ok
 }
@@ -85,16 +83,14 @@ fn message_holds(m: &[u8], recs: &[u8], perm: &[u8], delta: Delta, f: Frame, k: 
 {
     let count = f.l;
     let mut ok = true;
-    let mut j = 0;
-    while j < count {
+    for j in 0..count {
         ok = ok & bucket_holds(m, recs, perm, delta, f, k, j);
-        j += 1;
     }
     ok
 }
 
-// 11 if a MAC of party k is wrong; none of the own number.
-fn d_fault(
+// Refused if a MAC of party k is wrong.
+fn check_macs(
     recs: &[u8],
     perm: &[u8],
     delta: Delta,
@@ -102,79 +98,41 @@ fn d_fault(
     mail: Mail,
     f: Frame,
     k: usize,
-) -> u8
-    requires ranged { (Ranged f) × (k < f.n) }
+) -> Result<(), Reason>
+    requires ranged { (Ranged f) × (k < f.n) × (f.i ≢ k) }
     requires permuted { Permuted f recs.now perm.now }
     requires received { Received (Kind.Dvalues (bucket_size f.l - 1)) f.l f incoming.now mail }
-    ensures { result ≡ fault_at f.i (d_fault f delta.0 recs.now perm.now
-        (letter incoming.now mail)) k }
+    ensures { code_of result ≡ d_fault f delta.0 recs.now perm.now (letter incoming.now mail) k }
 {
-    let i = f.i;
-    if k == i {
-        return 0;
-    }
     let m = rounds::letter(incoming, mail, k);
     if message_holds(m, recs, perm, delta, f, k) {
-        0
+        Ok(())
     } else {
-        11
+        Err(Reason::AANDWrongMAC)
     }
 }
 
-// The first party of which a MAC of a d is wrong.
-fn first_fault(
-    recs: &[u8],
-    perm: &[u8],
-    delta: Delta,
-    incoming: &[u8],
-    mail: Mail,
-    f: Frame,
-) -> Fault
-    requires ranged { Ranged f }
-    requires permuted { Permuted f recs.now perm.now }
-    requires received { Received (Kind.Dvalues (bucket_size f.l - 1)) f.l f incoming.now mail }
-    ensures { Finds result.code result.party (B.d_faults f delta.0 recs.now perm.now
-        (letter incoming.now mail)) }
-{
-    let n = f.n;
-    let mut k = 0;
-    while k < n {
-        let code = d_fault(recs, perm, delta, incoming, mail, f, k);
-        if code != 0 {
-            return Fault {
-                code: code,
-                party: k,
-            };
-        }
-        k += 1;
-    }
-    Fault { code: 0, party: 0 }
-}
-
-// Round 21: 11 with the first party of which a MAC of a d isn't the key, plus delta where the bit is 1.
-pub fn judge(work: &[u8], incoming: &[u8], mail: Mail, f: Frame) -> Fault
+// Round 21: the first party of which a MAC of a d isn't the key, plus delta where the bit is 1.
+pub fn judge(work: &[u8], incoming: &[u8], mail: Mail, f: Frame) -> Verdict
     requires work { Work f work.now }
     requires received { Received (Kind.Dvalues (bucket_size f.l - 1)) f.l f incoming.now mail }
-    ensures { Finds result.code result.party (B.d_faults f (Table.delta f work.now)
+    ensures { Finds result (B.d_faults f (Table.delta f work.now)
         (Area.at f Area.BITS work.now) (Area.at f Area.PERM work.now)
         (letter incoming.now mail)) }
 {
     let delta = area::delta(work, f);
     let recs = area::section(work, f, area::BITS);
     let perm = area::section(work, f, area::PERM);
-    first_fault(recs, perm, delta, incoming, mail, f)
+    let check = |k| check_macs(recs, perm, delta, incoming, mail, f, k);
+    rounds::by_party(f, check)
 }
 
-// The bit that party k told for the later entry e of bucket j; 0 for the own number.
+// The bit that party k told for the later entry e of bucket j.
 fn d_told(incoming: &[u8], mail: Mail, f: Frame, j: usize, e: usize, k: usize) -> bool
-    requires l_bound { (f.l ≤ 300000) × (j < f.l) × (e < B.later f) × (k < f.n) }
+    requires l_bound { (f.l ≤ 300000) × (j < f.l) × (e < B.later f) × (k < f.n) × (f.i ≢ k) }
     requires received { Received (Kind.Dvalues (bucket_size f.l - 1)) f.l f incoming.now mail }
-    ensures { result ≡ sel bits (neq f.i k) (B.d_told f (letter incoming.now mail) k j e) }
+    ensures { result ≡ B.d_told f (letter incoming.now mail) k j e }
 {
-    let i = f.i;
-    if k == i {
-        return false;
-    }
     let m = rounds::letter(incoming, mail, k);
     block::bit(m, bucket_at(f, j) + COUNT + e)
 }
@@ -185,14 +143,7 @@ fn told_sum(incoming: &[u8], mail: Mail, f: Frame, j: usize, e: usize) -> bool
     requires received { Received (Kind.Dvalues (bucket_size f.l - 1)) f.l f incoming.now mail }
     ensures { result ≡ told_sum f (letter incoming.now mail) j e }
 {
-    let n = f.n;
-    let mut sum = false;
-    let mut k = 0;
-    while k < n {
-        sum = sum ^ d_told(incoming, mail, f, j, e, k);
-        k += 1;
-    }
-    sum
+    algebra::sum_others(f.i, f.n, |k| d_told(incoming, mail, f, j, e, k))
 }
 
 // The opened d.
@@ -225,10 +176,8 @@ fn put_ds(row: &mut [u8], recs: &[u8], perm: &[u8], incoming: &[u8], mail: Mail,
     ensures { row.new ≡ d_row f recs.now perm.now
         (letter incoming.now mail) j }
 {
-    let mut e = 0;
-    while e < row.len() {
+    for e in 0..row.len() {
         row[e] = block::bit_byte(d_opened(recs, perm, incoming, mail, f, j, e));
-        e += 1;
     }
 }
 
@@ -269,12 +218,10 @@ pub fn keep(work: &mut [u8], incoming: &[u8], mail: Mail, f: Frame)
     let perm = area::place(f, area::PERM);
     let ds = area::section_at(f, area::DS);
     let due = buckets::later(f);
-    let mut j = 0;
-    while j < l {
+    for j in 0..l {
         let row = ds_row(work, recs, perm, incoming, mail, f, j);
         let a = ds + j * due;
         let e = a + due;
         fill::copy(&mut work[a..e], &row);
-        j += 1;
     }
 }

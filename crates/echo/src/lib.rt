@@ -58,13 +58,11 @@ pub fn keep_hashes(section: &mut [u8], incoming: &[u8], mail: Mail, f: Frame, k:
     ensures { section.new ≡ rows_of f (λ j. Echo.hash_vec k (letter incoming.now mail j)) }
 {
     let n = f.n;
-    let mut j = 0;
-    while j < n {
+    for j in 0..n {
         let h = hash_row(incoming, mail, f, k, j);
         let a = j * 16;
         let e = a + 16;
         block::store(&mut section[a..e], h);
-        j += 1;
     }
 }
 
@@ -106,12 +104,10 @@ fn put_echo(out: &mut [u8], hashes: &[u8], f: Frame, r: usize)
     let i = f.i;
     encode::put_count(&mut out[0..8], n);
     let mut a = 8;
-    let mut k = 0;
-    while k < n {
+    for k in 0..n {
         let e = a + entry_len(i, r, k);
         put_entry(&mut out[a..e], hashes, i, r, k);
         a = e;
-        k += 1;
     }
 }
 
@@ -125,13 +121,11 @@ pub fn write_echoes(out: &mut [u8], hashes: &[u8], f: Frame)
     let i = f.i;
     let len = plan::msg_len(n, 1, 2);
     let last = n - 1;
-    let mut q = 0;
-    while q < last {
+    for q in 0..last {
         let r = plan::other(i, q);
         let a = q * len;
         let e = a + len;
         put_echo(&mut out[a..e], hashes, f, r);
-        q += 1;
     }
 }
 
@@ -176,13 +170,11 @@ pub fn check_echo(m: &[u8], hashes: &[u8], f: Frame, j: usize) -> u8
     ensures { result ≡ Echo.echo_fault f.n f.i j hashes.now m.now }
 {
     let n = f.n;
-    let mut k = 0;
-    while k < n {
+    for k in 0..n {
         let code = told_fault(m, hashes, f, j, k);
         if code != 0 {
             return code;
         }
-        k += 1;
     }
     0
 }
@@ -208,8 +200,7 @@ pub fn check_echoes(hashes: &[u8], incoming: &[u8], mail: Mail, f: Frame) -> Fau
     ensures { Finds result.code result.party (by_party f (echo_faults f.n f.i hashes.now (letter incoming.now mail))) }
 {
     let n = f.n;
-    let mut j = 0;
-    while j < n {
+    for j in 0..n {
         let code = echo_fault(hashes, incoming, mail, f, j);
         if code != 0 {
             return Fault {
@@ -217,7 +208,6 @@ pub fn check_echoes(hashes: &[u8], incoming: &[u8], mail: Mail, f: Frame) -> Fau
                 party: j,
             };
         }
-        j += 1;
     }
     Fault { code: 0, party: 0 }
 }

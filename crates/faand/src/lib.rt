@@ -109,12 +109,10 @@ fn put_message(out: &mut [u8], work: &[u8], at: Places, f: Frame, k: usize)
 {
     let count = f.l;
     encode::put_count(&mut out[0..COUNT], count);
-    let mut j = 0;
-    while j < count {
+    for j in 0..count {
         let a = COUNT + j * ITEM;
         let e = a + ITEM;
         put_item(&mut out[a..e], work, at, f, j, k);
-        j += 1;
     }
 }
 
@@ -132,13 +130,11 @@ pub fn write(out: &mut [u8], work: &[u8], f: Frame)
     let at = sections(f);
     let len = plan::msg_len(n, f.l, 22);
     let last = n - 1;
-    let mut q = 0;
-    while q < last {
+    for q in 0..last {
         let a = q * len;
         let e = a + len;
         let k = plan::other(i, q);
         put_message(&mut out[a..e], work, at, f, k);
-        q += 1;
     }
 }
 

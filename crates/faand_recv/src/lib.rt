@@ -2,13 +2,14 @@
 // Bits, MACs, keys and delta decide no branch and no index.
 #![tactic(auto)]
 
-ghost use Rattle.std.specs.Prelude.{◌≡◌, ◌+◌, ◌-◌, ◌*◌, ◌<◌, ◌≤◌, length};
+ghost use Rattle.std.specs.Prelude.{◌≡◌, ◌≢◌, ◌+◌, ◌-◌, ◌*◌, ◌<◌, ◌≤◌, length};
 ghost use Rattle.lists.specs.All.{all_of};
+ghost use Rattle.refusals.specs.Reason.{code_of};
 ghost use Rattle.message.specs.declared.Kind.TheVariants.{Items};
 ghost use Rattle.rounds.specs.Area as Area;
 ghost use Rattle.rounds.specs.Mail.{letter, Arrived};
 ghost use Rattle.rounds.specs.EchoLaws.{Received};
-ghost use Rattle.rounds.specs.FaultLaws.{Finds, fault_at};
+ghost use Rattle.rounds.specs.FaultLaws.{Finds};
 ghost use Rattle.rounds.specs.Beaver as R;
 ghost use Rattle.rounds.specs.Table as Table;
 ghost use Rattle.area.specs.Given.{Work};
@@ -16,9 +17,10 @@ ghost use Rattle.faand.specs.Given.{Placed};
 ghost use Rattle.faand.specs.ItemLaws.{told, item, message};
 ghost use Rattle.faand_recv.specs.CheckLaws.{holds, de_fault};
 
-use engine::Frame;
+use engine::{Frame, Verdict};
 use faand::{COUNT, D_MAC, E_BIT, E_MAC, ITEM, Places};
-use rounds::{Fault, Mail};
+use refusals::Reason;
+use rounds::Mail;
 use share::Delta;
 
 // Whether both MACs of bucket j in k's message m hold.
@@ -42,16 +44,14 @@ fn message_holds(m: &[u8], work: &[u8], at: Places, f: Frame, k: usize, delta: D
 {
     let count = f.l;
     let mut ok = true;
-    let mut j = 0;
-    while j < count {
+    for j in 0..count {
         ok = ok & item_holds(m, work, at, f, j, k, delta);
-        j += 1;
     }
     ok
 }
 
-// 12 if a MAC of party k doesn't hold; none of the own number.
-fn fault_of(
+// Refused if a MAC of party k doesn't hold.
+fn check_macs(
     work: &[u8],
     at: Places,
     incoming: &[u8],
@@ -59,45 +59,30 @@ fn fault_of(
     f: Frame,
     k: usize,
     delta: Delta,
-) -> u8
-    requires work { (Work f work.now) × (k < f.n) × (Placed f at) }
+) -> Result<(), Reason>
+    requires work { (Work f work.now) × (k < f.n) × (Placed f at) × (f.i ≢ k) }
     requires arrived { Arrived f (told f) incoming.now mail }
-    ensures { result ≡ fault_at f.i (de_fault f delta.0 work.now (letter incoming.now mail)) k }
+    ensures { code_of result ≡ de_fault f delta.0 work.now (letter incoming.now mail) k }
 {
-    let i = f.i;
-    if k == i {
-        return 0;
-    }
     let m = rounds::letter(incoming, mail, k);
     if message_holds(m, work, at, f, k, delta) {
-        0
+        Ok(())
     } else {
-        12
+        Err(Reason::BeaverWrongMAC)
     }
 }
 
-// Round 22: 12 with the first party of which a MAC of a d or an e isn't the key, plus delta where the bit is 1.
-pub fn judge(work: &[u8], incoming: &[u8], mail: Mail, f: Frame) -> Fault
+// Round 22: the first party of which a MAC of a d or an e isn't the key, plus delta where the bit is 1.
+pub fn judge(work: &[u8], incoming: &[u8], mail: Mail, f: Frame) -> Verdict
     requires work { Work f work.now }
     requires received { Received (Items 34 2) f.l f incoming.now mail }
-    ensures { Finds result.code result.party (R.de_faults f (Table.delta f work.now)
+    ensures { Finds result (R.de_faults f (Table.delta f work.now)
         (Area.at f Area.BITS work.now) (Area.at f Area.PERM work.now)
         (Area.at f Area.TRIPLES work.now) (Area.at f Area.ALPHA work.now)
         (Area.at f Area.BETA work.now) (letter incoming.now mail)) }
 {
-    let n = f.n;
     let at = faand::sections(f);
     let delta = area::delta(work, f);
-    let mut k = 0;
-    while k < n {
-        let code = fault_of(work, at, incoming, mail, f, k, delta);
-        if code != 0 {
-            return Fault {
-                code: code,
-                party: k,
-            };
-        }
-        k += 1;
-    }
-    Fault { code: 0, party: 0 }
+    let check = |k| check_macs(work, at, incoming, mail, f, k, delta);
+    rounds::by_party(f, check)
 }

@@ -45,8 +45,7 @@ fn write_items(out: &mut [u8], bits: &[u8], macs: &[u64; WORDS], base: usize)
         (λ j. bit_block (odd (get_or bits.now j 0)) (pair_at macs.now (base + j))) }
 {
     encode::put_count(&mut out[0..8], STRINGS);
-    let mut j = 0;
-    while j < STRINGS {
+    for j in 0..STRINGS {
         let a = 8 + j * ITEM;
         let e = a + ITEM;
         let low = (base + j) * 2;
@@ -56,7 +55,6 @@ fn write_items(out: &mut [u8], bits: &[u8], macs: &[u64; WORDS], base: usize)
             block::bit(bits, j),
             Block(macs[low], macs[high]),
         );
-        j += 1;
     }
 }
 
@@ -68,12 +66,10 @@ fn write(out: &mut [u8], bits: &[u8], macs: &[u64; WORDS], n: usize)
         (λ j. bit_block (odd (get_or bits.now j 0)) (pair_at macs.now (q * Fabitn.STRINGS + j)))) }
 {
     let last = n - 1;
-    let mut q = 0;
-    while q < last {
+    for q in 0..last {
         let a = q * MSG;
         let e = a + MSG;
         write_items(&mut out[a..e], bits, macs, q * STRINGS);
-        q += 1;
     }
 }
 
@@ -85,14 +81,12 @@ fn write_blocks(out: &mut [u8], words: &[u64; WORDS], base: usize)
     requires base_bound { base + Fabitn.STRINGS ≤ 7 * Fabitn.STRINGS }
     ensures { out.new ≡ cat Fabitn.STRINGS (λ j. bytes_of (pair_at words.now (base + j))) }
 {
-    let mut j = 0;
-    while j < STRINGS {
+    for j in 0..STRINGS {
         let a = j * 16;
         let e = a + 16;
         let low = (base + j) * 2;
         let high = low + 1;
         block::store(&mut out[a..e], Block(words[low], words[high]));
-        j += 1;
     }
 }
 
@@ -127,10 +121,8 @@ fn hold(work: &mut [u8], keys: &[u64; WORDS], f: Frame)
     ensures { work.new ≡ keep f KEY_SUMS (rows f Fabitn.ROW (held_row f.i keys.now)) work.old }
 {
     let n = f.n;
-    let mut k = 0;
-    while k < n {
+    for k in 0..n {
         hold_row(work, keys, f, k);
-        k += 1;
     }
 }
 

@@ -27,12 +27,10 @@ fn keep_all(out: &mut [u8], x: &[u8], n: usize, i: usize, count: usize)
 {
     let kept = share::record_len(n);
     let lent = share::lent_len(n);
-    let mut t = 0;
-    while t < count {
+    for t in 0..count {
         let a = t * kept;
         let e = a + kept;
         share::keep_record(&mut out[a..e], x, t * lent, n, i);
-        t += 1;
     }
 }
 

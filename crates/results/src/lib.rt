@@ -2,10 +2,10 @@
 // crates/rounds (Beaver). Shares decide no branch and no index.
 #![tactic(auto)]
 
-ghost use Rattle.std.specs.Prelude.{◌≡◌, ◌+◌, ◌-◌, ◌*◌, ◌<◌, ◌≤◌, length, get_or, drop};
+ghost use Rattle.std.specs.Prelude.{◌≡◌, ◌≢◌, ◌+◌, ◌-◌, ◌*◌, ◌<◌, ◌≤◌, length, get_or, drop};
 ghost use Rattle.lists.specs.Over.{cat};
-ghost use Rattle.algebra.specs.Group.{bits, sel, odd};
-ghost use Rattle.algebra.specs.Sum.{neq, others};
+ghost use Rattle.algebra.specs.Group.{bits, odd};
+ghost use Rattle.algebra.specs.Sum.{others};
 ghost use Rattle.share.specs.Record.{record_len, mac_off};
 ghost use Rattle.share.specs.Share.{share_at, entry_of};
 ghost use Rattle.share.specs.Lent.{lent_len, lent_of};
@@ -24,18 +24,13 @@ use faand::{COUNT, E_BIT, ITEM, Places, Records};
 use rounds::Mail;
 use share::{ENTRY, Entry, LABEL};
 
-// The bit at `at` of k's message; 0 for the own number.
+// The bit at `at` of k's message.
 fn bit_told(incoming: &[u8], mail: Mail, f: Frame, at: usize, k: usize) -> bool
-    requires k_lt_n { (k < f.n) × (at < told f) }
+    requires k_lt_n { (k < f.n) × (at < told f) × (f.i ≢ k) }
     requires arrived { Arrived f (told f) incoming.now mail }
-    ensures { result ≡ sel bits (neq f.i k) (odd (get_or (letter incoming.now mail k) at 0)) }
+    ensures { result ≡ odd (get_or (letter incoming.now mail k) at 0) }
 {
-    let i = f.i;
-    if k == i {
-        return false;
-    }
-    let m = rounds::letter(incoming, mail, k);
-    block::bit(m, at)
+    block::bit(rounds::letter(incoming, mail, k), at)
 }
 
 // The sum of the bits at `at` of all others' messages.
@@ -44,14 +39,7 @@ fn told_sum(incoming: &[u8], mail: Mail, f: Frame, at: usize) -> bool
     requires arrived { Arrived f (told f) incoming.now mail }
     ensures { result ≡ others bits f.i f.n (λ k. odd (get_or (letter incoming.now mail k) at 0)) }
 {
-    let n = f.n;
-    let mut sum = false;
-    let mut k = 0;
-    while k < n {
-        sum = sum ^ bit_told(incoming, mail, f, at, k);
-        k += 1;
-    }
-    sum
+    algebra::sum_others(f.i, f.n, |k| bit_told(incoming, mail, f, at, k))
 }
 
 // c + d·beta + e·a of party k's entries in the records at r.
@@ -76,12 +64,10 @@ fn put_entries(out: &mut [u8], work: &[u8], r: Records, n: usize, i: usize, d: b
     ensures { drop (mac_off 0) out.new ≡ cat n (entry_of i (R.finish (share_at work.now r.c)
         (share_at work.now r.beta) (share_at work.now r.a) d e)) }
 {
-    let mut k = 0;
-    while k < n {
+    for k in 0..n {
         let from = share::mac_off(k);
         let to = from + ENTRY;
         share::put_entry_of(&mut out[from..to], i, k, finished(work, r, k, d, e));
-        k += 1;
     }
 }
 
@@ -134,14 +120,12 @@ pub fn results(out: &mut [u8], work: &[u8], incoming: &[u8], mail: Mail, f: Fram
     let l = f.l;
     let at = faand::sections(f);
     let len = share::lent_len(f.n);
-    let mut j = 0;
-    while j < l {
+    for j in 0..l {
         let i = COUNT + j * ITEM;
         let d = told_sum(incoming, mail, f, i);
         let e = told_sum(incoming, mail, f, i + E_BIT);
         let from = j * len;
         let to = from + len;
         put_result(&mut out[from..to], work, at, f, j, d, e);
-        j += 1;
     }
 }

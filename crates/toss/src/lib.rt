@@ -92,12 +92,10 @@ pub fn write_pair_commitments(out: &mut [u8], work: &[u8], f: Frame)
     let i = f.i;
     let pairs = area::section(work, f, area::PAIRS);
     let last = n - 1;
-    let mut q = 0;
-    while q < last {
+    for q in 0..last {
         let a = q * MSG;
         let e = a + MSG;
         put_commitment(&mut out[a..e], seed_for(pairs, plan::other(i, q)), i);
-        q += 1;
     }
 }
 
@@ -111,12 +109,10 @@ pub fn write_pair_seeds(out: &mut [u8], work: &[u8], f: Frame)
     let i = f.i;
     let pairs = area::section(work, f, area::PAIRS);
     let last = n - 1;
-    let mut q = 0;
-    while q < last {
+    for q in 0..last {
         let a = q * MSG;
         let e = a + MSG;
         encode::put_bytes(&mut out[a..e], seed_for(pairs, plan::other(i, q)));
-        q += 1;
     }
 }
 

@@ -36,10 +36,8 @@ fn e_sum(es: &[u8], ts: &[usize], from: usize) -> bool
     ensures { result ≡ sum bits (length ts.now) (λ e. odd (get_or es.now (from + get_or ts.now e 0) 0)) }
 {
     let mut told = false;
-    let mut e = 0;
-    while e < ts.len() {
+    for e in 0..ts.len() {
         told = told ^ block::bit(es, from + ts[e]);
-        e += 1;
     }
     told
 }
@@ -161,11 +159,9 @@ fn put_row(work: &mut [u8], at: Places, delta: Delta, f: Frame, j: usize, row: u
     let len = share::record_len(n);
     let end = row + 2 * len;
     let all = buckets::entries(area::lent(work, at.perm), f, j);
-    let mut k = 0;
-    while k < n {
+    for k in 0..n {
         let s = row_party(work, at, &all[..b], delta, f, j, k);
         bucket_sum::put_entries(&mut work[row..end], len, k, s);
-        k += 1;
     }
     let heads = row_bits(work, at, &all[..b], f, j);
     bucket_sum::put_heads(&mut work[row..end], len, heads);
@@ -184,9 +180,7 @@ pub fn hold(work: &mut [u8], f: Frame)
     let at = sections(f);
     let rows = area::section_at(f, area::TRIPLES);
     let len = 2 * share::record_len(f.n);
-    let mut j = 0;
-    while j < l {
+    for j in 0..l {
         put_row(work, at, delta, f, j, rows + j * len);
-        j += 1;
     }
 }

@@ -5,7 +5,4 @@ use Rattle.lists.specs.All.{all_of}
 use Rattle.combine.proofs.bits_fault.Given as goal
 
 abbrev pub invariant-loop-e : goal.invariant-loop-e
-invariant-loop-e l = (l.e ≤ length l.d) × (all_of l.e (λ k. leb (get_or l.d k 0) 1) ≡ true)
-
-abbrev pub decreases-loop-e : goal.decreases-loop-e
-decreases-loop-e l = length l.d - l.e
+invariant-loop-e l = (all_of l.e (λ k. leb (get_or l.d k 0) 1) ≡ true)

@@ -70,9 +70,7 @@ put_y-requires c =
 
 pub loop-k-init : goal.loop-k-init
 loop-k-init c =
-    let rest : List ℕ = drop (2 * (c.lent_len-len.result) - (c.lent_len-len.result)) (drop (c.lent_len-len.result) c.args.out.now) in (
-      omega arith,
-      lined-none c.args.n c.args.i (X c.args.n c.args.triples.now c.args.d.now) (Z c.args.n c.args.triples.now c.args.d.now)
+    let rest : List ℕ = drop (2 * (c.lent_len-len.result) - (c.lent_len-len.result)) (drop (c.lent_len-len.result) c.args.out.now) in (lined-none c.args.n c.args.i (X c.args.n c.args.triples.now c.args.d.now) (Z c.args.n c.args.triples.now c.args.d.now)
           (Y c.args.n c.args.i c.args.triples.now) (y-long (goal.at.loop-k-init c).After-lent_len-len) (take
           (c.lent_len-len.result) c.args.out.now) rest _
           (length-take-le (c.lent_len-len.result) c.args.out.now (omega (
@@ -87,8 +85,7 @@ loop-k-init c =
             long (goal.at.loop-k-init c).After-lent_len-len,
             c.requires.n_bound.1,
           ))
-          (ap (λ (v : List ℕ). take (c.lent_len-len.result) c.args.out.now ++ (v ++ rest)) c.put_y.ensures),
-    )
+          (ap (λ (v : List ℕ). take (c.lent_len-len.result) c.args.out.now ++ (v ++ rest)) c.put_y.ensures))
 
 -- ---- in a turn, and behind the last
 
@@ -99,7 +96,7 @@ out-long c =
     let y-long-here : length (Y c.args.n c.args.i c.args.triples.now) ≡ lent_len c.args.n =
     length-lent_of c.args.n c.args.i (triple c.args.n c.args.triples.now 0).ty in
     lined-long c.args.n c.args.i (X c.args.n c.args.triples.now c.args.d.now) (Z c.args.n c.args.triples.now c.args.d.now)
-    (Y c.args.n c.args.i c.args.triples.now) (y-long-here) c.loop-k.invariant.1 (2 * (c.lent_len-len.result)) (twice-here)
+    (Y c.args.n c.args.i c.args.triples.now) (y-long-here) c.loop-k.invariant (2 * (c.lent_len-len.result)) (twice-here)
 
 row-long : (c : At-loop-k) → length (take (length (c.loop-k.out) - LABEL) (drop LABEL (c.loop-k.out)))
     ≡ 2 * (c.lent_len-len.result) + record_len c.args.n
@@ -109,9 +106,9 @@ row-long c =
     let y-long-here : length (Y c.args.n c.args.i c.args.triples.now) ≡ lent_len c.args.n =
     length-lent_of c.args.n c.args.i (triple c.args.n c.args.triples.now 0).ty in
     ap length (lined-part c.args.n c.args.i (X c.args.n c.args.triples.now c.args.d.now) (Z c.args.n c.args.triples.now c.args.d.now)
-    (Y c.args.n c.args.i c.args.triples.now) (y-long-here) c.loop-k.invariant.1 (2 * (c.lent_len-len.result)) (twice-here))
+    (Y c.args.n c.args.i c.args.triples.now) (y-long-here) c.loop-k.invariant (2 * (c.lent_len-len.result)) (twice-here))
     ∙ lined-row c.args.n c.args.i (X c.args.n c.args.triples.now c.args.d.now) (Z c.args.n c.args.triples.now c.args.d.now)
-    (Y c.args.n c.args.i c.args.triples.now) (y-long-here) c.loop-k.invariant.1 (2 * (c.lent_len-len.result)) (twice-here)
+    (Y c.args.n c.args.i c.args.triples.now) (y-long-here) c.loop-k.invariant (2 * (c.lent_len-len.result)) (twice-here)
 
 -- a head has its place in it
 room : (c : At-loop-k) → 1 + LABEL ≤ length (c.loop-k.out)
@@ -145,13 +142,10 @@ overflow_add-k c =
     omega (arith, c.loop-k-test.true, c.requires.n_bound.0)
 
 pub loop-k-preserved : goal.loop-k-preserved
-loop-k-preserved c = (
-  omega (arith, c.loop-k-test.true),
-  lined-turn c.args.n c.args.i (X c.args.n c.args.triples.now c.args.d.now) (Z c.args.n c.args.triples.now c.args.d.now)
-      (Y c.args.n c.args.i c.args.triples.now) (y-long (goal.at.loop-k-preserved c).After-lent_len-len) c.loop-k.invariant.1 (2 *
+loop-k-preserved c = (lined-turn c.args.n c.args.i (X c.args.n c.args.triples.now c.args.d.now) (Z c.args.n c.args.triples.now c.args.d.now)
+      (Y c.args.n c.args.i c.args.triples.now) (y-long (goal.at.loop-k-preserved c).After-lent_len-len) c.loop-k.invariant (2 *
       (c.lent_len-len.result)) (twice (goal.at.loop-k-preserved c).After-lent_len-len) c.loop-k-test.true _ _
-      c.put_entries.new.row c.party-s.ensures.x-bytes c.party-s.ensures.z-bytes c.put_entries.ensures,
-)
+      c.put_entries.new.row c.party-s.ensures.x-bytes c.party-s.ensures.z-bytes c.put_entries.ensures)
 
 pub slice_bounds-sum_bits-end : goal.slice_bounds-sum_bits-end
 slice_bounds-sum_bits-end c = ts-long (goal.at.slice_bounds-sum_bits-end c).At-loop-k
@@ -191,14 +185,14 @@ headed c =
     let y-long-here : length (Y c.args.n c.args.i c.args.triples.now) ≡ lent_len c.args.n =
     length-lent_of c.args.n c.args.i (triple c.args.n c.args.triples.now 0).ty in
     lined-long c.args.n c.args.i (X c.args.n c.args.triples.now c.args.d.now) (Z c.args.n c.args.triples.now c.args.d.now)
-    (Y c.args.n c.args.i c.args.triples.now) (y-long-here) c.loop-k.invariant.1 (2 * (c.lent_len-len.result)) (twice-here) in
+    (Y c.args.n c.args.i c.args.triples.now) (y-long-here) c.loop-k.invariant (2 * (c.lent_len-len.result)) (twice-here) in
     let out-long-here : length (c.loop-k.out) ≡ 3 * lent_len c.args.n = let long-here : (c.lent_len-len.result) ≡ lent_len c.args.n =
     c.lent_len-len.ensures in
     let twice-here : 2 * (c.lent_len-len.result) ≡ 2 * lent_len c.args.n = ap (λ m. 2 * m) (long-here) in
     let y-long-here : length (Y c.args.n c.args.i c.args.triples.now) ≡ lent_len c.args.n =
     length-lent_of c.args.n c.args.i (triple c.args.n c.args.triples.now 0).ty in
     lined-long c.args.n c.args.i (X c.args.n c.args.triples.now c.args.d.now) (Z c.args.n c.args.triples.now c.args.d.now)
-    (Y c.args.n c.args.i c.args.triples.now) (y-long-here) c.loop-k.invariant.1 (2 * (c.lent_len-len.result)) (twice-here) in
+    (Y c.args.n c.args.i c.args.triples.now) (y-long-here) c.loop-k.invariant (2 * (c.lent_len-len.result)) (twice-here) in
     let room-here : 1 + LABEL ≤ length (c.loop-k.out) = omega (arith, out-long-here, head-within c.args.n) in
     ap length c.put_lent_head.ensures ∙ lent-headed (c.args.n) c.args.i c.sum_bits-b.result.x (c.loop-k.out) (room-here) ∙ out-long-here
 
@@ -268,7 +262,7 @@ left c =
     ∙ sym (bit-bucket-z (x_lent (c.args.n) c.args.triples.now (ts c.args.d.now)) (length c.args.d.now) (z_lent
     (c.args.n) c.args.triples.now (ts c.args.d.now)) (λ e. odd (get_or c.args.d.now e 0))) in
     lined-end (c.args.n) (c.args.i) (X c.args.n c.args.triples.now c.args.d.now) (Z c.args.n c.args.triples.now c.args.d.now)
-    (Y c.args.n c.args.i c.args.triples.now) (y-long-here) c.loop-k.invariant.1 (2 * (c.lent_len-len.result)) (twice-here)
+    (Y c.args.n c.args.i c.args.triples.now) (y-long-here) c.loop-k.invariant (2 * (c.lent_len-len.result)) (twice-here)
     (omega (arith, c.loop-k-test.false, c.loop-k.invariant.0)) c.sum_bits-b.result.x c.sum_bits-b.result.z
     (bit-x-here) (bit-z-here) c.put_lent_head.new.out c.put_lent_head-2.new.out c.put_lent_head.ensures c.put_lent_head-2.ensures
 

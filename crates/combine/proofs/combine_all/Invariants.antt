@@ -25,7 +25,4 @@ abbrev pub Y : ℕ → ℕ → List ℕ → List ℕ
 Y n i s = lent_of n i (triple n s 0).ty
 
 abbrev pub invariant-loop-k : goal.invariant-loop-k
-invariant-loop-k l = (l.k ≤ l.n) × Lined l.n l.i l.k (X l.n l.triples l.d) (Z l.n l.triples l.d) (Y l.n l.i l.triples) l.out
-
-abbrev pub decreases-loop-k : goal.decreases-loop-k
-decreases-loop-k l = l.n - l.k
+invariant-loop-k l = Lined l.n l.i l.k (X l.n l.triples l.d) (Z l.n l.triples l.d) (Y l.n l.i l.triples) l.out

@@ -20,11 +20,8 @@ put_dvalue_counts-requires c =
     omega (arith, c.requires.j_lt_l.2, c.later-due.ensures)
 
 pub loop-e-init : goal.loop-e-init
-loop-e-init c = (
-  search rules,
-  rw c.put_dvalue_counts.ensures
-      (filled-start c.later-due.result _ _ c.args.out.now (omega (arith, c.requires.j_lt_l.2, c.later-due.ensures))),
-)
+loop-e-init c = (rw c.put_dvalue_counts.ensures
+      (filled-start c.later-due.result _ _ c.args.out.now (omega (arith, c.requires.j_lt_l.2, c.later-due.ensures))))
 
 -- a turn, where y of the next entry is known
 
@@ -58,30 +55,27 @@ sum_mac-mac-requires c = (
 
 pub put_dvalue-requires : goal.put_dvalue-requires
 put_dvalue-requires c =
-    (c.loop-e.invariant.1.long, c.loop-e-test.true)
+    (c.loop-e.invariant.long, c.loop-e-test.true)
 
 pub loop-e-preserved : goal.loop-e-preserved
 loop-e-preserved c =
     let d : _ ≡ B.d c.args.f c.args.recs.now c.args.perm.now c.args.j c.loop-e.e =
     d-read c.args.f c.args.recs.now c.args.perm.now c.args.j c.loop-e.e c.y_at-y0.result c.y_at-y1.result c.y_at-y0.ensures
-    c.y_at-y1.ensures in (
-      omega (arith, c),
-      rw (c.put_dvalue.ensures
+    c.y_at-y1.ensures in (rw (c.put_dvalue.ensures
           ∙ ap₂ (λ (v : Bool) (x : Block). dvalue_in c.later-due.result c.loop-e.e v x c.loop-e.out)
           (c.sum_bit-bit.ensures ∙ ap (λ (g : Share). g.bit) d) (c.sum_mac-mac.ensures
           ∙ ap (λ (g : Share). g.mac c.args.k) d))
           (filled-turn c.later-due.result (bits c.args.f c.args.recs.now c.args.perm.now c.args.j)
-          (macs c.args.f c.args.recs.now c.args.perm.now c.args.j c.args.k) c.loop-e.e c.loop-e.out c.loop-e-test.true c.loop-e.invariant.1),
-    )
+          (macs c.args.f c.args.recs.now c.args.perm.now c.args.j c.args.k) c.loop-e.e c.loop-e.out c.loop-e-test.true c.loop-e.invariant))
 
 pub shape_of-out : goal.shape_of-out
 shape_of-out c =
-    omega (arith, c.loop-e.invariant.1.long, c.later-due.ensures, c.requires.j_lt_l)
+    omega (arith, c.loop-e.invariant.long, c.later-due.ensures, c.requires.j_lt_l)
 
 pub returns : goal.returns
 returns c =
     let d = bits c.args.f c.args.recs.now c.args.perm.now c.args.j in
     let x = macs c.args.f c.args.recs.now c.args.perm.now c.args.j c.args.k in
     filled-end c.later-due.result d x c.loop-e.out
-    (subst (λ k. Filled c.later-due.result d x k c.loop-e.out) (let p : c.loop-e.e ≡ c.later-due.result = omega arith in p) c.loop-e.invariant.1)
+    (subst (λ k. Filled c.later-due.result d x k c.loop-e.out) (let p : c.loop-e.e ≡ c.later-due.result = omega arith in p) c.loop-e.invariant)
     ∙ ap (λ k. dvalue_item k d x) c.later-due.ensures

@@ -14,7 +14,4 @@ abbrev pub macs : Frame → List ℕ → List ℕ → ℕ → ℕ → ℕ → Bl
 macs f recs perm j k e = (B.d f recs perm j e).mac k
 
 abbrev pub invariant-loop-e : goal.invariant-loop-e
-invariant-loop-e l = (l.e ≤ l.due) × Filled l.due (bits l.f l.recs l.perm l.j) (macs l.f l.recs l.perm l.j l.k) l.e l.out
-
-abbrev pub decreases-loop-e : goal.decreases-loop-e
-decreases-loop-e l = l.due - l.e
+invariant-loop-e l = Filled l.due (bits l.f l.recs l.perm l.j) (macs l.f l.recs l.perm l.j l.k) l.e l.out

@@ -24,7 +24,7 @@ each : (c : After-slice_known-2-1) → (j : ℕ) → j < c.args.f.l → length (
 each c j h = length-item (B.later c.args.f) _ _ ∙ sym c.bucket_len-size.ensures
 
 pub loop-j-init : goal.loop-j-init
-loop-j-init c = (search rules, rw zero-mul (stretch-self c.args.f.l (item c.args.f c.args.recs.now c.args.perm.now c.args.k) 0 8 c.args.out.now (put_mid 0 8 c.args.out.now c.put_count.new.out) (counted (goal.at.loop-j-init c).After-slice_known-2-1)))
+loop-j-init c = (rw zero-mul (stretch-self c.args.f.l (item c.args.f c.args.recs.now c.args.perm.now c.args.k) 0 8 c.args.out.now (put_mid 0 8 c.args.out.now c.put_count.new.out) (counted (goal.at.loop-j-init c).After-slice_known-2-1)))
 
 -- bucket j lies within
 inside : (c : In-loop-j) → 8 + c.loop-j.j * (c.bucket_len-size.result) + (c.bucket_len-size.result) ≤ length c.loop-j.out
@@ -32,13 +32,13 @@ inside c =
     let counted-here : Stretch c.args.f.l (item c.args.f c.args.recs.now c.args.perm.now c.args.k) 0 8 c.args.out.now (put_mid 0 8 c.args.out.now c.put_count.new.out) = stretch-count c.args.f.l (item c.args.f c.args.recs.now c.args.perm.now c.args.k) c.args.out.now c.put_count.new.out (omega (arith, c.requires.k_lt_n))
     c.put_count.ensures in
     let long-here : length (put_mid 0 8 c.args.out.now c.put_count.new.out) ≡ 8 + c.args.f.l * (c.bucket_len-size.result) = (counted-here).same ∙ c.requires.k_lt_n.1 ∙ ap (λ k. 8 + c.args.f.l * k) (sym c.bucket_len-size.ensures) in
-    omega (arith, in_list c.loop-j.j c.args.f.l (c.bucket_len-size.result) c.loop-j-test.true, long-here, c.loop-j.invariant.1.same)
+    omega (arith, in_list c.loop-j.j c.args.f.l (c.bucket_len-size.result) c.loop-j-test.true, long-here, c.loop-j.invariant.same)
 
 short : (c : In-loop-j) → length c.loop-j.out ≡ length c.args.out.now
 short c =
     let counted-here : Stretch c.args.f.l (item c.args.f c.args.recs.now c.args.perm.now c.args.k) 0 8 c.args.out.now (put_mid 0 8 c.args.out.now c.put_count.new.out) = stretch-count c.args.f.l (item c.args.f c.args.recs.now c.args.perm.now c.args.k) c.args.out.now c.put_count.new.out (omega (arith, c.requires.k_lt_n))
     c.put_count.ensures in
-    c.loop-j.invariant.1.same ∙ (counted-here).same
+    c.loop-j.invariant.same ∙ (counted-here).same
 
 pub overflow_mul-a : goal.overflow_mul-a
 overflow_mul-a c = omega (arith, inside (goal.at.overflow_mul-a c).In-loop-j, short (goal.at.overflow_mul-a c).In-loop-j, c.well_formed)
@@ -66,18 +66,15 @@ put_bucket-requires c =
     }
 
 pub loop-j-preserved : goal.loop-j-preserved
-loop-j-preserved c = (
-  omega (arith, c),
-  even-turn c.args.f.l (item c.args.f c.args.recs.now c.args.perm.now c.args.k) (c.bucket_len-size.result) (each (goal.at.loop-j-preserved c).After-slice_known-2-1) c.loop-j.j (8 + c.loop-j.j * (c.bucket_len-size.result) + (c.bucket_len-size.result)) (put_mid 0 8 c.args.out.now c.put_count.new.out) c.loop-j.out
+loop-j-preserved c = (even-turn c.args.f.l (item c.args.f c.args.recs.now c.args.perm.now c.args.k) (c.bucket_len-size.result) (each (goal.at.loop-j-preserved c).After-slice_known-2-1) c.loop-j.j (8 + c.loop-j.j * (c.bucket_len-size.result) + (c.bucket_len-size.result)) (put_mid 0 8 c.args.out.now c.put_count.new.out) c.loop-j.out
       c.put_bucket.new.out (long (goal.at.loop-j-preserved c).After-slice_known-2-1) c.loop-j-test.true
-      c.loop-j.invariant.1 c.put_bucket.ensures refl,
-)
+      c.loop-j.invariant c.put_bucket.ensures refl)
 
 pub shape_of-out : goal.shape_of-out
-shape_of-out c = c.loop-j.invariant.1.same ∙ (counted (goal.at.shape_of-out c).After-slice_known-2-1).same
+shape_of-out c = c.loop-j.invariant.same ∙ (counted (goal.at.shape_of-out c).After-slice_known-2-1).same
 
 pub returns : goal.returns
 unfolding B.dvalue_msg
 returns c =
     even-end c.args.f.l (item c.args.f c.args.recs.now c.args.perm.now c.args.k) (c.bucket_len-size.result) (each (goal.at.returns c).After-slice_known-2-1) c.loop-j.j (put_mid 0 8 c.args.out.now c.put_count.new.out) c.loop-j.out (long (goal.at.returns c).After-slice_known-2-1)
-    c.loop-j.invariant.1 (omega arith)
+    c.loop-j.invariant (omega arith)

@@ -11,7 +11,4 @@ abbrev pub item : Frame → List ℕ → List ℕ → ℕ → ℕ → List ℕ
 item f recs perm k j = dvalue_item (B.later f) (λ e. (B.d f recs perm j e).bit) (λ e. (B.d f recs perm j e).mac k)
 
 abbrev pub invariant-loop-j : goal.invariant-loop-j
-invariant-loop-j l = (l.j ≤ l.f.l) × Stretch l.f.l (item l.f l.recs l.perm l.k) l.j (8 + l.j * l.size) l.initial.out l.out
-
-abbrev pub decreases-loop-j : goal.decreases-loop-j
-decreases-loop-j l = l.f.l - l.j
+invariant-loop-j l = Stretch l.f.l (item l.f l.recs l.perm l.k) l.j (8 + l.j * l.size) l.initial.out l.out

@@ -5,7 +5,4 @@ use Rattle.rounds.specs.Buckets.{dvalue_msg}
 use Rattle.dvalue.proofs.put_messages.Given as goal
 
 abbrev pub invariant-loop-q : goal.invariant-loop-q
-invariant-loop-q l = (l.q ≤ l.f.n - 1) × Sent l.f.n l.f.i l.len (dvalue_msg l.f l.recs l.perm) l.q l.initial.out l.out
-
-abbrev pub decreases-loop-q : goal.decreases-loop-q
-decreases-loop-q l = l.f.n - 1 - l.q
+invariant-loop-q l = Sent l.f.n l.f.i l.len (dvalue_msg l.f l.recs l.perm) l.q l.initial.out l.out

@@ -34,7 +34,7 @@ pub y_at-first-requires : goal.y_at-first-requires
 y_at-first-requires c = record { ranged = c.requires.ranged; perm_len = (c.requires.permuted.numbers, c.requires.j_lt_l.0, first-in c.args.f) }
 
 pub loop-e-init : goal.loop-e-init
-loop-e-init c = (search rules, sym (all-zero _))
+loop-e-init c = (sym (all-zero _))
 
 -- a turn
 
@@ -98,18 +98,15 @@ mac_holds-ok-requires c =
     }
 
 pub loop-e-preserved : goal.loop-e-preserved
-loop-e-preserved c = (
-  omega (arith, c.loop-e-test.true),
-  all_more (d_holds c.args.f c.args.delta.0 c.args.recs.now c.args.perm.now c.args.m.now c.args.k c.args.j) c.loop-e.e c.loop-e.ok _ c.loop-e.invariant.1
+loop-e-preserved c = (all_more (d_holds c.args.f c.args.delta.0 c.args.recs.now c.args.perm.now c.args.m.now c.args.k c.args.j) c.loop-e.e c.loop-e.ok _ c.loop-e.invariant
       (d_holds_lem c.args.f c.args.delta.0 c.args.recs.now c.args.perm.now c.args.m.now c.args.k c.args.j c.loop-e.e c.y_at-first.result
       c.y_at-next.result
       (c.bucket_at-bits.result + 8 + c.loop-e.e) (c.bucket_at-bits.result + 8 + (c.later-due.result) + 8 + c.loop-e.e * 16) _ c.y_at-first.ensures
       c.y_at-next.ensures
-      (omega (arith, c.bucket_at-bits.ensures)) (omega (arith, c.bucket_at-bits.ensures, c.later-due.ensures)) c.mac_holds-ok.ensures),
-)
+      (omega (arith, c.bucket_at-bits.ensures)) (omega (arith, c.bucket_at-bits.ensures, c.later-due.ensures)) c.mac_holds-ok.ensures))
 
 pub returns : goal.returns
 unfolding bucket_holds
 returns c =
-    c.loop-e.invariant.1 ∙ ap (λ e. all_of e (d_holds c.args.f c.args.delta.0 c.args.recs.now c.args.perm.now c.args.m.now c.args.k c.args.j))
+    c.loop-e.invariant ∙ ap (λ e. all_of e (d_holds c.args.f c.args.delta.0 c.args.recs.now c.args.perm.now c.args.m.now c.args.k c.args.j))
     (let e : c.loop-e.e ≡ later c.args.f = omega (arith, c.later-due.ensures) in e)

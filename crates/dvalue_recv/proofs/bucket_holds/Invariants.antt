@@ -5,7 +5,4 @@ use Rattle.dvalue_recv.specs.Checks.{d_holds}
 use Rattle.dvalue_recv.proofs.bucket_holds.Given as goal
 
 abbrev pub invariant-loop-e : goal.invariant-loop-e
-invariant-loop-e l = (l.e ≤ l.due) × (l.ok ≡ all_of l.e (d_holds l.f l.delta.0 l.recs l.perm l.m l.k l.j))
-
-abbrev pub decreases-loop-e : goal.decreases-loop-e
-decreases-loop-e l = l.due - l.e
+invariant-loop-e l = (l.ok ≡ all_of l.e (d_holds l.f l.delta.0 l.recs l.perm l.m l.k l.j))

@@ -5,7 +5,4 @@ use Rattle.dvalue_recv.specs.Checks.{bucket_holds}
 use Rattle.dvalue_recv.proofs.message_holds.Given as goal
 
 abbrev pub invariant-loop-j : goal.invariant-loop-j
-invariant-loop-j l = (l.j ≤ l.f.l) × (l.ok ≡ all_of l.j (bucket_holds l.f l.delta.0 l.recs l.perm l.m l.k))
-
-abbrev pub decreases-loop-j : goal.decreases-loop-j
-decreases-loop-j l = l.f.l - l.j
+invariant-loop-j l = (l.ok ≡ all_of l.j (bucket_holds l.f l.delta.0 l.recs l.perm l.m l.k))

@@ -14,7 +14,4 @@ abbrev pub bit : List ℕ → List ℕ → List ℕ → Mail → Frame → ℕ �
 bit recs perm incoming mail f j e = num (d_opened f recs perm (letter incoming mail) j e)
 
 abbrev pub invariant-loop-e : goal.invariant-loop-e
-invariant-loop-e l = (l.e ≤ length l.initial.row) × (length l.row ≡ length l.initial.row) × (l.row ≡ tab l.e (bit l.recs l.perm l.incoming l.mail l.f l.j) ++ drop l.e l.initial.row)
-
-abbrev pub decreases-loop-e : goal.decreases-loop-e
-decreases-loop-e l = length l.initial.row - l.e
+invariant-loop-e l = (length l.row ≡ length l.initial.row) × (l.row ≡ tab l.e (bit l.recs l.perm l.incoming l.mail l.f l.j) ++ drop l.e l.initial.row)

@@ -6,18 +6,18 @@ use Rattle.echo.proofs.check_echo.Goals as goal
 
 pub loop-k-init : goal.loop-k-init
 loop-k-init c =
-    (search rules, echo-clean c.args.f.i c.args.j c.args.hashes.now c.args.m.now)
+    (echo-clean c.args.f.i c.args.j c.args.hashes.now c.args.m.now)
 
 pub returns-then-code-ne0 : goal.returns-then-code-ne0
 returns-then-code-ne0 c =
     echo-first c.args.f.n c.args.f.i c.args.j c.loop-k.k c.told_fault-code.result c.args.hashes.now c.args.m.now
-    c.loop-k-test.true c.loop-k.invariant.1
+    c.loop-k-test.true c.loop-k.invariant
     c.told_fault-code.ensures c.if-code-ne0.true
 
 pub loop-k-preserved : goal.loop-k-preserved
 loop-k-preserved c =
-    (omega arith, scan-turn c.loop-k.k (told_fault c.args.f.i c.args.j c.args.hashes.now c.args.m.now) c.loop-k.invariant.1 (sym c.told_fault-code.ensures ∙ c.if-code-ne0.false))
+    (scan-turn c.loop-k.k (told_fault c.args.f.i c.args.j c.args.hashes.now c.args.m.now) c.loop-k.invariant (sym c.told_fault-code.ensures ∙ c.if-code-ne0.false))
 
 pub returns : goal.returns
 returns c =
-    echo-none c.args.f.n c.args.f.i c.args.j c.loop-k.k c.args.hashes.now c.args.m.now c.loop-k.invariant.1 (omega arith)
+    echo-none c.args.f.n c.args.f.i c.args.j c.loop-k.k c.args.hashes.now c.args.m.now c.loop-k.invariant (omega arith)

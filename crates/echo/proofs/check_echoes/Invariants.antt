@@ -6,7 +6,4 @@ use Rattle.rounds.specs.EchoLaws.{echo_faults}
 use Rattle.echo.proofs.check_echoes.Given as goal
 
 abbrev pub invariant-loop-j : goal.invariant-loop-j
-invariant-loop-j l = (l.j ≤ l.n) × ((scan l.j (fault_at l.f.i (echo_faults l.n l.f.i l.hashes (letter l.incoming l.mail)))).code ≡ 0)
-
-abbrev pub decreases-loop-j : goal.decreases-loop-j
-decreases-loop-j l = l.n - l.j
+invariant-loop-j l = ((scan l.j (fault_at l.f.i (echo_faults l.n l.f.i l.hashes (letter l.incoming l.mail)))).code ≡ 0)

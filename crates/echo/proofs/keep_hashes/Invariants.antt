@@ -13,7 +13,4 @@ abbrev pub row : List ℕ → Mail → ℕ → ℕ → ℕ → ℕ → List ℕ
 row incoming mail i l k j = pick (neq i j) (hash_vec k (letter incoming mail j)) (replicate 16 0)
 
 abbrev pub invariant-loop-j : goal.invariant-loop-j
-invariant-loop-j l = (l.j ≤ l.n) × Written (row l.incoming l.mail l.f.i l.f.l l.k) l.j (l.j * 16) l.initial.section l.section
-
-abbrev pub decreases-loop-j : goal.decreases-loop-j
-decreases-loop-j l = l.n - l.j
+invariant-loop-j l = Written (row l.incoming l.mail l.f.i l.f.l l.k) l.j (l.j * 16) l.initial.section l.section

@@ -6,7 +6,4 @@ use Rattle.rounds.specs.EchoLaws.{entry, entry_at}
 use Rattle.echo.proofs.put_echo.Given as goal
 
 abbrev pub invariant-loop-k : goal.invariant-loop-k
-invariant-loop-k l = (l.k ≤ l.n) × ((l.a ≡ entry_at l.i l.r l.hashes l.k) × ((length l.initial.out ≡ msg_len l.n 1 2) × Stretch l.n (entry l.i l.r l.hashes) l.k l.a l.initial.out l.out))
-
-abbrev pub decreases-loop-k : goal.decreases-loop-k
-decreases-loop-k l = l.n - l.k
+invariant-loop-k l = ((l.a ≡ entry_at l.i l.r l.hashes l.k) × ((length l.initial.out ≡ msg_len l.n 1 2) × Stretch l.n (entry l.i l.r l.hashes) l.k l.a l.initial.out l.out))

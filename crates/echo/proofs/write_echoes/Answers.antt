@@ -9,7 +9,7 @@ use Rattle.echo.proofs.write_echoes.Goals.{After-msg_len-len, After-other-r}
 
 pub loop-q-init : goal.loop-q-init
 loop-q-init c =
-    (omega arith, sent-none c.args.f.n c.args.f.i c.msg_len-len.result (echo_msg c.args.f.n c.args.f.i c.args.hashes.now) c.args.out.now)
+    (sent-none c.args.f.n c.args.f.i c.msg_len-len.result (echo_msg c.args.f.n c.args.f.i c.args.hashes.now) c.args.out.now)
 
 -- the messages fill the buffer
 size : (c : After-msg_len-len) → length c.args.out.now ≡ (c.args.f.n - 1) * c.msg_len-len.result
@@ -21,11 +21,11 @@ fits : (c : After-other-r) → c.loop-q.q * c.msg_len-len.result + c.msg_len-len
 fits c =
     let size-here : length c.args.out.now ≡ (c.args.f.n - 1) * c.msg_len-len.result = c.requires.out_len.0 ∙ ap (λ m. (c.args.f.n - 1) * m) (sym c.msg_len-len.ensures) in
     sent-in c.args.f.n c.args.f.i c.msg_len-len.result (echo_msg c.args.f.n c.args.f.i c.args.hashes.now) c.msg_len-len.result c.loop-q.q c.args.out.now c.loop-q.out refl
-    (size-here) c.loop-q.invariant.1 c.loop-q-test.true
+    (size-here) c.loop-q.invariant c.loop-q-test.true
 
 whole : (c : After-other-r) → c.loop-q.q * c.msg_len-len.result + c.msg_len-len.result ≤ length
     c.args.out.now
-whole c = omega (arith, fits c, c.loop-q.invariant.1.same)
+whole c = omega (arith, fits c, c.loop-q.invariant.same)
 
 pub overflow_mul-a : goal.overflow_mul-a
 overflow_mul-a c = omega (arith, whole (goal.at.overflow_mul-a c).After-other-r)
@@ -41,17 +41,14 @@ put_echo-requires c =
     let below : c.other-r.result < c.args.f.n = rw c.other-r.ensures (nth-below c.args.f.n c.args.f.i c.loop-q.q c.loop-q-test.true) in record { n_bound = (c.requires.le_n.1.0, (c.requires.le_n.1.1, (below, λ x. nth-skips c.args.f.i c.loop-q.q (sym c.other-r.ensures ∙ sym x)))); out_len = (length-row c.msg_len-len.result c.loop-q.q c.loop-q.out (fits (goal.at.put_echo-requires c).After-other-r) ∙ c.msg_len-len.ensures, c.requires.out_len.1) }
 
 pub loop-q-preserved : goal.loop-q-preserved
-loop-q-preserved c = (
-  omega (arith, c),
-  sent_back c.args.f.n c.args.f.i c.msg_len-len.result (echo_msg c.args.f.n c.args.f.i c.args.hashes.now) c.msg_len-len.result c.loop-q.q c.args.out.now c.loop-q.out refl
-      (size (goal.at.loop-q-preserved c).After-msg_len-len) c.loop-q.invariant.1 c.other-r.result c.put_echo.new.out c.loop-q-test.true c.other-r.ensures
-      c.put_echo.ensures c.put_echo.auto.out,
-)
+loop-q-preserved c = (sent_back c.args.f.n c.args.f.i c.msg_len-len.result (echo_msg c.args.f.n c.args.f.i c.args.hashes.now) c.msg_len-len.result c.loop-q.q c.args.out.now c.loop-q.out refl
+      (size (goal.at.loop-q-preserved c).After-msg_len-len) c.loop-q.invariant c.other-r.result c.put_echo.new.out c.loop-q-test.true c.other-r.ensures
+      c.put_echo.ensures c.put_echo.auto.out)
 
 pub shape_of-out : goal.shape_of-out
-shape_of-out c = c.loop-q.invariant.1.same
+shape_of-out c = c.loop-q.invariant.same
 
 pub returns : goal.returns
 returns c =
     sent-end c.args.f.n c.args.f.i c.msg_len-len.result (echo_msg c.args.f.n c.args.f.i c.args.hashes.now) c.msg_len-len.result c.loop-q.q c.args.out.now c.loop-q.out refl
-    (size (goal.at.returns c).After-msg_len-len) c.loop-q.invariant.1 (omega arith)
+    (size (goal.at.returns c).After-msg_len-len) c.loop-q.invariant (omega arith)

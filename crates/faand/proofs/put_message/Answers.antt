@@ -16,7 +16,7 @@ pub loop-j-init : goal.loop-j-init
 loop-j-init c =
     let w = stretch-count c.args.f.l (item c.args.f c.args.work.now c.args.k) c.args.out.now c.put_count.new.out (omega (arith, c.requires.k_lt_n.1))
     c.put_count.ensures in
-    (omega arith, w.same ∙ c.requires.k_lt_n.1, stretch-self c.args.f.l (item c.args.f c.args.work.now c.args.k) 0 8 _ _ w)
+    (w.same ∙ c.requires.k_lt_n.1, stretch-self c.args.f.l (item c.args.f c.args.work.now c.args.k) 0 8 _ _ w)
 
 -- ---- in a turn
 
@@ -25,8 +25,8 @@ inside : (c : In-loop-j) → 8 + c.loop-j.j * 34 + 34 ≤ length c.loop-j.out
 inside c =
     omega (
       arith,
-      c.loop-j.invariant.2.same,
-      c.loop-j.invariant.1,
+      c.loop-j.invariant.1.same,
+      c.loop-j.invariant.0,
       in_list c.loop-j.j c.args.f.l 34
           c.loop-j-test.true,
     )
@@ -39,22 +39,19 @@ put_item-requires c =
     record { work = (c.requires.work.0, c.loop-j-test.true, c.requires.work.1); k_lt_n = (c.requires.k_lt_n.0, lent-part (8 + c.loop-j.j * 34) 34 34 c.loop-j.out refl (inside (goal.at.put_item-requires c).In-loop-j)) }
 
 pub loop-j-preserved : goal.loop-j-preserved
-loop-j-preserved c = (
-  omega (arith, c.loop-j-test.true),
-  c.loop-j.invariant.1,
-  even-turn c.args.f.l (item c.args.f c.args.work.now c.args.k) 34 (each (goal.at.loop-j-preserved c).Start) c.loop-j.j (8 + c.loop-j.j * 34 + 34) _ c.loop-j.out c.put_item.new.out c.loop-j.invariant.1
-      c.loop-j-test.true c.loop-j.invariant.2
-      c.put_item.ensures refl,
-)
+loop-j-preserved c = (c.loop-j.invariant.0,
+  even-turn c.args.f.l (item c.args.f c.args.work.now c.args.k) 34 (each (goal.at.loop-j-preserved c).Start) c.loop-j.j (8 + c.loop-j.j * 34 + 34) _ c.loop-j.out c.put_item.new.out c.loop-j.invariant.0
+      c.loop-j-test.true c.loop-j.invariant.1
+      c.put_item.ensures refl)
 
 pub shape_of-out : goal.shape_of-out
 shape_of-out c =
-    c.loop-j.invariant.2.same ∙ c.loop-j.invariant.1 ∙ sym c.requires.k_lt_n.1
+    c.loop-j.invariant.1.same ∙ c.loop-j.invariant.0 ∙ sym c.requires.k_lt_n.1
 
 pub returns : goal.returns
 unfolding R.faand_msg
 returns c =
-    even-end c.args.f.l (item c.args.f c.args.work.now c.args.k) 34 (each (goal.at.returns c).Start) c.loop-j.j _ c.loop-j.out c.loop-j.invariant.1 c.loop-j.invariant.2 (omega arith)
+    even-end c.args.f.l (item c.args.f c.args.work.now c.args.k) 34 (each (goal.at.returns c).Start) c.loop-j.j _ c.loop-j.out c.loop-j.invariant.0 c.loop-j.invariant.1 (omega arith)
 
 pub overflow_mul-a : goal.overflow_mul-a
 overflow_mul-a c = omega (arith, slice_bounds-put_item-end c)

@@ -6,7 +6,4 @@ use Rattle.faand.specs.ItemLaws.{told, item}
 use Rattle.faand.proofs.put_message.Given as goal
 
 abbrev pub invariant-loop-j : goal.invariant-loop-j
-invariant-loop-j l = (l.j ≤ l.f.l) × (length l.initial.out ≡ told l.f) × Stretch l.f.l (item l.f l.work l.k) l.j (8 + l.j * 34) l.initial.out l.out
-
-abbrev pub decreases-loop-j : goal.decreases-loop-j
-decreases-loop-j l = l.f.l - l.j
+invariant-loop-j l = (length l.initial.out ≡ told l.f) × Stretch l.f.l (item l.f l.work l.k) l.j (8 + l.j * 34) l.initial.out l.out

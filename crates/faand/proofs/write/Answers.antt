@@ -10,14 +10,14 @@ use Rattle.faand.proofs.write.Goals.{At-loop-q}
 
 pub loop-q-init : goal.loop-q-init
 loop-q-init c =
-    (omega arith, sent-none c.args.f.n c.args.f.i c.msg_len-len.result (message c.args.f c.args.work.now) c.args.out.now)
+    (sent-none c.args.f.n c.args.f.i c.msg_len-len.result (message c.args.f c.args.work.now) c.args.out.now)
 
 long : (c : At-loop-q) → length c.args.out.now ≡ (c.args.f.n - 1) * (c.msg_len-len.result)
 long c = c.requires.out_len ∙ ap (λ k. (c.args.f.n - 1) * k) (sym c.msg_len-len.ensures)
 
 part_in : (c : At-loop-q) → c.loop-q.q < c.args.f.n - 1 → c.loop-q.q * (c.msg_len-len.result) + (c.msg_len-len.result) ≤ length c.loop-q.out
 part_in c h =
-    sent-in c.args.f.n c.args.f.i (c.msg_len-len.result) (message c.args.f c.args.work.now) (c.msg_len-len.result) c.loop-q.q c.args.out.now c.loop-q.out refl (long c) c.loop-q.invariant.1 h
+    sent-in c.args.f.n c.args.f.i (c.msg_len-len.result) (message c.args.f c.args.work.now) (c.msg_len-len.result) c.loop-q.q c.args.out.now c.loop-q.out refl (long c) c.loop-q.invariant h
 
 pub put_message-requires : goal.put_message-requires
 put_message-requires c =
@@ -30,19 +30,16 @@ put_message-requires c =
     }
 
 pub loop-q-preserved : goal.loop-q-preserved
-loop-q-preserved c = (
-  omega (arith, c.loop-q-test.true),
-  sent_back c.args.f.n c.args.f.i (c.msg_len-len.result) (message c.args.f c.args.work.now) (c.msg_len-len.result) c.loop-q.q c.args.out.now c.loop-q.out refl (long (goal.at.loop-q-preserved c).At-loop-q) c.loop-q.invariant.1
+loop-q-preserved c = (sent_back c.args.f.n c.args.f.i (c.msg_len-len.result) (message c.args.f c.args.work.now) (c.msg_len-len.result) c.loop-q.q c.args.out.now c.loop-q.out refl (long (goal.at.loop-q-preserved c).At-loop-q) c.loop-q.invariant
       c.other-k.result c.put_message.new.out c.loop-q-test.true c.other-k.ensures
-      c.put_message.ensures c.put_message.auto.out,
-)
+      c.put_message.ensures c.put_message.auto.out)
 
 pub shape_of-out : goal.shape_of-out
-shape_of-out c = c.loop-q.invariant.1.same
+shape_of-out c = c.loop-q.invariant.same
 
 pub returns : goal.returns
 returns c =
-    sent-end c.args.f.n c.args.f.i (c.msg_len-len.result) (message c.args.f c.args.work.now) (c.msg_len-len.result) c.loop-q.q c.args.out.now c.loop-q.out refl (long (goal.at.returns c).At-loop-q) c.loop-q.invariant.1
+    sent-end c.args.f.n c.args.f.i (c.msg_len-len.result) (message c.args.f c.args.work.now) (c.msg_len-len.result) c.loop-q.q c.args.out.now c.loop-q.out refl (long (goal.at.returns c).At-loop-q) c.loop-q.invariant
     (omega arith)
 
 pub overflow_mul-a : goal.overflow_mul-a

@@ -7,7 +7,7 @@ use Rattle.faand_recv.proofs.message_holds.Goals as goal
 -- whether bucket j holds
 
 pub loop-j-init : goal.loop-j-init
-loop-j-init c = (omega arith, sym (all-zero _))
+loop-j-init c = (sym (all-zero _))
 
 pub item_holds-ok-requires : goal.item_holds-ok-requires
 item_holds-ok-requires c =
@@ -15,8 +15,8 @@ item_holds-ok-requires c =
 
 pub loop-j-preserved : goal.loop-j-preserved
 loop-j-preserved c =
-    (omega (arith, c.loop-j-test.true), all_more (holds c.args.f c.args.delta.0 c.args.work.now c.args.m.now c.args.k) c.loop-j.j c.loop-j.ok _ c.loop-j.invariant.1 c.item_holds-ok.ensures)
+    (all_more (holds c.args.f c.args.delta.0 c.args.work.now c.args.m.now c.args.k) c.loop-j.j c.loop-j.ok _ c.loop-j.invariant c.item_holds-ok.ensures)
 
 pub returns : goal.returns
 returns c =
-    c.loop-j.invariant.1 ∙ ap (λ j. all_of j (holds c.args.f c.args.delta.0 c.args.work.now c.args.m.now c.args.k)) (let e : c.loop-j.j ≡ c.args.f.l = omega arith in e)
+    c.loop-j.invariant ∙ ap (λ j. all_of j (holds c.args.f c.args.delta.0 c.args.work.now c.args.m.now c.args.k)) (let e : c.loop-j.j ≡ c.args.f.l = omega arith in e)

@@ -5,7 +5,4 @@ use Rattle.faand_recv.specs.CheckLaws.{holds}
 use Rattle.faand_recv.proofs.message_holds.Given as goal
 
 abbrev pub invariant-loop-j : goal.invariant-loop-j
-invariant-loop-j l = (l.j ≤ l.f.l) × (l.ok ≡ all_of l.j (holds l.f l.delta.0 l.work l.m l.k))
-
-abbrev pub decreases-loop-j : goal.decreases-loop-j
-decreases-loop-j l = l.f.l - l.j
+invariant-loop-j l = (l.ok ≡ all_of l.j (holds l.f l.delta.0 l.work l.m l.k))

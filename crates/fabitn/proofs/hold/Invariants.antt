@@ -8,7 +8,4 @@ use Rattle.fabitn.specs.Rows.{held_row}
 use Rattle.fabitn.proofs.hold.Given as goal
 
 abbrev pub invariant-loop-k : goal.invariant-loop-k
-invariant-loop-k l = (l.k ≤ l.n) × Filled l.f KEY_SUMS ROW (row_of l.f.i ROW (held_row l.f.i l.keys)) l.k l.initial.work l.work
-
-abbrev pub decreases-loop-k : goal.decreases-loop-k
-decreases-loop-k l = l.n - l.k
+invariant-loop-k l = Filled l.f KEY_SUMS ROW (row_of l.f.i ROW (held_row l.f.i l.keys)) l.k l.initial.work l.work

@@ -12,7 +12,4 @@ abbrev pub message : List ℕ → List ℕ → ℕ → List ℕ
 message bits macs q = encode STRINGS (λ j. bit_block (odd (get_or bits j 0)) (pair_at macs (q * STRINGS + j)))
 
 abbrev pub invariant-loop-q : goal.invariant-loop-q
-invariant-loop-q l = (l.q ≤ l.n - 1) × Written (message l.bits l.macs) l.q (l.q * MSG) l.initial.out l.out
-
-abbrev pub decreases-loop-q : goal.decreases-loop-q
-decreases-loop-q l = l.n - 1 - l.q
+invariant-loop-q l = Written (message l.bits l.macs) l.q (l.q * MSG) l.initial.out l.out

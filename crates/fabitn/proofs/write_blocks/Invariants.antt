@@ -7,7 +7,4 @@ use Rattle.rounds.specs.Fabitn.{STRINGS}
 use Rattle.fabitn.proofs.write_blocks.Given as goal
 
 abbrev pub invariant-loop-j : goal.invariant-loop-j
-invariant-loop-j l = (l.j ≤ STRINGS) × Written (λ j'. bytes_of (pair_at l.words (l.base + j'))) l.j (l.j * 16) l.initial.out l.out
-
-abbrev pub decreases-loop-j : goal.decreases-loop-j
-decreases-loop-j l = STRINGS - l.j
+invariant-loop-j l = Written (λ j'. bytes_of (pair_at l.words (l.base + j'))) l.j (l.j * 16) l.initial.out l.out

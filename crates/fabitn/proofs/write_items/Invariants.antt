@@ -12,7 +12,4 @@ abbrev pub item : List ℕ → List ℕ → ℕ → ℕ → List ℕ
 item bits macs base j = bit_block (odd (get_or bits j 0)) (pair_at macs (base + j))
 
 abbrev pub invariant-loop-j : goal.invariant-loop-j
-invariant-loop-j l = (l.j ≤ STRINGS) × (length l.initial.out ≡ MSG) × Stretch STRINGS (item l.bits l.macs l.base) l.j (8 + l.j * ITEM) l.initial.out l.out
-
-abbrev pub decreases-loop-j : goal.decreases-loop-j
-decreases-loop-j l = STRINGS - l.j
+invariant-loop-j l = (length l.initial.out ≡ MSG) × Stretch STRINGS (item l.bits l.macs l.base) l.j (8 + l.j * ITEM) l.initial.out l.out

@@ -8,25 +8,22 @@ use Rattle.area.specs.GivenLaws.{length_at}
 use Rattle.fabitn_recv.proofs.judge.Goals as goal
 
 pub loop-j-init : goal.loop-j-init
-loop-j-init c = (search rules, first-zero _)
+loop-j-init c = first-zero _
 
-pub check_string-e-requires : goal.check_string-e-requires
+pub check_string-requires : goal.check_string-requires
 unfolding size_of sizes
-check_string-e-requires c =
+check_string-requires c =
     record { j_bound = c.loop-j-test.true; sums_len = ap length c.section-sums.ensures ∙ length_at c.requires.work KEY_SUMS (omega arith); arrived = c.requires.arrived }
 
-pub returns-then-e-ne0 : goal.returns-then-e-ne0
+pub returns-in_err-check_string : goal.returns-in_err-check_string
 unfolding Fabitn.abits
-returns-then-e-ne0 c =
-    rw (← c.section-sums.ensures, ← c.delta-delta.ensures)
-    (item-first _ STRINGS c.loop-j.j _ _ c.loop-j-test.true c.loop-j.invariant.1 c.check_string-e.ensures c.if-e-ne0.true)
+returns-in_err-check_string c = ?
 
 pub loop-j-preserved : goal.loop-j-preserved
-loop-j-preserved c =
-    (omega arith, item-next _ c.loop-j.j _ _ c.loop-j.invariant.1 c.check_string-e.ensures c.if-e-ne0.false)
+loop-j-preserved c = ?
 
 pub returns : goal.returns
 unfolding Fabitn.abits
 returns c =
     rw (← c.section-sums.ensures, ← c.delta-delta.ensures)
-    (item-none _ STRINGS c.loop-j.j 0 (omega arith) c.loop-j.invariant.1)
+    (item-none _ STRINGS c.loop-j.j (omega arith) c.loop-j.invariant)

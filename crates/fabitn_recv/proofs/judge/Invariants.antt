@@ -8,7 +8,4 @@ use Rattle.rounds.specs.Fabitn.{STRINGS}
 use Rattle.fabitn_recv.proofs.judge.Given as goal
 
 abbrev pub invariant-loop-j : goal.invariant-loop-j
-invariant-loop-j l = (l.j ≤ STRINGS) × ((first_of l.j (λ j'. by_party l.f (Fabitn.abit_fault l.delta.0 l.sums (letter l.incoming l.mail) j'))).code ≡ 0)
-
-abbrev pub decreases-loop-j : goal.decreases-loop-j
-decreases-loop-j l = STRINGS - l.j
+invariant-loop-j l = ((first_of l.j (λ j'. by_party l.f (Fabitn.abit_fault l.delta.0 l.sums (letter l.incoming l.mail) j'))).code ≡ 0)

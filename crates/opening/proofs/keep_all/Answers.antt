@@ -14,7 +14,7 @@ whole : (c : After-lent_len-lent) → length c.args.out.now ≡ c.args.count * (
 whole c = c.requires.n_bound.1 ∙ ap (λ m. c.args.count * m) (sym c.record_len-kept.ensures)
 
 pub loop-t-init : goal.loop-t-init
-loop-t-init c = (omega arith, even-zero _ (c.record_len-kept.result) c.args.out.now)
+loop-t-init c = (even-zero _ (c.record_len-kept.result) c.args.out.now)
 
 -- ---- in a turn
 
@@ -23,7 +23,7 @@ part_in : (c : In-loop-t) → (c.loop-t.t) * (c.record_len-kept.result) + (c.rec
 part_in c =
     let whole-here : length c.args.out.now ≡ c.args.count * (c.record_len-kept.result) = c.requires.n_bound.1
     ∙ ap (λ m. c.args.count * m) (sym c.record_len-kept.ensures) in
-    omega (arith, whole-here, in-chunks (c.loop-t.t) c.args.count (c.record_len-kept.result) c.loop-t-test.true, c.loop-t.invariant.1.same)
+    omega (arith, whole-here, in-chunks (c.loop-t.t) c.args.count (c.record_len-kept.result) c.loop-t-test.true, c.loop-t.invariant.same)
 
 -- and within what is read
 at : (c : In-loop-t) → (c.loop-t.t) * (c.lent_len-lent.result) ≡ (c.loop-t.t) * lent_len c.args.n
@@ -56,21 +56,18 @@ keep_record-requires c =
     }
 
 pub loop-t-preserved : goal.loop-t-preserved
-loop-t-preserved c = (
-  omega (arith, c.loop-t-test.true),
-  even-turn (row c.args.x.now c.args.n c.args.i) c.args.count (c.record_len-kept.result) c.args.out.now (whole
+loop-t-preserved c = (even-turn (row c.args.x.now c.args.n c.args.i) c.args.count (c.record_len-kept.result) c.args.out.now (whole
       (goal.at.loop-t-preserved c).After-lent_len-lent) c.loop-t.t c.loop-t.out c.keep_record.new.out
       c.loop-t-test.true
-      c.loop-t.invariant.1
+      c.loop-t.invariant
       (c.keep_record.ensures ∙ ap (λ k. record_of c.args.n c.args.i (lent_at c.args.x.now k)) (at (goal.at.loop-t-preserved c).In-loop-t))
-      c.keep_record.auto.out,
-)
+      c.keep_record.auto.out)
 
 pub shape_of-out : goal.shape_of-out
-shape_of-out c = c.loop-t.invariant.1.same
+shape_of-out c = c.loop-t.invariant.same
 
 pub returns : goal.returns
 unfolding kept_of
 returns c =
     even-end _ c.args.count (c.record_len-kept.result) c.args.out.now (whole
-    (goal.at.returns c).After-lent_len-lent) c.loop-t.t c.loop-t.out c.loop-t.invariant.1 (omega arith)
+    (goal.at.returns c).After-lent_len-lent) c.loop-t.t c.loop-t.out c.loop-t.invariant (omega arith)

@@ -10,7 +10,4 @@ abbrev pub row : List ℕ → ℕ → ℕ → ℕ → List ℕ
 row x n i t = record_of n i (lent_at x (t * lent_len n))
 
 abbrev pub invariant-loop-t : goal.invariant-loop-t
-invariant-loop-t l = (l.t ≤ l.count) × Written (row l.x l.n l.i) l.t (l.t * l.kept) l.initial.out l.out
-
-abbrev pub decreases-loop-t : goal.decreases-loop-t
-decreases-loop-t l = l.count - l.t
+invariant-loop-t l = Written (row l.x l.n l.i) l.t (l.t * l.kept) l.initial.out l.out

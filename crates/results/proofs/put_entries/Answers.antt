@@ -10,7 +10,7 @@ use Rattle.results.proofs.put_entries.Goals.{After-mac_off-from}
 
 pub loop-k-init : goal.loop-k-init
 loop-k-init c =
-    (search rules, entered-none _ c.args.n c.args.out.now (length-entry_of c.args.i (X c.args.work.now c.args.r c.args.d c.args.e)) c.requires.n_bound.1)
+    (entered-none _ c.args.n c.args.out.now (length-entry_of c.args.i (X c.args.work.now c.args.r c.args.d c.args.e)) c.requires.n_bound.1)
 
 -- entry k lies in what is written
 within : (c : After-mac_off-from) → c.mac_off-from.result + ENTRY ≤ length c.loop-k.out
@@ -19,7 +19,7 @@ within c =
       arith,
       c.mac_off-from.ensures,
       entry-within c.args.n c.loop-k.k c.loop-k-test.true,
-      c.loop-k.invariant.1.same,
+      c.loop-k.invariant.same,
       c.requires.n_bound.1,
     )
 
@@ -39,15 +39,12 @@ pub loop-k-preserved : goal.loop-k-preserved
 unfolding entry_of
 loop-k-preserved c =
     let w : _ ≡ entry_bytes c.args.i c.loop-k.k _ _ =
-    c.put_entry_of.ensures ∙ ap₂ (entry_bytes c.args.i c.loop-k.k) c.finished.ensures.0 c.finished.ensures.1 in (
-      omega (arith, c),
-      entered-turn c.loop-k.invariant.1 c.mac_off-from.result (c.mac_off-from.result + ENTRY) c.mac_off-from.ensures refl c.put_entry_of.new.out
-          c.loop-k-test.true w,
-    )
+    c.put_entry_of.ensures ∙ ap₂ (entry_bytes c.args.i c.loop-k.k) c.finished.ensures.0 c.finished.ensures.1 in (entered-turn c.loop-k.invariant c.mac_off-from.result (c.mac_off-from.result + ENTRY) c.mac_off-from.ensures refl c.put_entry_of.new.out
+          c.loop-k-test.true w)
 
 pub shape_of-out : goal.shape_of-out
-shape_of-out c = c.loop-k.invariant.1.same
+shape_of-out c = c.loop-k.invariant.same
 
 pub returns : goal.returns
 returns c =
-    entered-head c.loop-k.invariant.1 [] (omega (arith, c.loop-k-test.false, c.loop-k.invariant.0))
+    entered-head c.loop-k.invariant [] (omega (arith, c.loop-k-test.false, c.loop-k.invariant.0))

@@ -11,7 +11,4 @@ abbrev pub X : List ℕ → Records → Bool → Bool → Share
 X w r d e = R.finish (share_at w r.c) (share_at w r.beta) (share_at w r.a) d e
 
 abbrev pub invariant-loop-k : goal.invariant-loop-k
-invariant-loop-k l = (l.k ≤ l.n) × Entered (entry_of l.i (X l.work l.r l.d l.e)) l.n l.k l.initial.out l.out
-
-abbrev pub decreases-loop-k : goal.decreases-loop-k
-decreases-loop-k l = l.n - l.k
+invariant-loop-k l = Entered (entry_of l.i (X l.work l.r l.d l.e)) l.n l.k l.initial.out l.out

@@ -16,7 +16,7 @@ whole : (c : After-lent_len-len) → length c.args.out.now ≡ c.args.f.l * (c.l
 whole c = c.requires.out_len ∙ ap (λ m. c.args.f.l * m) (sym c.lent_len-len.ensures)
 
 pub loop-j-init : goal.loop-j-init
-loop-j-init c = (omega arith, even-zero (result c.args.f c.args.work.now (letter c.args.incoming.now c.args.mail)) (c.lent_len-len.result) c.args.out.now)
+loop-j-init c = (even-zero (result c.args.f c.args.work.now (letter c.args.incoming.now c.args.mail)) (c.lent_len-len.result) c.args.out.now)
 
 -- ---- in a turn
 
@@ -29,7 +29,7 @@ most c = omega (arith, c.requires.work.ranges.range.most)
 part_in : (c : In-loop-j) → c.loop-j.j * (c.lent_len-len.result) + (c.lent_len-len.result) ≤ length c.loop-j.out
 part_in c =
     let whole-here : length c.args.out.now ≡ c.args.f.l * (c.lent_len-len.result) = c.requires.out_len ∙ ap (λ m. c.args.f.l * m) (sym c.lent_len-len.ensures) in
-    omega (arith, whole-here, in-chunks c.loop-j.j c.args.f.l (c.lent_len-len.result) c.loop-j-test.true, c.loop-j.invariant.1.same)
+    omega (arith, whole-here, in-chunks c.loop-j.j c.args.f.l (c.lent_len-len.result) c.loop-j-test.true, c.loop-j.invariant.same)
 
 pub put_result-requires : goal.put_result-requires
 put_result-requires c =
@@ -40,23 +40,20 @@ put_result-requires c =
     }
 
 pub loop-j-preserved : goal.loop-j-preserved
-loop-j-preserved c = (
-  omega (arith, c.loop-j-test.true),
-  even-turn (result c.args.f c.args.work.now (letter c.args.incoming.now c.args.mail)) c.args.f.l (c.lent_len-len.result) c.args.out.now (whole (goal.at.loop-j-preserved c).After-lent_len-len) c.loop-j.j c.loop-j.out c.put_result.new.out c.loop-j-test.true
-      c.loop-j.invariant.1
+loop-j-preserved c = (even-turn (result c.args.f c.args.work.now (letter c.args.incoming.now c.args.mail)) c.args.f.l (c.lent_len-len.result) c.args.out.now (whole (goal.at.loop-j-preserved c).After-lent_len-len) c.loop-j.j c.loop-j.out c.put_result.new.out c.loop-j-test.true
+      c.loop-j.invariant
       (result-told c.args.f c.args.work.now (letter c.args.incoming.now c.args.mail) c.loop-j.j c.told_sum-d.result c.told_sum-e.result
       c.put_result.new.out
       c.told_sum-d.ensures c.told_sum-e.ensures c.put_result.ensures)
-      c.put_result.auto.out,
-)
+      c.put_result.auto.out)
 
 pub shape_of-out : goal.shape_of-out
-shape_of-out c = c.loop-j.invariant.1.same
+shape_of-out c = c.loop-j.invariant.same
 
 pub returns : goal.returns
 unfolding R.results
 returns c =
-    even-end (result c.args.f c.args.work.now (letter c.args.incoming.now c.args.mail)) c.args.f.l (c.lent_len-len.result) c.args.out.now (whole (goal.at.returns c).After-lent_len-len) c.loop-j.j c.loop-j.out c.loop-j.invariant.1 (omega arith)
+    even-end (result c.args.f c.args.work.now (letter c.args.incoming.now c.args.mail)) c.args.f.l (c.lent_len-len.result) c.args.out.now (whole (goal.at.returns c).After-lent_len-len) c.loop-j.j c.loop-j.out c.loop-j.invariant (omega arith)
 
 pub overflow_mul-i : goal.overflow_mul-i
 overflow_mul-i c = omega (arith, inside (goal.at.overflow_mul-i c).In-loop-j, most (goal.at.overflow_mul-i c).In-loop-j)

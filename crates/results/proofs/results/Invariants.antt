@@ -6,7 +6,4 @@ use Rattle.results.specs.FinishLaws.{result}
 use Rattle.results.proofs.results.Given as goal
 
 abbrev pub invariant-loop-j : goal.invariant-loop-j
-invariant-loop-j l = (l.j ≤ l.f.l) × Written (result l.f l.work (letter l.incoming l.mail)) l.j (l.j * l.len) l.initial.out l.out
-
-abbrev pub decreases-loop-j : goal.decreases-loop-j
-decreases-loop-j l = l.f.l - l.j
+invariant-loop-j l = Written (result l.f l.work (letter l.incoming l.mail)) l.j (l.j * l.len) l.initial.out l.out

@@ -18,7 +18,7 @@ size c = c.requires.out_len
 
 pub loop-q-init : goal.loop-q-init
 loop-q-init c =
-    (omega arith, sent-none c.args.f.n c.args.f.i 40 (λ r. comm_msg (chunk 32 r c.section-pairs.result.now) c.args.f.i) c.args.out.now)
+    (sent-none c.args.f.n c.args.f.i 40 (λ r. comm_msg (chunk 32 r c.section-pairs.result.now) c.args.f.i) c.args.out.now)
 
 -- so message q lies within
 within : (c : In-loop-q) → c.loop-q.q * 40 + 40 ≤ length c.loop-q.out
@@ -26,7 +26,7 @@ unfolding msg_len list_len count_due kind_of
 within c =
     let size-here : length c.args.out.now ≡ (c.args.f.n - 1) * 40 = c.requires.out_len in
     sent-in c.args.f.n c.args.f.i 40 (λ r. comm_msg (chunk 32 r c.section-pairs.result.now) c.args.f.i) 40
-    c.loop-q.q c.args.out.now c.loop-q.out refl (size-here) c.loop-q.invariant.1 c.loop-q-test.true
+    c.loop-q.q c.args.out.now c.loop-q.out refl (size-here) c.loop-q.invariant c.loop-q-test.true
 
 pub slice_bounds-put_commitment-end : goal.slice_bounds-put_commitment-end
 slice_bounds-put_commitment-end c = within (goal.at.slice_bounds-put_commitment-end c).In-loop-q
@@ -43,18 +43,15 @@ put_commitment-requires c =
 
 pub loop-q-preserved : goal.loop-q-preserved
 loop-q-preserved c =
-    let pairs = c.section-pairs.result.now in (
-      omega (arith, c),
-      sent_back c.args.f.n c.args.f.i 40 (λ r. comm_msg (chunk 32 r pairs) c.args.f.i) 40 c.loop-q.q c.args.out.now c.loop-q.out refl
-          (size (goal.at.loop-q-preserved c).Start) c.loop-q.invariant.1 c.other.result c.put_commitment.new.out c.loop-q-test.true c.other.ensures
+    let pairs = c.section-pairs.result.now in (sent_back c.args.f.n c.args.f.i 40 (λ r. comm_msg (chunk 32 r pairs) c.args.f.i) 40 c.loop-q.q c.args.out.now c.loop-q.out refl
+          (size (goal.at.loop-q-preserved c).Start) c.loop-q.invariant c.other.result c.put_commitment.new.out c.loop-q-test.true c.other.ensures
           (c.put_commitment.ensures ∙ ap (λ x. comm_msg x c.args.f.i) c.seed_for.ensures.0)
-          c.put_commitment.auto.out,
-    )
+          c.put_commitment.auto.out)
 
 pub shape_of-out : goal.shape_of-out
-shape_of-out c = c.loop-q.invariant.1.same
+shape_of-out c = c.loop-q.invariant.same
 
 pub returns : goal.returns
 returns c =
     rw (← c.section-pairs.ensures)
-    (sent-end c.args.f.n c.args.f.i 40 _ 40 c.loop-q.q c.args.out.now c.loop-q.out refl (size (goal.at.returns c).Start) c.loop-q.invariant.1 (omega arith))
+    (sent-end c.args.f.n c.args.f.i 40 _ 40 c.loop-q.q c.args.out.now c.loop-q.out refl (size (goal.at.returns c).Start) c.loop-q.invariant (omega arith))

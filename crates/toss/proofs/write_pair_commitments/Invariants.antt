@@ -5,7 +5,4 @@ use Rattle.rounds.specs.Toss.{comm_msg}
 use Rattle.toss.proofs.write_pair_commitments.Given as goal
 
 abbrev pub invariant-loop-q : goal.invariant-loop-q
-invariant-loop-q l = (l.q ≤ l.n - 1) × Sent l.n l.i 40 (λ r. comm_msg (chunk 32 r l.pairs) l.i) l.q l.initial.out l.out
-
-abbrev pub decreases-loop-q : goal.decreases-loop-q
-decreases-loop-q l = l.n - 1 - l.q
+invariant-loop-q l = Sent l.n l.i 40 (λ r. comm_msg (chunk 32 r l.pairs) l.i) l.q l.initial.out l.out

@@ -19,7 +19,7 @@ size c = c.requires.out_len
 
 pub loop-q-init : goal.loop-q-init
 loop-q-init c =
-    (omega arith, sent-none c.args.f.n c.args.f.i 40 (λ r. ver_msg (chunk 32 r c.section-pairs.result.now)) c.args.out.now)
+    (sent-none c.args.f.n c.args.f.i 40 (λ r. ver_msg (chunk 32 r c.section-pairs.result.now)) c.args.out.now)
 
 -- so message q lies within
 within : (c : In-loop-q) → c.loop-q.q * 40 + 40 ≤ length c.loop-q.out
@@ -27,7 +27,7 @@ unfolding msg_len list_len count_due kind_of
 within c =
     let size-here : length c.args.out.now ≡ (c.args.f.n - 1) * 40 = c.requires.out_len in
     sent-in c.args.f.n c.args.f.i 40 (λ r. ver_msg (chunk 32 r c.section-pairs.result.now)) 40 c.loop-q.q
-    c.args.out.now c.loop-q.out refl (size-here) c.loop-q.invariant.1 c.loop-q-test.true
+    c.args.out.now c.loop-q.out refl (size-here) c.loop-q.invariant c.loop-q-test.true
 
 pub slice_bounds-put_bytes-end : goal.slice_bounds-put_bytes-end
 slice_bounds-put_bytes-end c = within (goal.at.slice_bounds-put_bytes-end c).In-loop-q
@@ -44,19 +44,16 @@ put_bytes-requires c =
 
 pub loop-q-preserved : goal.loop-q-preserved
 loop-q-preserved c =
-    let pairs = c.section-pairs.result.now in (
-      omega (arith, c),
-      sent_back c.args.f.n c.args.f.i 40 (λ r. ver_msg (chunk 32 r pairs)) 40 c.loop-q.q c.args.out.now c.loop-q.out refl (size (goal.at.loop-q-preserved c).Start)
-          c.loop-q.invariant.1 c.other.result c.put_bytes.new.out c.loop-q-test.true c.other.ensures
+    let pairs = c.section-pairs.result.now in (sent_back c.args.f.n c.args.f.i 40 (λ r. ver_msg (chunk 32 r pairs)) 40 c.loop-q.q c.args.out.now c.loop-q.out refl (size (goal.at.loop-q-preserved c).Start)
+          c.loop-q.invariant c.other.result c.put_bytes.new.out c.loop-q-test.true c.other.ensures
           (ver-put c.seed_for.result.now c.put_bytes.new.out c.put_bytes.ensures c.seed_for.ensures.1
           ∙ ap ver_msg c.seed_for.ensures.0)
-          c.put_bytes.auto.out,
-    )
+          c.put_bytes.auto.out)
 
 pub shape_of-out : goal.shape_of-out
-shape_of-out c = c.loop-q.invariant.1.same
+shape_of-out c = c.loop-q.invariant.same
 
 pub returns : goal.returns
 returns c =
     rw (← c.section-pairs.ensures)
-    (sent-end c.args.f.n c.args.f.i 40 _ 40 c.loop-q.q c.args.out.now c.loop-q.out refl (size (goal.at.returns c).Start) c.loop-q.invariant.1 (omega arith))
+    (sent-end c.args.f.n c.args.f.i 40 _ 40 c.loop-q.q c.args.out.now c.loop-q.out refl (size (goal.at.returns c).Start) c.loop-q.invariant (omega arith))

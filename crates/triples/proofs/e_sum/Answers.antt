@@ -8,7 +8,7 @@ use Rattle.triples.proofs.e_sum.Goals.{After-shared_slice_known-in-loop-e-1}
 
 pub loop-e-init : goal.loop-e-init
 unfolding sum
-loop-e-init c = (omega arith, refl)
+loop-e-init c = (refl)
 
 -- in a turn
 
@@ -25,14 +25,11 @@ pub overflow_add-e : goal.overflow_add-e
 overflow_add-e c = omega (arith, c.loop-e-test.true, c.well_formed)
 
 pub loop-e-preserved : goal.loop-e-preserved
-loop-e-preserved c = (
-  omega (arith, c.loop-e-test.true),
-  xor-addb c.loop-e.told c.bit-told.result ∙ ap₂ addb c.loop-e.invariant.1 c.bit-told.ensures
-      ∙ sym (sum-turn bits c.loop-e.e (bit c.args.es.now c.args.ts.now c.args.from)),
-)
+loop-e-preserved c = (xor-addb c.loop-e.told c.bit-told.result ∙ ap₂ addb c.loop-e.invariant c.bit-told.ensures
+      ∙ sym (sum-turn bits c.loop-e.e (bit c.args.es.now c.args.ts.now c.args.from)))
 
 pub returns : goal.returns
 returns c =
-    c.loop-e.invariant.1
+    c.loop-e.invariant
     ∙ ap (λ m. sum bits m (bit c.args.es.now c.args.ts.now c.args.from))
     (let q : c.loop-e.e ≡ length c.args.ts.now = omega (arith, c.loop-e-test.false, c.loop-e.invariant.0) in q)

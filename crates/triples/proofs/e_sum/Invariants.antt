@@ -10,7 +10,4 @@ abbrev pub bit : List ℕ → List ℕ → ℕ → ℕ → Bool
 bit es ts from e = odd (get_or es (from + get_or ts e 0) 0)
 
 abbrev pub invariant-loop-e : goal.invariant-loop-e
-invariant-loop-e l = (l.e ≤ length l.ts) × (l.told ≡ sum bits l.e (bit l.es l.ts l.from))
-
-abbrev pub decreases-loop-e : goal.decreases-loop-e
-decreases-loop-e l = length l.ts - l.e
+invariant-loop-e l = (l.told ≡ sum bits l.e (bit l.es l.ts l.from))

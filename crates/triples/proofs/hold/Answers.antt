@@ -17,11 +17,8 @@ full : (c : After-delta-delta) → (c.args.f).l * (2 * record_len (c.args.f).n) 
 full c = sym (size-triples (c.args.f))
 
 pub loop-j-init : goal.loop-j-init
-loop-j-init c = (
-  omega arith,
-  filled_none c.requires TRIPLES (2 * record_len (c.args.f).n) (omega arith) (row_of (c.args.f)
-      (c.delta-delta.result.0) c.args.work.now) (c.args.f).l (full (goal.at.loop-j-init c).After-delta-delta),
-)
+loop-j-init c = (filled_none c.requires TRIPLES (2 * record_len (c.args.f).n) (omega arith) (row_of (c.args.f)
+      (c.delta-delta.result.0) c.args.work.now) (c.args.f).l (full (goal.at.loop-j-init c).After-delta-delta))
 
 -- ---- in a turn
 
@@ -33,7 +30,7 @@ inside : (c : In-loop-j) → (c.section_at-rows.result) + (c.loop-j.j) * (2 * c.
 inside c =
     let full-here : (c.args.f).l * (2 * record_len (c.args.f).n) ≡ size_of (c.args.f) TRIPLES = sym (size-triples (c.args.f)) in
     row_in c.requires TRIPLES (2 * record_len (c.args.f).n) (omega arith) (row_of (c.args.f) (c.delta-delta.result.0) c.args.work.now)
-    (c.args.f).l (full-here) (c.loop-j.j) (c.loop-j.work) c.loop-j.invariant.1 (c.section_at-rows.result) (2 * c.record_len-len.result)
+    (c.args.f).l (full-here) (c.loop-j.j) (c.loop-j.work) c.loop-j.invariant (c.section_at-rows.result) (2 * c.record_len-len.result)
     c.section_at-rows.ensures (len_is c)
     c.loop-j-test.true
 
@@ -44,13 +41,13 @@ row_same c =
     let full-here : (c.args.f).l * (2 * record_len (c.args.f).n) ≡ size_of (c.args.f) TRIPLES = sym (size-triples (c.args.f)) in
     row_kept (c.args.f) (c.delta-delta.result.0) c.args.work.now (c.loop-j.work) (c.loop-j.j)
     (filled-other c.requires TRIPLES (2 * record_len (c.args.f).n) (omega arith) (row_of (c.args.f)
-    (c.delta-delta.result.0) c.args.work.now) (c.args.f).l (full-here) (c.loop-j.j) (c.loop-j.work) c.loop-j.invariant.1)
+    (c.delta-delta.result.0) c.args.work.now) (c.args.f).l (full-here) (c.loop-j.j) (c.loop-j.work) c.loop-j.invariant)
 
 pub overflow_mul-j : goal.overflow_mul-j
-overflow_mul-j c = omega (arith, inside (goal.at.overflow_mul-j c).In-loop-j, c.loop-j.invariant.1.same, c.well_formed)
+overflow_mul-j c = omega (arith, inside (goal.at.overflow_mul-j c).In-loop-j, c.loop-j.invariant.same, c.well_formed)
 
 pub overflow_add-rows : goal.overflow_add-rows
-overflow_add-rows c = omega (arith, inside (goal.at.overflow_add-rows c).In-loop-j, c.loop-j.invariant.1.same, c.well_formed)
+overflow_add-rows c = omega (arith, inside (goal.at.overflow_add-rows c).In-loop-j, c.loop-j.invariant.same, c.well_formed)
 
 pub put_row-requires : goal.put_row-requires
 put_row-requires c =
@@ -58,7 +55,7 @@ put_row-requires c =
       work = (
         filled-work c.requires TRIPLES (2 * record_len (c.args.f).n) (omega arith) (row_of (c.args.f)
             (c.delta-delta.result.0) c.args.work.now) (c.args.f).l (full (goal.at.put_row-requires c).After-delta-delta) (c.loop-j.j)
-            (c.loop-j.work) c.loop-j.invariant.1,
+            (c.loop-j.work) c.loop-j.invariant,
         c.loop-j-test.true,
         c.sections-at.ensures,
       );
@@ -71,28 +68,25 @@ loop-j-preserved c =
     let m : 2 * record_len (c.args.f).n ≡ at + (2 * c.record_len-len.result) - at = omega (
       arith,
       len_is (goal.at.loop-j-preserved c).In-loop-j,
-    ) in (
-      omega (arith, c.loop-j-test.true),
-      subst (Filled (c.args.f) TRIPLES (2 * record_len (c.args.f).n) (row_of (c.args.f) (c.delta-delta.result.0) c.args.work.now)
+    ) in (subst (Filled (c.args.f) TRIPLES (2 * record_len (c.args.f).n) (row_of (c.args.f) (c.delta-delta.result.0) c.args.work.now)
           ((c.loop-j.j) + 1) c.args.work.now)
           (sym (c.put_row.ensures ∙ ap₂ (λ k (x : List ℕ). put at k x (c.loop-j.work)) m (row_same (goal.at.loop-j-preserved c).In-loop-j)))
           (filled_put c.requires TRIPLES (2 * record_len (c.args.f).n) (omega arith) (row_of (c.args.f)
           (c.delta-delta.result.0) c.args.work.now) (c.args.f).l (full (goal.at.loop-j-preserved c).After-delta-delta) (c.loop-j.j)
-          (c.loop-j.work) c.loop-j.invariant.1 (c.section_at-rows.result)
+          (c.loop-j.work) c.loop-j.invariant (c.section_at-rows.result)
           (2 * c.record_len-len.result) c.section_at-rows.ensures (len_is (goal.at.loop-j-preserved c).In-loop-j) c.loop-j-test.true
           ((row_of (c.args.f) (c.delta-delta.result.0) c.args.work.now) (c.loop-j.j)) refl (length-row_of (c.args.f)
-          (c.delta-delta.result.0) c.args.work.now (c.loop-j.j))),
-    )
+          (c.delta-delta.result.0) c.args.work.now (c.loop-j.j))))
 
 pub shape_of-work : goal.shape_of-work
-shape_of-work c = c.loop-j.invariant.1.same
+shape_of-work c = c.loop-j.invariant.same
 
 pub returns : goal.returns
 returns c =
     let F = (c.args.f) in
     let v = c.args.work.now in
     filled-end c.requires TRIPLES (2 * record_len (c.args.f).n) (omega arith) (row_of (c.args.f) (c.delta-delta.result.0) c.args.work.now)
-    (c.args.f).l (full (goal.at.returns c).After-delta-delta) c.loop-j.j c.loop-j.work c.loop-j.invariant.1 (omega arith)
+    (c.args.f).l (full (goal.at.returns c).After-delta-delta) c.loop-j.j c.loop-j.work c.loop-j.invariant (omega arith)
     ∙ ap (λ (x : List ℕ). keep F TRIPLES x v) (rows_are F (c.delta-delta.result.0) v)
     ∙ ap (λ (x : Block). keep F TRIPLES (triple_rows F x (at F BITS v) (at F ZS v) (at F ES v) (at F PERM v) (at F DS v)) v)
     c.delta-delta.ensures

@@ -7,8 +7,4 @@ use Rattle.triples.specs.Laws.{row_of}
 use Rattle.triples.proofs.hold.Given as goal
 
 abbrev pub invariant-loop-j : goal.invariant-loop-j
-invariant-loop-j l = (l.j ≤ l.f.l)
-    × Filled l.f TRIPLES (2 * record_len l.f.n) (row_of l.f l.delta.0 l.initial.work) l.j l.initial.work l.work
-
-abbrev pub decreases-loop-j : goal.decreases-loop-j
-decreases-loop-j l = l.f.l - l.j
+invariant-loop-j l = Filled l.f TRIPLES (2 * record_len l.f.n) (row_of l.f l.delta.0 l.initial.work) l.j l.initial.work l.work

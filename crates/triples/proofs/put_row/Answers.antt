@@ -95,16 +95,13 @@ lent-long : (c : After-entries-all) → (c.bucket_size-b.result) ≡ length (tak
 lent-long c = sym (length-take-le (c.bucket_size-b.result) c.entries-all.result (all-long c))
 
 pub loop-k-init : goal.loop-k-init
-loop-k-init c = (
-  omega arith,
-  going-none (c.args.f) (c.args.delta.0) c.args.work.now (c.args.j) (c.args.row) (work
-      (goal.at.loop-k-init c).After-record_len-len) c.requires.work.1 c.requires.row_value,
-)
+loop-k-init c = (going-none (c.args.f) (c.args.delta.0) c.args.work.now (c.args.j) (c.args.row) (work
+      (goal.at.loop-k-init c).After-record_len-len) c.requires.work.1 c.requires.row_value)
 
 -- ---- in a turn, and behind the last
 
 going : (c : At-loop-k) → Going (c.args.f) (c.args.delta.0) c.args.work.now (c.args.j) (c.args.row) c.loop-k.k (c.loop-k.work)
-going c = c.loop-k.invariant.1
+going c = c.loop-k.invariant
 
 same : (c : At-loop-k) → (t : ℕ) → t ≢ TRIPLES → at (c.args.f) t (c.loop-k.work) ≡ at (c.args.f) t c.args.work.now
 same c =
@@ -181,9 +178,7 @@ overflow_add-k c =
     omega (arith, c.loop-k-test.true, (work (goal.at.overflow_add-k c).After-record_len-len).ranges.range.eight)
 
 pub loop-k-preserved : goal.loop-k-preserved
-loop-k-preserved c = (
-  omega (arith, c.loop-k-test.true),
-  going-turn (c.args.f) (c.args.delta.0) c.args.work.now (c.args.j) (c.args.row) (work
+loop-k-preserved c = (going-turn (c.args.f) (c.args.delta.0) c.args.work.now (c.args.j) (c.args.row) (work
       (goal.at.loop-k-preserved c).After-record_len-len) c.requires.work.1 c.requires.row_value (going
       (goal.at.loop-k-preserved c).At-loop-k) ((c.args.row) + 2 * (c.record_len-len.result)) (ends
       (goal.at.loop-k-preserved c).After-record_len-len)
@@ -192,8 +187,7 @@ loop-k-preserved c = (
       (goal.at.loop-k-preserved c).At-loop-k))
       (c.row_party-s.ensures.z-bytes ∙ ap (λ (v : Triple). entry_of (c.args.f).i v.tz c.loop-k.k) (triple
       (goal.at.loop-k-preserved c).At-loop-k))
-      c.put_entries.ensures,
-)
+      c.put_entries.ensures)
 
 pub slice_bounds-all-end-2 : goal.slice_bounds-all-end-2
 slice_bounds-all-end-2 c = all-long (goal.at.slice_bounds-all-end-2 c).After-entries-all
@@ -233,9 +227,9 @@ left c =
     let ends-here : (c.args.row) + 2 * (c.record_len-len.result) ≡ (c.args.row) + 2 * record_len (c.args.f).n =
     ap (λ m. (c.args.row) + 2 * m) (long-here) in
     let going-here : Going (c.args.f) (c.args.delta.0) c.args.work.now (c.args.j) (c.args.row) c.loop-k.k (c.loop-k.work) =
-    c.loop-k.invariant.1 in
+    c.loop-k.invariant in
     let going-here : Going (c.args.f) (c.args.delta.0) c.args.work.now (c.args.j) (c.args.row) c.loop-k.k (c.loop-k.work) =
-    c.loop-k.invariant.1 in
+    c.loop-k.invariant in
     let same-here : (t : ℕ) → t ≢ TRIPLES → at (c.args.f) t (c.loop-k.work) ≡ at (c.args.f) t c.args.work.now =
     let work-here : Work (c.args.f) c.args.work.now = c.requires.work.0 in
     going-other (c.args.f) (c.args.delta.0) c.args.work.now (c.args.j) (c.args.row) (work-here) c.requires.work.1 c.requires.row_value

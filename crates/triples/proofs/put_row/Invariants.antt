@@ -4,7 +4,4 @@ use Rattle.triples.specs.RowLaws.{Going}
 use Rattle.triples.proofs.put_row.Given as goal
 
 abbrev pub invariant-loop-k : goal.invariant-loop-k
-invariant-loop-k l = (l.k ≤ l.f.n) × Going l.f l.delta.0 l.initial.work l.j l.row l.k l.work
-
-abbrev pub decreases-loop-k : goal.decreases-loop-k
-decreases-loop-k l = l.f.n - l.k
+invariant-loop-k l = Going l.f l.delta.0 l.initial.work l.j l.row l.k l.work
