@@ -5,7 +5,4 @@ use Rattle.rounds.specs.Area.{size_of}
 use Rattle.area.proofs.section_at.Given as goal
 
 abbrev pub invariant-loop-k : goal.invariant-loop-k
-invariant-loop-k l = (l.k ≤ l.s) × (l.at ≡ off (size_of l.f) l.k)
-
-abbrev pub decreases-loop-k : goal.decreases-loop-k
-decreases-loop-k l = l.s - l.k
+invariant-loop-k l = l.at ≡ off (size_of l.f) l.k

@@ -40,5 +40,5 @@ nonzero_rem-result c =
 pub returns : goal.returns
 unfolding entry
 returns c =
-    ap₂ ◌%◌ (c.wide.ensures ∙ c.load.ensures ∙ ap (λ k. word_at ((k + c.args.e) * 4) c.args.perm.now) (same (goal.at.returns c).After-bucket_size))
+    ap₂ ◌%◌ (c.load.ensures ∙ ap (λ k. word_at ((k + c.args.e) * 4) c.args.perm.now) (same (goal.at.returns c).After-bucket_size))
     c.leaky.ensures
