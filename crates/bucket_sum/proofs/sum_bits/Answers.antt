@@ -1,5 +1,5 @@
-use Rattle.std.specs.Prelude.{◌≡◌, ◌+◌, ◌-◌, ◌*◌, ◌<◌, ◌≤◌}
-use Rattle.lists.specs.Kit.{sym, ap, ◌∙◌, Bool, ℕ, suc, arith, length, get_or}
+use Rattle.std.specs.Prelude.{◌≡◌, ◌+◌, ◌*◌, ◌<◌, ◌≤◌}
+use Rattle.lists.specs.Kit.{sym, ap, ◌∙◌, Bool, ℕ, arith, length, get_or}
 use native.Mathlib.Nat.{add-zero}
 use Rattle.std.proofs.Common.{add-one}
 use Rattle.algebra.specs.Group.{bits}

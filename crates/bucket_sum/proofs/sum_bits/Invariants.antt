@@ -1,6 +1,6 @@
 -- The loop's invariant: x and z have the bits of the first e + 1 records of the bucket.
-use Rattle.std.specs.Prelude.{◌≡◌, ◌+◌, ◌-◌, ◌*◌, ◌≤◌}
-use Rattle.lists.specs.Kit.{List, Bool, ℕ, length, get_or}
+use Rattle.std.specs.Prelude.{◌≡◌, ◌+◌, ◌*◌}
+use Rattle.lists.specs.Kit.{List, Bool, ℕ, get_or}
 use Rattle.algebra.specs.Group.{bits, odd}
 use Rattle.algebra.specs.Bucket.{bucket_x, bucket_z}
 use Rattle.bucket_sum.specs.Sums.{x_among}

@@ -1,5 +1,5 @@
-use Rattle.std.specs.Prelude.{◌≡◌, ◌+◌, ◌-◌, ◌*◌, ◌<◌, ◌≤◌}
-use Rattle.lists.specs.Kit.{sym, ap₂, subst, ◌∙◌, ℕ, suc, arith, length, get_or}
+use Rattle.std.specs.Prelude.{◌≡◌, ◌+◌, ◌*◌, ◌<◌, ◌≤◌}
+use Rattle.lists.specs.Kit.{sym, ap₂, subst, ◌∙◌, ℕ, arith, length, get_or}
 use Rattle.std.proofs.Common.{add-one}
 use Rattle.algebra.specs.Group.{odd}
 use Rattle.block.specs.Group.{blocks}

@@ -1,6 +1,5 @@
 -- The loop's invariant: x and z have the first e + 1 records of the bucket.
-use Rattle.std.specs.Prelude.{◌+◌, ◌-◌, ◌≤◌}
-use Rattle.lists.specs.Kit.{List, ℕ, length, get_or}
+use Rattle.lists.specs.Kit.{List, ℕ, get_or}
 use Rattle.algebra.specs.Group.{odd}
 use Rattle.algebra.specs.Bucket.{bucket_x, bucket_z}
 use Rattle.share.specs.Share.{shares}

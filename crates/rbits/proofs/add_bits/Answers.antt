@@ -1,4 +1,3 @@
-use Rattle.std.specs.Prelude.{◌-◌}
 use Rattle.lists.specs.Kit.{ap, arith}
 use lib.Bits.{bit_xor, bit_and}
 use Rattle.rbits.specs.Tables.{half_at, masked_at}

@@ -1,5 +1,4 @@
 -- The loop's invariant: the words of the first j strings have the chosen digits added.
-use Rattle.std.specs.Prelude.{◌-◌, ◌≤◌}
 use Rattle.rbits.specs.Tables.{masked_at}
 use Rattle.rbits.specs.LoopLaws.{Filled}
 use Rattle.rbits.proofs.add_bits.Given as goal

@@ -1,4 +1,4 @@
-use Rattle.std.specs.Prelude.{◌≡◌, ◌+◌, ◌-◌, ◌*◌, ◌<◌}
+use Rattle.std.specs.Prelude.{◌≡◌, ◌+◌, ◌*◌, ◌<◌}
 use Rattle.lists.specs.Kit.{◌∙◌, List, ℕ, arith}
 use Rattle.lists.specs.Over.{written-zero, written-turn, written-end}
 use Rattle.block.specs.declared.Block.{Block}

@@ -1,5 +1,5 @@
 -- The loop's invariant: the first k tables are written.
-use Rattle.std.specs.Prelude.{◌+◌, ◌-◌, ◌*◌, ◌≤◌}
+use Rattle.std.specs.Prelude.{◌+◌, ◌*◌}
 use Rattle.lists.specs.Over.{Written}
 use Rattle.rbits.specs.Tables.{record_block, table4}
 use Rattle.rbits.proofs.fill.Given as goal

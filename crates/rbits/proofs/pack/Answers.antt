@@ -1,4 +1,4 @@
-use Rattle.std.specs.Prelude.{◌≡◌, ◌+◌, ◌-◌, ◌*◌}
+use Rattle.std.specs.Prelude.{◌≡◌, ◌+◌, ◌*◌}
 use Rattle.lists.specs.Kit.{refl, ap, ◌∙◌, arith}
 use Prim.Native.Nat.{◌%◌, ◌^◌}
 use Rattle.rbits.specs.Tables.{record_bit, packed}

@@ -1,5 +1,5 @@
 -- The loop's invariant: w has the first e bits.
-use Rattle.std.specs.Prelude.{◌≡◌, ◌+◌, ◌-◌, ◌≤◌}
+use Rattle.std.specs.Prelude.{◌≡◌, ◌+◌}
 use Rattle.rbits.specs.Tables.{record_bit, packed}
 use Rattle.rbits.proofs.pack.Given as goal
 

@@ -1,5 +1,4 @@
-use Rattle.std.specs.Prelude.{◌-◌}
-use Rattle.lists.specs.Kit.{refl, arith, get_or}
+use Rattle.lists.specs.Kit.{arith, get_or}
 use lib.Count.{ones}
 use Rattle.algebra.specs.Group.{odd, num}
 use Rattle.rbits.specs.LoopLaws.{filled_zero, filled-turn, filled-end}

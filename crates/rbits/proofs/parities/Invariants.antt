@@ -1,6 +1,5 @@
 -- The loop's invariant: the bits of the first j strings are written.
-use Rattle.std.specs.Prelude.{◌≡◌, ◌-◌, ◌≤◌}
-use Rattle.lists.specs.Kit.{length, get_or}
+use Rattle.lists.specs.Kit.{get_or}
 use lib.Count.{ones}
 use Rattle.algebra.specs.Group.{odd, num}
 use Rattle.rbits.specs.LoopLaws.{Filled}

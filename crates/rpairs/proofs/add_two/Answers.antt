@@ -1,4 +1,3 @@
-use Rattle.std.specs.Prelude.{◌-◌}
 use Rattle.lists.specs.Kit.{arith}
 use lib.ListN.{length-set}
 use Rattle.rpairs.specs.AddedLaws.{partly-zero, partly-turn, partly-end}

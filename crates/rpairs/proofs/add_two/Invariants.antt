@@ -1,5 +1,4 @@
 -- The loop's invariant: the sums of the first j strings have what is chosen added, in both lists.
-use Rattle.std.specs.Prelude.{◌-◌, ◌≤◌}
 use Rattle.rpairs.specs.AddedLaws.{Partly}
 use Rattle.rpairs.proofs.add_two.Given as goal
 

@@ -1,5 +1,5 @@
 -- The loop's invariant: a and b, and c and d, are the words of the sums of the first k entries.
-use Rattle.std.specs.Prelude.{◌≡◌, ◌-◌, ◌≤◌}
+use Rattle.std.specs.Prelude.{◌≡◌}
 use Rattle.algebra.specs.Sum.{sum}
 use Rattle.block.specs.Group.{blocks}
 use Rattle.rbits.specs.Tables.{entry}
