@@ -1,4 +1,3 @@
-use Rattle.std.specs.Prelude.{◌-◌}
 use Rattle.lists.specs.Kit.{refl, ap, ◌∙◌, arith}
 use Rattle.engine.specs.Area.{off}
 use Rattle.rounds.specs.Area.{size_of}

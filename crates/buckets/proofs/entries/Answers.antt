@@ -1,4 +1,4 @@
-use Rattle.std.specs.Prelude.{◌≡◌, ◌++◌, ◌-◌, ◌<◌}
+use Rattle.std.specs.Prelude.{◌≡◌, ◌++◌, ◌<◌}
 use Rattle.lists.specs.Kit.{ap, ◌∙◌, List, ℕ, arith, drop, replicate}
 use Rattle.lists.specs.Over.{tab, tab-zero, tab-turn, drop-replicate}
 use Rattle.plan.specs.Plan.{bucket_size}

@@ -1,8 +1,7 @@
 -- The loop's invariant: the first e entries are written.
-use Rattle.std.specs.Prelude.{◌≡◌, ◌++◌, ◌-◌, ◌≤◌}
+use Rattle.std.specs.Prelude.{◌≡◌, ◌++◌}
 use Rattle.lists.specs.Kit.{drop, replicate}
 use Rattle.lists.specs.Over.{tab}
-use Rattle.plan.specs.Plan.{bucket_size}
 use Rattle.rounds.specs.Buckets.{entry}
 use Rattle.buckets.proofs.entries.Given as goal
 

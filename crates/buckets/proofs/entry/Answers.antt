@@ -1,7 +1,7 @@
 use Rattle.std.specs.Prelude.{◌≡◌, ◌+◌, ◌*◌, ◌≤◌}
 use Rattle.lists.specs.Kit.{ap, ap₂, ◌∙◌, arith, length}
 use Prim.Native.Nat.{◌%◌}
-use Rattle.plan.specs.Plan.{bucket_size, leaky}
+use Rattle.plan.specs.Plan.{bucket_size}
 use Rattle.plan.specs.PlanLaws.{leaky-most}
 use Rattle.word.specs.Word.{word_at}
 use Rattle.rounds.specs.Buckets.{entry}
