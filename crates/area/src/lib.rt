@@ -114,10 +114,8 @@ pub fn section_at(f: Frame, s: usize) -> usize
     ensures { result ≡ off (size_of f) s }
 {
     let mut at = 0;
-    let mut k = 0;
-    while k < s {
+    for k in 0..s {
         at += section_len(f, k);
-        k += 1;
     }
     at
 }
@@ -127,7 +125,7 @@ pub fn work_len(n: usize, l: usize) -> usize
     ensures { result ≡ pick (in_range n l) (work_len (frame n l 0)) 0 }
 {
     if plan::in_range(n, l) {
-        section_at(Frame { n: n, i: 0, l: l }, SECTIONS)
+        section_at(Frame { n, i: 0, l }, SECTIONS)
     } else {
         0
     }

@@ -60,16 +60,14 @@ pub fn sum_entries(
     let first = ts[0];
     let mut x = share::entry_at(s, first * len, k);
     let mut z = share::entry_at(s, (first + behind) * len, k);
-    let mut e = 1;
-    while e < ts.len() {
-        let t = ts[e];
+    for e in 0..d.len() {
+        let t = ts[e + 1];
         let later = share::entry_at(s, t * len, k);
         let next = share::entry_at(s, (t + behind) * len, k);
         x = x.xor(later);
-        z = z.xor(next).xor(later.times(block::bit(d, e - 1)));
-        e += 1;
+        z = z.xor(next).xor(later.times(block::bit(d, e)));
     }
-    Sums { x: x, z: z }
+    Sums { x, z }
 }
 
 // The bits of the sums: those of z lie in zs, a step of `step` bytes for each record.
@@ -92,16 +90,14 @@ pub fn sum_bits(
     let first = ts[0];
     let mut x = share::bit_at(s, first * len);
     let mut z = block::bit(zs, (first + behind) * step);
-    let mut e = 1;
-    while e < ts.len() {
-        let t = ts[e];
+    for e in 0..d.len() {
+        let t = ts[e + 1];
         let later = share::bit_at(s, t * len);
         let next = block::bit(zs, (t + behind) * step);
         x = x ^ later;
-        z = z ^ next ^ (later & block::bit(d, e - 1));
-        e += 1;
+        z = z ^ next ^ (later & block::bit(d, e));
     }
-    Bits { x: x, z: z }
+    Bits { x, z }
 }
 
 // ---- a row of records: x at its start, z at `z`

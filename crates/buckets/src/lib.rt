@@ -38,12 +38,6 @@ pub fn later(f: Frame) -> usize
     plan::bucket_size(f.l) - 1
 }
 
-fn wide(x: u32) -> usize
-    ensures { result ≡ x }
-{
-    x as usize
-}
-
 // Entry e of bucket j: the number of a leaky AND.
 pub fn entry(perm: &[u8], f: Frame, j: usize, e: usize) -> usize
     requires ranged { Ranged f }
@@ -51,7 +45,7 @@ pub fn entry(perm: &[u8], f: Frame, j: usize, e: usize) -> usize
     ensures { result ≡ B.entry f perm.now j e }
 {
     let at = (j * plan::bucket_size(f.l) + e) * word::BYTES;
-    wide(word::load(perm, at)) % plan::leaky(f.l)
+    word::load(perm, at) as usize % plan::leaky(f.l)
 }
 
 // The most entries that a bucket has.
@@ -65,10 +59,8 @@ pub fn entries(perm: &[u8], f: Frame, j: usize) -> [usize; BUCKET_MOST]
 {
     let b = plan::bucket_size(f.l);
     let mut ts = [0usize; BUCKET_MOST];
-    let mut e = 0;
-    while e < b {
+    for e in 0..b {
         ts[e] = entry(perm, f, j, e);
-        e += 1;
     }
     ts
 }

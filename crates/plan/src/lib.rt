@@ -283,12 +283,10 @@ fn sent_to_one(n: usize, l: usize) -> usize
     ensures { result ≡ sent_up_to n l 22 }
 {
     let mut sum = 0;
-    let mut k = 0;
-    while k < FAAND {
+    for k in 0..FAAND {
         if is_round(n, k + 1) {
             sum += msg_len(n, l, k + 1);
         }
-        k += 1;
     }
     sum
 }

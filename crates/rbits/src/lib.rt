@@ -56,16 +56,8 @@ fn put_table(out: &mut [u64], a: Block, b: Block, c: Block, d: Block)
     requires { length out.old ≡ 32 }
     ensures { out.new ≡ table4 (four a b c d) }
 {
-    let a0 = a.0;
-    let a1 = a.1;
-    let b0 = b.0;
-    let b1 = b.1;
-    let c0 = c.0;
-    let c1 = c.1;
-    let d0 = d.0;
-    let d1 = d.1;
-    put_sums(&mut out[0..16], a0, a1, b0, b1, c0, c1, 0, 0);
-    put_sums(&mut out[16..32], a0, a1, b0, b1, c0, c1, d0, d1);
+    put_sums(&mut out[0..16], a.0, a.1, b.0, b.1, c.0, c.1, 0, 0);
+    put_sums(&mut out[16..32], a.0, a.1, b.0, b.1, c.0, c.1, d.0, d.1);
 }
 
 // The tables of the 64 records from `first` on.
@@ -75,8 +67,7 @@ pub fn fill(out: &mut [u64], s: &[u8], stride: usize, at: usize, count: usize, f
     requires first_bound { first + 64 < 2 ^ 64 }
     ensures { out.new ≡ tables (λ e. record_block s.now stride at count (first + e)) }
 {
-    let mut k = 0;
-    while k < 16 {
+    for k in 0..16 {
         let a = k * 32;
         let e = a + 32;
         let t = first + k * 4;
@@ -87,7 +78,6 @@ pub fn fill(out: &mut [u64], s: &[u8], stride: usize, at: usize, count: usize, f
             record_block(s, stride, at, count, t + 2),
             record_block(s, stride, at, count, t + 3),
         );
-        k += 1;
     }
 }
 
@@ -123,10 +113,8 @@ pub fn pack(s: &[u8], stride: usize, count: usize, first: usize) -> u64
     ensures { result ≡ packed 64 (λ e. record_bit s.now stride count (first + e)) }
 {
     let mut w = 0;
-    let mut e = 0;
-    while e < 64 {
+    for e in 0..64 {
         w = (digit(s, stride, count, first + e) << e) + w;
-        e += 1;
     }
     w
 }
@@ -136,10 +124,8 @@ pub fn add_bits(acc: &mut [u64], win: &[u64; WINDOW], h: usize, b: u64)
     requires { (length acc.old ≡ 120) × (h < 2) }
     ensures { acc.new ≡ tab 120 (masked_at acc.old win.now h b) }
 {
-    let mut j = 0;
-    while j < 120 {
-        acc[j] = acc[j] ^ (win[j * 2 + h] & b);
-        j += 1;
+    for j in 0..120 {
+        acc[j] ^= win[j * 2 + h] & b;
     }
 }
 
@@ -148,10 +134,8 @@ pub fn parities(acc: &[u64; 120]) -> [u8; 120]
     ensures { result ≡ tab 120 (λ j. num (odd (ones (get_or acc.now j 0)))) }
 {
     let mut out = [0u8; 120];
-    let mut j = 0;
-    while j < 120 {
-        out[j] = (u64::count_ones(acc[j]) % 2) as u8;
-        j += 1;
+    for j in 0..120 {
+        out[j] = (acc[j].count_ones() % 2) as u8;
     }
     out
 }

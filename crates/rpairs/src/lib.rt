@@ -11,29 +11,23 @@ ghost use Rattle.rpairs.specs.Added.{added_from};
 use block::Block;
 use rbits::WINDOW;
 
-// What w chooses in the tables of two Blocks a record.
-#[derive(Clone, Copy)]
-struct Chosen(Block, Block);
-
 // The sums of the 64 records that w chooses, in two tables: four digits of w at a time, by shift and mask.
-fn choose_two(t: &[u64; 512], u: &[u64; 512], w: u64) -> Chosen
+fn choose_two(t: &[u64; 512], u: &[u64; 512], w: u64) -> (Block, Block)
     ensures { (result.0 ≡ lookup t.now w) × (result.1 ≡ lookup u.now w) }
 {
     let mut a = 0;
     let mut b = 0;
     let mut c = 0;
     let mut d = 0;
-    let mut k = 0;
-    while k < 16 {
+    for k in 0..16 {
         let low = (k * 16 + (w >> (k * 4) & 15) as usize) * 2;
         let high = low + 1;
-        a = a ^ t[low];
-        b = b ^ t[high];
-        c = c ^ u[low];
-        d = d ^ u[high];
-        k += 1;
+        a ^= t[low];
+        b ^= t[high];
+        c ^= u[low];
+        d ^= u[high];
     }
-    Chosen(Block(a, b), Block(c, d))
+    (Block(a, b), Block(c, d))
 }
 
 // Adds to the sums of each string, in both lists from Block `base` on, what its word in half h of the window chooses.
@@ -51,11 +45,8 @@ fn add_two(
     ensures x_after { x.new ≡ words_of 840 (added_from base x.old t.now win.now h) }
     ensures y_after { y.new ≡ words_of 840 (added_from base y.old u.now win.now h) }
 {
-    let mut j = 0;
-    while j < 120 {
-        let p = choose_two(t, u, win[j * 2 + h]);
-        let b = p.0;
-        let c = p.1;
+    for j in 0..120 {
+        let (b, c) = choose_two(t, u, win[j * 2 + h]);
         let i = (base + j) * 2;
         let k = i + 1;
         let b0 = x[i] ^ b.0;
@@ -66,7 +57,6 @@ fn add_two(
         x[k] = b1;
         y[i] = c0;
         y[k] = c1;
-        j += 1;
     }
 }
 

@@ -1,6 +1,7 @@
-use Rattle.std.specs.Prelude.{◌≡◌, ◌+◌, ◌-◌, ◌*◌, ◌<◌, ◌≤◌}
-use Rattle.lists.specs.Kit.{sym, ap, ◌∙◌, Bool, ℕ, suc, arith, length, get_or}
+use Rattle.std.specs.Prelude.{◌≡◌, ◌+◌, ◌*◌, ◌<◌, ◌≤◌}
+use Rattle.lists.specs.Kit.{sym, ap, ◌∙◌, Bool, ℕ, arith, length, get_or}
 use native.Mathlib.Nat.{add-zero}
+use Rattle.std.proofs.Common.{add-one}
 use Rattle.algebra.specs.Group.{bits}
 use Rattle.algebra.specs.Bucket.{bucket_x, bucket_z, first-x, first-z}
 use Rattle.share.specs.Share.{share_at}
@@ -46,8 +47,6 @@ bit-z-requires c = z_in_lem (goal.at.bit-z-requires c).After-shared_slice_known-
 pub loop-e-init : goal.loop-e-init
 unfolding x_among share_at
 loop-e-init c = (
-  omega arith,
-  omega (arith, some (goal.at.loop-e-init c).After-shared_slice_known-5-1),
   c.bit_at-x.ensures ∙ sym (first-x bits (xs c.args.len c.args.s.now c.args.ts.now)),
   c.bit-z.ensures
       ∙ sym (first-z bits (xs c.args.len c.args.s.now c.args.ts.now) (zs c.args.zs.now c.args.ts.now c.args.behind c.args.step)
@@ -56,40 +55,26 @@ loop-e-init c = (
 
 -- ---- in a turn
 
-next : (c : After-shared_slice_known-in-loop-e-1) → (c.loop-e.e) < length c.args.ts.now
-next c = c.loop-e-test.true
-
-first_done : (c : After-shared_slice_known-in-loop-e-1) → 1 ≤ (c.loop-e.e)
-first_done c = c.loop-e.invariant.0
+next : (c : After-shared_slice_known-in-loop-e-1) → c.loop-e.e + 1 < length c.args.ts.now
+next c = omega (arith, c.loop-e-test.true, c.requires.ts_len)
 
 pub bounds-ts-e : goal.bounds-ts-e
-bounds-ts-e c =
-    let next-here : (c.loop-e.e) < length c.args.ts.now = c.loop-e-test.true in
-    next-here
+bounds-ts-e c = omega (arith, c.loop-e-test.true, c.requires.ts_len)
 
 pub overflow_mul-t : goal.overflow_mul-t
-overflow_mul-t c = omega (arith, x_in_lem (goal.at.overflow_mul-t c).After-shared_slice_known-5-1 (c.loop-e.e) (next (goal.at.overflow_mul-t c).After-shared_slice_known-in-loop-e-1), c.well_formed)
+overflow_mul-t c = omega (arith, x_in_lem (goal.at.overflow_mul-t c).After-shared_slice_known-5-1 (c.loop-e.e + 1) (next (goal.at.overflow_mul-t c).After-shared_slice_known-in-loop-e-1), c.well_formed)
 
 pub bit_at-later-requires : goal.bit_at-later-requires
-bit_at-later-requires c = x_in_lem (goal.at.bit_at-later-requires c).After-shared_slice_known-5-1 (c.loop-e.e) (next (goal.at.bit_at-later-requires c).After-shared_slice_known-in-loop-e-1)
+bit_at-later-requires c = x_in_lem (goal.at.bit_at-later-requires c).After-shared_slice_known-5-1 (c.loop-e.e + 1) (next (goal.at.bit_at-later-requires c).After-shared_slice_known-in-loop-e-1)
 
-pub overflow_add-t : goal.overflow_add-t
-overflow_add-t c = omega (arith, small (goal.at.overflow_add-t c).After-shared_slice_known-5-1 (c.loop-e.e) (next (goal.at.overflow_add-t c).After-shared_slice_known-in-loop-e-1), c.well_formed)
+pub overflow_add-t-in-loop-e : goal.overflow_add-t-in-loop-e
+overflow_add-t-in-loop-e c = omega (arith, small (goal.at.overflow_add-t-in-loop-e c).After-shared_slice_known-5-1 (c.loop-e.e + 1) (next (goal.at.overflow_add-t-in-loop-e c).After-shared_slice_known-in-loop-e-1), c.well_formed)
 
 pub overflow_mul-t-in-loop-e : goal.overflow_mul-t-in-loop-e
-overflow_mul-t-in-loop-e c = omega (arith, z_in_lem (goal.at.overflow_mul-t-in-loop-e c).After-shared_slice_known-5-1 (c.loop-e.e) (next (goal.at.overflow_mul-t-in-loop-e c).After-shared_slice_known-in-loop-e-1), c.well_formed)
+overflow_mul-t-in-loop-e c = omega (arith, z_in_lem (goal.at.overflow_mul-t-in-loop-e c).After-shared_slice_known-5-1 (c.loop-e.e + 1) (next (goal.at.overflow_mul-t-in-loop-e c).After-shared_slice_known-in-loop-e-1), c.well_formed)
 
 pub bit-next-requires : goal.bit-next-requires
-bit-next-requires c = z_in_lem (goal.at.bit-next-requires c).After-shared_slice_known-5-1 (c.loop-e.e) (next (goal.at.bit-next-requires c).After-shared_slice_known-in-loop-e-1)
-
-pub overflow_sub-e : goal.overflow_sub-e
-overflow_sub-e c = omega (arith, next (goal.at.overflow_sub-e c).After-shared_slice_known-in-loop-e-1, first_done (goal.at.overflow_sub-e c).After-shared_slice_known-in-loop-e-1, c.requires.ts_len)
-
-pub bit-requires : goal.bit-requires
-bit-requires c = omega (arith, next (goal.at.bit-requires c).After-shared_slice_known-in-loop-e-1, first_done (goal.at.bit-requires c).After-shared_slice_known-in-loop-e-1, c.requires.ts_len)
-
-pub overflow_add-e : goal.overflow_add-e
-overflow_add-e c = omega (arith, next (goal.at.overflow_add-e c).After-shared_slice_known-in-loop-e-1, c.well_formed)
+bit-next-requires c = z_in_lem (goal.at.bit-next-requires c).After-shared_slice_known-5-1 (c.loop-e.e + 1) (next (goal.at.bit-next-requires c).After-shared_slice_known-in-loop-e-1)
 
 pub loop-e-preserved : goal.loop-e-preserved
 unfolding x_among share_at
@@ -97,20 +82,17 @@ loop-e-preserved c =
     let X : ℕ → Bool = xs c.args.len c.args.s.now c.args.ts.now in
     let Z : ℕ → Bool = zs c.args.zs.now c.args.ts.now c.args.behind c.args.step in
     let D : ℕ → Bool = ds c.args.d.now in
-    let p : suc ((c.loop-e.e) - 1) ≡ (c.loop-e.e) = omega (arith, first_done (goal.at.loop-e-preserved c).After-shared_slice_known-in-loop-e-1) in
-    let q : suc ((c.loop-e.e) - 1) ≡ (c.loop-e.e) + 1 - 1 = omega (arith, first_done (goal.at.loop-e-preserved c).After-shared_slice_known-in-loop-e-1) in
-    let later : c.bit_at-later.result ≡ X (c.loop-e.e) = c.bit_at-later.ensures in (
-      omega arith,
-      omega (arith, next (goal.at.loop-e-preserved c).After-shared_slice_known-in-loop-e-1),
-      bit-turn-x X Z D ((c.loop-e.e) - 1) (c.loop-e.e) p c.loop-e.x c.bit_at-later.result c.loop-e.invariant.2 later ∙ ap (bucket_x bits X) q,
-      bit-turn-z X Z D ((c.loop-e.e) - 1) (c.loop-e.e) p c.loop-e.z c.bit_at-later.result c.bit-next.result c.bit.result c.loop-e.invariant.3 later
-          c.bit-next.ensures c.bit.ensures ∙ ap (bucket_z bits X Z D) q,
+    let later : c.bit_at-later.result ≡ X (c.loop-e.e + 1) = c.bit_at-later.ensures in
+    let p = sym (add-one c.loop-e.e) in (
+      bit-turn-x X Z D c.loop-e.e (c.loop-e.e + 1) p c.loop-e.x c.bit_at-later.result c.loop-e.invariant.0 later ∙ ap (bucket_x bits X) p,
+      bit-turn-z X Z D c.loop-e.e (c.loop-e.e + 1) p c.loop-e.z c.bit_at-later.result c.bit-next.result c.bit.result c.loop-e.invariant.1 later
+          c.bit-next.ensures c.bit.ensures ∙ ap (bucket_z bits X Z D) p,
     )
 
 pub returns : goal.returns
 returns c =
-    let q : c.loop-e.e - 1 ≡ length c.args.d.now = omega (arith, c.loop-e-test.false, c.loop-e.invariant.1, c.requires.ts_len) in (
-      c.loop-e.invariant.2 ∙ ap (bucket_x bits (xs c.args.len c.args.s.now c.args.ts.now)) q,
-      c.loop-e.invariant.3 ∙ ap (bucket_z bits (xs c.args.len c.args.s.now c.args.ts.now)
+    let q : c.loop-e.e ≡ length c.args.d.now = omega arith in (
+      c.loop-e.invariant.0 ∙ ap (bucket_x bits (xs c.args.len c.args.s.now c.args.ts.now)) q,
+      c.loop-e.invariant.1 ∙ ap (bucket_z bits (xs c.args.len c.args.s.now c.args.ts.now)
           (zs c.args.zs.now c.args.ts.now c.args.behind c.args.step) (ds c.args.d.now)) q,
     )

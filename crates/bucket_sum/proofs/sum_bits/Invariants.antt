@@ -1,6 +1,6 @@
--- The loop's invariant: x and z have the bits of the first e records of the bucket.
-use Rattle.std.specs.Prelude.{◌≡◌, ◌+◌, ◌-◌, ◌*◌, ◌≤◌}
-use Rattle.lists.specs.Kit.{List, Bool, ℕ, length, get_or}
+-- The loop's invariant: x and z have the bits of the first e + 1 records of the bucket.
+use Rattle.std.specs.Prelude.{◌≡◌, ◌+◌, ◌*◌}
+use Rattle.lists.specs.Kit.{List, Bool, ℕ, get_or}
 use Rattle.algebra.specs.Group.{bits, odd}
 use Rattle.algebra.specs.Bucket.{bucket_x, bucket_z}
 use Rattle.bucket_sum.specs.Sums.{x_among}
@@ -17,8 +17,5 @@ abbrev pub ds : List ℕ → ℕ → Bool
 ds d e = odd (get_or d e 0)
 
 abbrev pub invariant-loop-e : goal.invariant-loop-e
-invariant-loop-e l = (1 ≤ l.e) × (l.e ≤ length l.ts) × (l.x ≡ bucket_x bits (xs l.len l.s l.ts) (l.e - 1))
-    × (l.z ≡ bucket_z bits (xs l.len l.s l.ts) (zs l.zs l.ts l.behind l.step) (ds l.d) (l.e - 1))
-
-abbrev pub decreases-loop-e : goal.decreases-loop-e
-decreases-loop-e l = length l.ts - l.e
+invariant-loop-e l = (l.x ≡ bucket_x bits (xs l.len l.s l.ts) l.e)
+    × (l.z ≡ bucket_z bits (xs l.len l.s l.ts) (zs l.zs l.ts l.behind l.step) (ds l.d) l.e)

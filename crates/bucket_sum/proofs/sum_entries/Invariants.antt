@@ -1,6 +1,5 @@
--- The loop's invariant: x and z have the first e records of the bucket.
-use Rattle.std.specs.Prelude.{◌+◌, ◌-◌, ◌≤◌}
-use Rattle.lists.specs.Kit.{List, ℕ, length, get_or}
+-- The loop's invariant: x and z have the first e + 1 records of the bucket.
+use Rattle.lists.specs.Kit.{List, ℕ, get_or}
 use Rattle.algebra.specs.Group.{odd}
 use Rattle.algebra.specs.Bucket.{bucket_x, bucket_z}
 use Rattle.share.specs.Share.{shares}
@@ -14,7 +13,4 @@ Sofar len s ts behind d k c r =
     Summed k (bucket_x shares (x_among len s ts) c) (bucket_z shares (x_among len s ts) (z_among len s ts behind) (λ i. odd (get_or d i 0)) c) r
 
 abbrev pub invariant-loop-e : goal.invariant-loop-e
-invariant-loop-e l = (1 ≤ l.e) × (l.e ≤ length l.ts) × Sofar l.len l.s l.ts l.behind l.d l.k (l.e - 1) (record { x = l.x; z = l.z })
-
-abbrev pub decreases-loop-e : goal.decreases-loop-e
-decreases-loop-e l = length l.ts - l.e
+invariant-loop-e l = Sofar l.len l.s l.ts l.behind l.d l.k l.e (record { x = l.x; z = l.z })

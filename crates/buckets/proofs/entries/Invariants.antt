@@ -1,13 +1,9 @@
 -- The loop's invariant: the first e entries are written.
-use Rattle.std.specs.Prelude.{◌≡◌, ◌++◌, ◌-◌, ◌≤◌}
+use Rattle.std.specs.Prelude.{◌≡◌, ◌++◌}
 use Rattle.lists.specs.Kit.{drop, replicate}
 use Rattle.lists.specs.Over.{tab}
-use Rattle.plan.specs.Plan.{bucket_size}
 use Rattle.rounds.specs.Buckets.{entry}
 use Rattle.buckets.proofs.entries.Given as goal
 
 abbrev pub invariant-loop-e : goal.invariant-loop-e
-invariant-loop-e l = (l.e ≤ bucket_size l.f.l) × (l.ts ≡ tab l.e (entry l.f l.perm l.j) ++ drop l.e (replicate 5 0))
-
-abbrev pub decreases-loop-e : goal.decreases-loop-e
-decreases-loop-e l = bucket_size l.f.l - l.e
+invariant-loop-e l = l.ts ≡ tab l.e (entry l.f l.perm l.j) ++ drop l.e (replicate 5 0)

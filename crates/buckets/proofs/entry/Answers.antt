@@ -1,7 +1,7 @@
 use Rattle.std.specs.Prelude.{◌≡◌, ◌+◌, ◌*◌, ◌≤◌}
 use Rattle.lists.specs.Kit.{ap, ap₂, ◌∙◌, arith, length}
 use Prim.Native.Nat.{◌%◌}
-use Rattle.plan.specs.Plan.{bucket_size, leaky}
+use Rattle.plan.specs.Plan.{bucket_size}
 use Rattle.plan.specs.PlanLaws.{leaky-most}
 use Rattle.word.specs.Word.{word_at}
 use Rattle.rounds.specs.Buckets.{entry}
@@ -40,5 +40,5 @@ nonzero_rem-result c =
 pub returns : goal.returns
 unfolding entry
 returns c =
-    ap₂ ◌%◌ (c.wide.ensures ∙ c.load.ensures ∙ ap (λ k. word_at ((k + c.args.e) * 4) c.args.perm.now) (same (goal.at.returns c).After-bucket_size))
+    ap₂ ◌%◌ (c.load.ensures ∙ ap (λ k. word_at ((k + c.args.e) * 4) c.args.perm.now) (same (goal.at.returns c).After-bucket_size))
     c.leaky.ensures

@@ -2,9 +2,7 @@ use Rattle.std.specs.Prelude.{◌+◌, ◌*◌, ◌≤◌}
 use Rattle.lists.specs.Kit.{ap₂, arith}
 use native.Mathlib.Nat.{mul-le-mul_right}
 use Rattle.share.specs.Layout.{record-most}
-use Rattle.plan.specs.Plan.{leaky}
 use Rattle.plan.specs.PlanLaws.{leaky-most}
-use Rattle.rounds.specs.Buckets.{entry}
 use Rattle.buckets.specs.Entries.{entry_lt}
 use Rattle.buckets.proofs.y_at.Goals as goal
 use Rattle.buckets.proofs.y_at.Goals.{After-entry}

@@ -1,5 +1,5 @@
 -- `plan::list_len` meets its contract.
-use Rattle.std.specs.Prelude.{◌+◌, ◌-◌, ◌*◌, ◌≤◌}
+use Rattle.std.specs.Prelude.{◌+◌, ◌*◌, ◌≤◌}
 use Rattle.lists.specs.Kit.{refl, subst, arith}
 use native.Mathlib.Nat.{mul-le-mul}
 use Rattle.plan.specs.Plan.{list_len, dm_len, Listed}

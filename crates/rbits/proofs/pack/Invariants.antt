@@ -1,10 +1,7 @@
 -- The loop's invariant: w has the first e bits.
-use Rattle.std.specs.Prelude.{◌≡◌, ◌+◌, ◌-◌, ◌≤◌}
+use Rattle.std.specs.Prelude.{◌≡◌, ◌+◌}
 use Rattle.rbits.specs.Tables.{record_bit, packed}
 use Rattle.rbits.proofs.pack.Given as goal
 
 abbrev pub invariant-loop-e : goal.invariant-loop-e
-invariant-loop-e l = (l.e ≤ 64) × (l.w ≡ packed l.e (λ e'. record_bit l.s l.stride l.count (l.first + e')))
-
-abbrev pub decreases-loop-e : goal.decreases-loop-e
-decreases-loop-e l = 64 - l.e
+invariant-loop-e l = l.w ≡ packed l.e (λ e'. record_bit l.s l.stride l.count (l.first + e'))

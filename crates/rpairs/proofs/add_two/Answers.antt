@@ -1,4 +1,3 @@
-use Rattle.std.specs.Prelude.{◌-◌}
 use Rattle.lists.specs.Kit.{arith}
 use lib.ListN.{length-set}
 use Rattle.rpairs.specs.AddedLaws.{partly-zero, partly-turn, partly-end}
@@ -6,32 +5,30 @@ use Rattle.rpairs.proofs.add_two.Goals as goal
 
 pub loop-j-init : goal.loop-j-init
 loop-j-init c = (
-  omega arith,
   partly-zero c.args.base c.args.x.now c.args.t.now c.args.win.now c.args.h,
   partly-zero c.args.base c.args.y.now c.args.u.now c.args.win.now c.args.h,
 )
 
 pub loop-j-preserved : goal.loop-j-preserved
 loop-j-preserved c = (
-  omega arith,
-  partly-turn c.args.base c.args.x.now c.args.t.now c.args.win.now c.args.h c.loop-j.j c.loop-j.x c.choose_two-p.result.0
-      c.loop-j.invariant.1 c.choose_two-p.ensures.0 (omega arith),
-  partly-turn c.args.base c.args.y.now c.args.u.now c.args.win.now c.args.h c.loop-j.j c.loop-j.y c.choose_two-p.result.1
-      c.loop-j.invariant.2 c.choose_two-p.ensures.1 (omega arith),
+  partly-turn c.args.base c.args.x.now c.args.t.now c.args.win.now c.args.h c.loop-j.j c.loop-j.x c.choose_two.result.0
+      c.loop-j.invariant.0 c.choose_two.ensures.0 (omega arith),
+  partly-turn c.args.base c.args.y.now c.args.u.now c.args.win.now c.args.h c.loop-j.j c.loop-j.y c.choose_two.result.1
+      c.loop-j.invariant.1 c.choose_two.ensures.1 (omega arith),
 )
 
 pub shape_of-x : goal.shape_of-x
-shape_of-x c = c.loop-j.invariant.1.same
+shape_of-x c = c.loop-j.invariant.0.same
 
 pub shape_of-y : goal.shape_of-y
-shape_of-y c = c.loop-j.invariant.2.same
+shape_of-y c = c.loop-j.invariant.1.same
 
 pub returns : goal.returns
 returns c =
     record {
-      x_after = partly-end c.args.base c.args.x.now c.args.t.now c.args.win.now c.args.h c.loop-j.j c.loop-j.x c.loop-j.invariant.1 (omega arith)
+      x_after = partly-end c.args.base c.args.x.now c.args.t.now c.args.win.now c.args.h c.loop-j.j c.loop-j.x c.loop-j.invariant.0 (omega arith)
           c.requires.x_len.0;
-      y_after = partly-end c.args.base c.args.y.now c.args.u.now c.args.win.now c.args.h c.loop-j.j c.loop-j.y c.loop-j.invariant.2 (omega arith)
+      y_after = partly-end c.args.base c.args.y.now c.args.u.now c.args.win.now c.args.h c.loop-j.j c.loop-j.y c.loop-j.invariant.1 (omega arith)
           c.requires.x_len.1;
     }
 

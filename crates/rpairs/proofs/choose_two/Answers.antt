@@ -1,4 +1,4 @@
-use Rattle.std.specs.Prelude.{◌≡◌, ◌+◌, ◌-◌, ◌*◌, ◌<◌}
+use Rattle.std.specs.Prelude.{◌≡◌, ◌+◌, ◌*◌, ◌<◌}
 use Rattle.lists.specs.Kit.{refl, ap, ◌∙◌, arith}
 use Prim.Native.Nat.{◌/◌, ◌^◌}
 use lib.Bits.{bit_and, mask_lt}
@@ -12,7 +12,7 @@ use Rattle.rpairs.proofs.choose_two.Goals.{In-loop-k}
 
 pub loop-k-init : goal.loop-k-init
 unfolding sum blocks zero_of
-loop-k-init c = (omega arith, refl, refl)
+loop-k-init c = (refl, refl)
 
 -- the entry is in the tables
 place : (c : In-loop-k) → c.loop-k.k * 16 + bit_and (c.args.w / 2 ^ (c.loop-k.k * 4)) 15 < 256
@@ -20,17 +20,16 @@ place c = omega (arith, mask_lt (c.args.w / 2 ^ (c.loop-k.k * 4)) 4)
 
 pub loop-k-preserved : goal.loop-k-preserved
 loop-k-preserved c = (
-  omega arith,
-  lookup-turn c.args.t.now c.args.w c.loop-k.k c.loop-k.a c.loop-k.b c.loop-k.invariant.1,
-  lookup-turn c.args.u.now c.args.w c.loop-k.k c.loop-k.c c.loop-k.d c.loop-k.invariant.2,
+  lookup-turn c.args.t.now c.args.w c.loop-k.k c.loop-k.a c.loop-k.b c.loop-k.invariant.0,
+  lookup-turn c.args.u.now c.args.w c.loop-k.k c.loop-k.c c.loop-k.d c.loop-k.invariant.1,
 )
 
 pub returns : goal.returns
 unfolding lookup
 returns c =
     let e : c.loop-k.k ≡ 16 = omega arith in (
-      c.loop-k.invariant.1 ∙ ap (λ n. sum blocks n (entry c.args.t.now c.args.w)) e,
-      c.loop-k.invariant.2 ∙ ap (λ n. sum blocks n (entry c.args.u.now c.args.w)) e,
+      c.loop-k.invariant.0 ∙ ap (λ n. sum blocks n (entry c.args.t.now c.args.w)) e,
+      c.loop-k.invariant.1 ∙ ap (λ n. sum blocks n (entry c.args.u.now c.args.w)) e,
     )
 
 pub overflow_add-low : goal.overflow_add-low
