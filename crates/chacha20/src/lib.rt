@@ -4,7 +4,7 @@
 // stays in registers.
 #![tactic(auto)]
 
-ghost use Rattle.std.specs.Prelude.{◌≡◌, ◌*◌, ◌<◌, length};
+ghost use Rattle.std.specs.Prelude.{◌≡◌, ◌<◌, length};
 ghost use Rattle.word.specs.Word.{word_list};
 ghost use Rattle.chacha20.specs.ChaCha20 as C;
 
@@ -99,20 +99,12 @@ pub fn words(key: &[u32; 8], counter: u32, nonce: &[u32; 3]) -> [u32; 16]
     sums(&v, &s)
 }
 
-// The first N words of s.
-fn words_of<const N: usize>(s: &[u8]) -> [u32; N]
-    requires { length s.now ≡ N * 4 }
-    ensures { result ≡ word_list N s.now }
-{
-    std::array::from_fn(|k| word::load(s, k * word::BYTES))
-}
-
 // The words of a key.
 pub fn key_words(key: &[u8]) -> [u32; 8]
     requires { length key.now ≡ 32 }
     ensures { result ≡ word_list 8 key.now }
 {
-    words_of(key)
+    word::words(key)
 }
 
 // The words of a nonce.
@@ -120,7 +112,7 @@ pub fn nonce_words(nonce: &[u8]) -> [u32; 3]
     requires { length nonce.now ≡ 12 }
     ensures { result ≡ word_list 3 nonce.now }
 {
-    words_of(nonce)
+    word::words(nonce)
 }
 
 // The words one after another, low byte first.

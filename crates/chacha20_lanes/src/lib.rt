@@ -1,7 +1,8 @@
 // ChaCha20 with a nonce of zero, four blocks at once, one in each lane.
 //
-// Speed: the loop over the lanes has no call left in it once `one` is inlined, and LLVM then turns it into vector code for the four. For
-// that `one` has a single call, and its ten double rounds are written out: a loop in the loop would keep LLVM from it.
+// Speed: from_fn's loop over the lanes has no call left in it once `one` is inlined, and LLVM then turns it into vector code for the four.
+// For that `one` has a single call, and its ten double rounds are written out: a loop in the loop would keep LLVM from it (the drawing of a
+// permutation, bench/shuffle/run, then takes half as long again).
 #![tactic(auto)]
 
 ghost use Rattle.std.specs.Prelude.{◌≡◌, ◌+◌, ◌^◌, ◌≤◌};

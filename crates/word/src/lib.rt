@@ -1,8 +1,8 @@
 // Words of 32 bits: their sum modulo 2^32, and their bytes, the lowest first.
 #![tactic(auto)]
 
-ghost use Rattle.std.specs.Prelude.{◌≡◌, ◌+◌, ◌<◌, length};
-ghost use Rattle.word.specs.Word.{plus, word_at, le4};
+ghost use Rattle.std.specs.Prelude.{◌≡◌, ◌+◌, ◌*◌, ◌<◌, ◌≤◌, length};
+ghost use Rattle.word.specs.Word.{plus, word_at, word_list, le4};
 
 // The bytes of a word.
 pub const BYTES: usize = 4;
@@ -20,6 +20,14 @@ pub fn load(s: &[u8], at: usize) -> u32
     ensures { result ≡ word_at at s.now }
 {
     u32::from_le_bytes([s[at], s[at + 1], s[at + 2], s[at + 3]])
+}
+
+// The first N words.
+pub fn words<const N: usize>(s: &[u8]) -> [u32; N]
+    requires { N * 4 ≤ length s.now }
+    ensures { result ≡ word_list N s.now }
+{
+    std::array::from_fn(|k| load(s, k * BYTES))
 }
 
 // Writes the four bytes of v.

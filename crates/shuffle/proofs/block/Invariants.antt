@@ -1,4 +1,3 @@
-use Rattle.std.specs.Prelude.{◌-◌}
 use Rattle.shuffle.specs.Turns.{Taken}
 use Rattle.shuffle.proofs.block.Given as goal
 

@@ -1,19 +1,10 @@
 use Rattle.std.specs.Prelude.{◌-◌}
-use Rattle.lists.specs.Kit.{◌∙◌, arith, rules}
-use Rattle.shuffle.specs.Turns.{size}
+use Rattle.lists.specs.Kit.{arith, rules}
 use Rattle.shuffle.proofs.TurnLaws.{less-falls, blocks-zero, window-turn, drawn}
 use Rattle.shuffle.proofs.draw.Goals as goal
 
 pub loop-at-init : goal.loop-at-init
 loop-at-init c = blocks-zero _ _ _ _ (search rules)
-
-pub window-at-requires : goal.window-at-requires
-window-at-requires c =
-    omega (arith, c.loop-at.invariant.size, c.loop-at.invariant.less.index, c.loop-at.invariant.less.may, c.loop-at.invariant.less.less c.loop-at-test.true, c.loop-at-test.true, c.start.auto.section, c.requires)
-
-pub overflow_add-counter : goal.overflow_add-counter
-overflow_add-counter c =
-    omega (arith, c.loop-at.invariant.less.less c.loop-at-test.true, c)
 
 pub loop-at-smaller : goal.loop-at-smaller
 loop-at-smaller c =
@@ -21,12 +12,9 @@ loop-at-smaller c =
 
 pub loop-at-preserved : goal.loop-at-preserved
 loop-at-preserved c =
-    window-turn c.args.key.now c.start.new.section record { t = c.args.n - 1; left = 64 } c.loop-at.counter c.loop-at.section c.window-at.new.section
-    c.loop-at.at c.window-at.result c.loop-at.invariant c.window-at.auto.section c.window-at.ensures.less_by
+    window-turn c.args.key.now c.start.new.section record { t = c.args.n - 1; left = 64 } c.loop-at.counter
+    c.loop-at.section c.window-at.new.section c.loop-at.at c.window-at.result c.loop-at.invariant c.window-at.auto.section c.window-at.ensures.less_by
     c.window-at.ensures.by_index
-
-pub shape_of-section : goal.shape_of-section
-shape_of-section c = c.loop-at.invariant.size ∙ c.start.auto.section
 
 pub returns : goal.returns
 returns c =

@@ -1,4 +1,3 @@
-use Rattle.std.specs.Prelude.{◌-◌}
 use Rattle.shuffle.specs.Turns.{size, Blocks}
 use Rattle.shuffle.proofs.draw.Given as goal
 

@@ -1,4 +1,4 @@
-use Rattle.std.specs.Prelude.{◌-◌, ◌*◌, ◌≤◌}
+use Rattle.std.specs.Prelude.{◌*◌}
 use Rattle.lists.specs.Over.{Written}
 use Rattle.word.specs.Word.{le4}
 use Rattle.shuffle.proofs.start.Given as goal

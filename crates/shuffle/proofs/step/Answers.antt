@@ -1,12 +1,6 @@
-use native.Mathlib.Nat.{mod-lt}
-use Rattle.std.specs.Prelude.{◌+◌}
-use Rattle.lists.specs.Kit.{arith, rules}
+use Rattle.lists.specs.Kit.{rules}
 use Rattle.shuffle.proofs.TurnLaws.{went-used, went-passed, some_left}
 use Rattle.shuffle.proofs.step.Goals as goal
-
-pub swap-requires : goal.swap-requires
-swap-requires c =
-    omega (arith, mod-lt c.args.v {m = c.args.s.t + 1} (omega arith))
 
 pub returns-then-fits-left : goal.returns-then-fits-left
 returns-then-fits-left c =
@@ -16,9 +10,6 @@ returns-then-fits-left c =
           went-used w n k c.args.v c.fits.result c.args.s p c.swap.new.section c.requires.0 e
           c.fits.ensures c.if-fits-left.true (c.swap.ensures n p K);
     }
-
-pub overflow_sub-result-else-fits-left : goal.overflow_sub-result-else-fits-left
-overflow_sub-result-else-fits-left c = some_left c.fits.result c.args.s.left c.if-fits-left.false
 
 pub returns-else-fits-left : goal.returns-else-fits-left
 returns-else-fits-left c =

@@ -1,4 +1,3 @@
-use Rattle.std.specs.Prelude.{◌-◌, ◌≤◌}
 use Rattle.shuffle.specs.Turns.{Blocks}
 use Rattle.shuffle.proofs.window.Given as goal
 

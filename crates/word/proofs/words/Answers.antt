@@ -2,7 +2,7 @@ use Rattle.std.specs.Prelude.{◌*◌}
 use Rattle.std.proofs.Common.{rules}
 use Rattle.lists.specs.FromFn.{made}
 use Rattle.word.specs.Word.{word_at, word_list}
-use Rattle.chacha20.proofs.words_of.Goals as goal
+use Rattle.word.proofs.words.Goals as goal
 
 pub returns : goal.returns
 unfolding word_list
