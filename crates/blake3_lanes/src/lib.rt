@@ -11,7 +11,7 @@ ghost use Rattle.blake3_lanes.specs.Lanes as S;
 ghost use Rattle.blake3_lanes.specs.Lanes.{words_of, words_at, no_words, digest_of, hash_at};
 
 use blake3::Digest;
-use blake3_core::{IV, columns, diagonals, permute};
+use blake3_core::{IV, rounds};
 use blake3_node::{CHUNK_END, CHUNK_START, ROOT};
 use block::Block;
 
@@ -47,26 +47,7 @@ fn lane(w: Words) -> Digest
     ];
     let h = IV;
     let mut v = blake3_core::start(&h, 0, 16, CHUNK_START + CHUNK_END + ROOT);
-    columns(&mut v, &m);
-    diagonals(&mut v, &m);
-    let m1 = permute(&m);
-    columns(&mut v, &m1);
-    diagonals(&mut v, &m1);
-    let m2 = permute(&m1);
-    columns(&mut v, &m2);
-    diagonals(&mut v, &m2);
-    let m3 = permute(&m2);
-    columns(&mut v, &m3);
-    diagonals(&mut v, &m3);
-    let m4 = permute(&m3);
-    columns(&mut v, &m4);
-    diagonals(&mut v, &m4);
-    let m5 = permute(&m4);
-    columns(&mut v, &m5);
-    diagonals(&mut v, &m5);
-    let m6 = permute(&m5);
-    columns(&mut v, &m6);
-    diagonals(&mut v, &m6);
+    rounds(&mut v, &m);
     Digest(blake3_core::fold(&v))
 }
 
