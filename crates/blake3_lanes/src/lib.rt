@@ -2,7 +2,8 @@
 //
 // Speed: the loop over the lanes of a window has no call left in it once `lane` is inlined, and LLVM then turns it into vector code for
 // four lanes at a time. That needs words of 32 bits alone in it (`Words`, `Digest`), 64 turns, and `lane` called at one place: `compress`,
-// which many call, would stay a call (`rounds` is inlined wherever it is called). The words of the message that are 0 are constants there, and their additions go.
+// which many call, would stay a call. `rounds` is inlined wherever it is called. The words of the message that are 0 are constants there,
+// and their additions go.
 #![tactic(auto)]
 
 ghost use Rattle.std.specs.Prelude.{◌≡◌, ◌*◌, ◌<◌, ◌≤◌, length, get_or};
