@@ -63,7 +63,7 @@ fn gather(blocks: &[u8]) -> [Words; LANES]
     ms
 }
 
-// The 64 lanes: vector code.
+// The 64 lanes: vector code, which `ms.map(lane)` would not be.
 fn lanes(ms: [Words; LANES]) -> [Digest; LANES]
     ensures { result ≡ tab S.LANES (λ t. digest_of (get_or ms t no_words)) }
 {

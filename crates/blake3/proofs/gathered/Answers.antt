@@ -37,7 +37,8 @@ pub returns : goal.returns
 returns c =
     c.chunk.ensures
     ∙ ap (λ (x : List ℕ). chunk x c.args.t c.args.f)
-    (lent c.args.s.now c.loop-i.b c.args.stride c.args.from c.args.len c.loop-i.i c.requires.stride_nonzero.1 (omega arith) c.loop-i.invariant.0)
+    (lent c.args.s.now c.loop-i.b c.args.stride c.args.from c.args.len c.loop-i.i c.requires.stride_nonzero.1 (omega arith)
+    c.loop-i.invariant.0)
 
 pub first-requires : goal.first-requires
 first-requires c = (c.requires.stride_nonzero.0, omega arith)

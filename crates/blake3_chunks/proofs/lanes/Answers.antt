@@ -18,7 +18,10 @@ loop-j-init c = tab-zero _ _
 pub lane-requires : goal.lane-requires
 lane-requires c =
     let j = c.loop-j.j in
-    record { chunk_len = omega (arith, c.requires.s_len, length-take-drop (1024 * j) (1024 * j + 1024) c.args.s.now); k_bound = c.requires.k_bound }
+    record {
+      chunk_len = omega (arith, c.requires.s_len, length-take-drop (1024 * j) (1024 * j + 1024) c.args.s.now);
+      k_bound = c.requires.k_bound;
+    }
 
 pub loop-j-preserved : goal.loop-j-preserved
 loop-j-preserved c =

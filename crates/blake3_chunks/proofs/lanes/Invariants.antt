@@ -6,4 +6,6 @@ use Rattle.blake3_chunks.specs.Chunks.{no_node, chunk_of, pressed}
 use Rattle.blake3_chunks.proofs.lanes.Given as goal
 
 abbrev pub invariant-loop-j : goal.invariant-loop-j
-invariant-loop-j l = l.ds ≡ tab l.j (λ i. pressed (get_or l.hs i no_node) (chunk_of l.s i) l.k (get_or l.lows i 0) (get_or l.highs i 0) l.f) ++ drop l.j l.initial.ds
+invariant-loop-j l =
+    l.ds ≡ tab l.j (λ i. pressed (get_or l.hs i no_node) (chunk_of l.s i) l.k (get_or l.lows i 0) (get_or l.highs i 0) l.f)
+    ++ drop l.j l.initial.ds

@@ -31,6 +31,7 @@ returns c =
     c.rotate_right-b.type_inv c.rotate_right-d.type_inv c.add-a-2.type_inv c.add-c-2.type_inv
     c.add-2.ensures c.add-a-2.ensures c.rotate_right-d-2.ensures c.add-c-2.ensures c.rotate_right-b-2.ensures
     ∙ ap (S.half 8 7 y)
-    (half 16 12 x (get_or v a.i 0) (get_or v a.j 0) (get_or v a.k 0) (get_or v a.l 0) (omega arith) (omega arith) (omega arith) (omega arith)
+    (half 16 12 x (get_or v a.i 0) (get_or v a.j 0) (get_or v a.k 0) (get_or v a.l 0)
+    (omega arith) (omega arith) (omega arith) (omega arith)
     (c.fits-v a.j) (c.fits-v a.l) c.add-a.type_inv c.add-c.type_inv
     c.add.ensures c.add-a.ensures c.rotate_right-d.ensures c.add-c.ensures c.rotate_right-b.ensures))

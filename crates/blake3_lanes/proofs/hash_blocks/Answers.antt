@@ -29,4 +29,5 @@ loop-t-preserved c =
     let t = c.loop-t.t in
     written-turn (hash_at c.args.blocks.now) t (t * 32) (t * 32 + 32) ((t + 1) * 32) _ c.loop-t.out _ c.loop-t.invariant
     (c.store.ensures ∙ ap bytes (c.hash_block-d.ensures ∙ ap (λ (x : Block). digest (bytes_of x)) c.load.ensures))
-    (omega (arith, length-hash_at c.args.blocks.now t)) (omega (arith, c.loop-t-test.true, c.loop-w.invariant.same, c.requires.out_len)) (omega arith)
+    (omega (arith, length-hash_at c.args.blocks.now t))
+    (omega (arith, c.loop-t-test.true, c.loop-w.invariant.same, c.requires.out_len)) (omega arith)

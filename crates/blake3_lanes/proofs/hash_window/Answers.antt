@@ -14,7 +14,8 @@ slice_bounds-store-end c =
 
 pub loop-t-preserved : goal.loop-t-preserved
 loop-t-preserved c =
-    written-turn (hash_at c.args.blocks.now) c.loop-t.t (c.loop-t.t * 32) (c.loop-t.t * 32 + 32) ((c.loop-t.t + 1) * 32) c.args.out.now c.loop-t.out _ c.loop-t.invariant
+    written-turn (hash_at c.args.blocks.now) c.loop-t.t (c.loop-t.t * 32) (c.loop-t.t * 32 + 32) ((c.loop-t.t + 1) * 32)
+    c.args.out.now c.loop-t.out _ c.loop-t.invariant
     (c.store.ensures ∙ lane-hash c.args.blocks.now 64 _ _ _ c.loop-t.t (λ j. search rules)
     c.gather.ensures c.lanes-ds.ensures c.loop-t-test.true)
     (omega (arith, length-hash_at c.args.blocks.now c.loop-t.t)) (omega (arith, c.loop-t-test.true, c.requires.out_len)) (omega arith)
