@@ -1,6 +1,6 @@
 -- std's rotation of a word is the specification's.
 use Rattle.std.specs.Prelude.{◌≡◌, ◌+◌, ◌-◌, ◌*◌, ◌/◌, ◌%◌, ◌^◌, ◌<◌, bit_or, bit_xor}
-use Rattle.lists.specs.Kit.{ℕ, sym, ap, ap₂, ◌∙◌, arith, subst}
+use Rattle.lists.specs.Kit.{ℕ, ap, ap₂, ◌∙◌, arith, subst}
 use Rattle.std.specs.Int.{w32, rotate_right}
 use Rattle.std.proofs.lemmas.Nat.{xor_lt}
 use Rattle.word.specs.Word.{rotr}

@@ -1,5 +1,5 @@
 -- A chunk's blocks, one after the other.
-use Rattle.std.specs.Prelude.{◌≡◌, ◌∷◌, ◌++◌, ◌+◌, ◌-◌, ◌*◌, ◌≤◌}
+use Rattle.std.specs.Prelude.{◌≡◌, ◌∷◌, ◌++◌, ◌+◌, ◌-◌, ◌*◌}
 use Rattle.lists.specs.Kit.{refl, ap, ◌∙◌, List, [], ℕ, zero, suc, length, get_or, take, drop, replicate}
 use mathlib.Core.List.{map}
 use Prim.Native.Nat.{◌/◌}

@@ -1,4 +1,4 @@
-use Rattle.std.specs.Prelude.{◌+◌, ◌-◌, ◌*◌}
+use Rattle.std.specs.Prelude.{◌+◌, ◌*◌}
 use Rattle.lists.specs.Kit.{◌∙◌, arith, rules}
 use Rattle.lists.specs.Over.{written-zero, written-turn, written-end}
 use Rattle.blake3_lanes.specs.Lanes.{hash_at}
