@@ -1,5 +1,5 @@
 -- The 32 bytes of a digest's words, as two Blocks; and the digest of a Block.
-use Rattle.std.specs.Prelude.{◌≡◌, refl, Bool, true, false, ◌&&◌, List, [], ◌∷◌, ◌++◌, ℕ, ◌+◌, ◌-◌, ◌*◌, ◌/◌, ◌%◌, ◌^◌, ◌≤◌, ◌<◌, length, get_or, take, drop, eqb}
+use Rattle.std.specs.Prelude.{◌≡◌, refl, Bool, true, false, ◌&&◌, List, [], ◌∷◌, ◌++◌, ℕ, ◌+◌, ◌*◌, ◌/◌, ◌%◌, ◌^◌, ◌≤◌, ◌<◌, length, get_or, take, drop, eqb}
 use Rattle.std.proofs.Common.{sym, ap, ap₂, ◌∙◌, add-zero, mod-eq_of_lt, arith, shr-shr, shr_lt, take-append-drop, length-drop, take_all, take-add, drop-drop}
 use Rattle.std.proofs.lemmas.Nat.{mod-pow-add}
 use Rattle.lists.specs.Over.{length-tab, get_or-tab}

@@ -1,7 +1,8 @@
 -- The tree's rule: a list of one chunk is that chunk; else the left subtree takes the largest power of two of chunks below the total.
-use Rattle.std.specs.Prelude.{◌≡◌, refl, Bool, true, false, List, ℕ, zero, suc, ◌+◌, ◌-◌, ◌*◌, ◌/◌, ◌^◌, ◌≤◌, ◌<◌, length, take, drop, ltb, leb}
+use Rattle.std.specs.Prelude.{◌≡◌, refl, Bool, true, false, List, ℕ, zero, suc, ◌+◌, ◌-◌, ◌*◌, ◌/◌, ◌^◌, ◌≤◌, ◌<◌, length, take, drop, ltb, leb, max}
 use Rattle.std.proofs.Common.{sym, ap, ap₂, ◌∙◌, pow-suc, add-one, arith, pow_pos, pow_mono, length-drop, length-take-le, take_all, take-take, drop-drop, le-leb, leb-true, leb-false, ltb-true, ltb-false}
 use Rattle.std.proofs.lemmas.Bool.{lt-leb}
+use Rattle.std.specs.Int.{IsPowerOfTwo}
 use Rattle.lists.specs.Pick.{pick}
 use Rattle.lists.specs.Sect.{get, drop-take, length-get}
 use Rattle.blake3_node.specs.Node.{chunk, parent, CHUNK_LEN}
@@ -51,12 +52,19 @@ pub left-largest : (n : ℕ) → 1 < n → Largest n (left_chunks n)
 unfolding left_chunks
 left-largest n h = up_to n n h (omega (arith, large n, pow-suc 2 n))
 
--- a loop that doubles: its start and its turn
+-- 1, and the double of one
 pub power-one : Power 1
 power-one = record { height = 0; is = refl }
 
 pub power-double : (p : ℕ) → Power p → Power (2 * p)
 power-double p w = record { height = suc w.height; is = ap (λ (k : ℕ). 2 * k) w.is ∙ (let e : 2 * 2 ^ w.height ≡ 2 ^ suc w.height = omega (arith, pow-suc 2 w.height) in e) }
+
+-- half of the least power of two that is n or more
+pub half-largest : (n r : ℕ) → 1 < n → IsPowerOfTwo r → n ≤ r → r / 2 < max 1 n → Largest n (r / 2)
+half-largest n r h (zero, e) l u = absurd (omega arith)
+half-largest n r h (suc k, e) l u =
+    let q : r / 2 ≡ 2 ^ k = omega (arith, pow-suc 2 k) in
+    record { power = record { height = k; is = q }; below = omega arith; next = omega (arith, pow-suc 2 k) }
 
 pub power_pos : (p : ℕ) → Power p → 0 < p
 power_pos p w = omega (arith, w.is, pow_pos w.height)

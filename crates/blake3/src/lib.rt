@@ -18,7 +18,7 @@ ghost use Rattle.blake3.specs.TreeLaws.{Largest};
 ghost use Rattle.blake3.specs.Firsts.{firsts};
 
 use blake3_chunks::WINDOW;
-use blake3_core::IV;
+use blake3_core::{IV, compress};
 use blake3_node::{CHUNK_END, CHUNK_LEN, CHUNK_START, ROOT};
 use block::Block;
 
@@ -27,7 +27,7 @@ fn chunks(n: usize) -> u64
     requires { N.CHUNK_LEN < n }
     ensures { result ≡ T.chunks n }
 {
-    ((n - 1) / CHUNK_LEN + 1) as u64
+    n.div_ceil(CHUNK_LEN) as u64
 }
 
 // The largest power of two below n.
@@ -35,11 +35,7 @@ fn left_chunks(n: u64) -> u64
     requires { (1 < n) × (n < 2 ^ 63) }
     ensures { Largest n result }
 {
-    let mut k: u64 = 1;
-    while 2 * k < n {
-        k = 2 * k;
-    }
-    k
+    n.next_power_of_two() / 2
 }
 
 // The byte at place i of `firsts stride s`.
@@ -57,11 +53,9 @@ fn gathered(s: &[u8], stride: usize, from: usize, len: usize, t: u64, f: u32) ->
     requires f_bound { f < 16 }
     ensures { result ≡ N.chunk (get from len (firsts stride s.now)) t f }
 {
-    let mut b = [0u8; 1024];
-    let mut i: usize = 0;
-    while i < len {
+    let mut b = [0u8; CHUNK_LEN];
+    for i in 0..len {
         b[i] = first(s, stride, from + i);
-        i += 1;
     }
     blake3_node::chunk(&b[..len], t, f)
 }
@@ -102,10 +96,8 @@ fn tree(s: &[u8], stride: usize, from: usize, len: usize, t: u64, f: u32) -> [u3
     if len <= CHUNK_LEN {
         return leaf(s, stride, from, len, t, f);
     }
-    if stride == 1 {
-        if len == WINDOW {
-            return four(s, from, t, f);
-        }
+    if stride == 1 && len == WINDOW {
+        return four(s, from, t, f);
     }
     let k = left_chunks(chunks(len));
     let n = CHUNK_LEN * (k as usize);
@@ -127,18 +119,27 @@ fn joined(low: u32, high: u32) -> u64
 pub struct Digest(pub [u32; 8]);
 
 impl Digest {
+    // Its words k to k + 3.
+    fn words(self, k: usize) -> Block
+        requires { k < 5 }
+        ensures { result ≡ block_at (T.bytes self.0) (4 * k) }
+    {
+        let h = self.0;
+        Block(joined(h[k], h[k + 1]), joined(h[k + 2], h[k + 3]))
+    }
+
     // Its first 16 bytes.
     pub fn block(self) -> Block
         ensures { result ≡ block_at (T.bytes self.0) 0 }
     {
-        Block(joined(self.0[0], self.0[1]), joined(self.0[2], self.0[3]))
+        self.words(0)
     }
 
     // Its last 16 bytes.
     pub fn second(self) -> Block
         ensures { result ≡ block_at (T.bytes self.0) 16 }
     {
-        Block(joined(self.0[4], self.0[5]), joined(self.0[6], self.0[7]))
+        self.words(4)
     }
 
     // Document 01's H: the lowest bit of byte 31.
@@ -193,34 +194,19 @@ pub fn hash128_firsts(s: &[u8], stride: usize) -> Block
     ensures { result ≡ block_at (T.hash (firsts stride s.now)) 0 }
 {
     let n = 8 + (s.len() - 8) / stride;
-    let d = Digest(tree(s, stride, 0, n, 0, ROOT));
-    d.block()
+    Digest(tree(s, stride, 0, n, 0, ROOT)).block()
 }
 
 // BLAKE3 of a Block's 16 bytes: one compression of its four words, with no bytes in between.
 pub fn hash_block(b: Block) -> Digest
     ensures { result.0 ≡ T.digest (bytes_of b) }
 {
-    let m = [
-        blake3_core::low(b.0),
-        blake3_core::high(b.0),
-        blake3_core::low(b.1),
-        blake3_core::high(b.1),
-        0u32,
-        0u32,
-        0u32,
-        0u32,
-        0u32,
-        0u32,
-        0u32,
-        0u32,
-        0u32,
-        0u32,
-        0u32,
-        0u32,
-    ];
-    let h = IV;
-    Digest(blake3_core::compress(&h, &m, 0, 16, CHUNK_START + CHUNK_END + ROOT))
+    let mut m = [0u32; 16];
+    m[0] = blake3_core::low(b.0);
+    m[1] = blake3_core::high(b.0);
+    m[2] = blake3_core::low(b.1);
+    m[3] = blake3_core::high(b.1);
+    Digest(compress(&IV, &m, 0, 16, CHUNK_START + CHUNK_END + ROOT))
 }
 
 // For C: BLAKE3 of s.

@@ -2,7 +2,7 @@
 //
 // Speed: the loop over the lanes has no call left in it once `lane` is inlined, and LLVM then turns it into vector code for the four
 // lanes. That needs words of 32 bits alone in it, so a chunk's number comes as two words, and `lane` called at one place: `compress`,
-// which many call, would stay a call, and so would a function of the seven rounds for both.
+// which many call, would stay a call. `rounds` is inlined wherever it is called.
 #![tactic(auto)]
 
 ghost use Rattle.std.specs.Prelude.{◌≡◌, ◌+◌, ◌*◌, ◌/◌, ◌%◌, ◌^◌, ◌<◌, ◌≤◌, length, get_or};
@@ -11,7 +11,7 @@ ghost use Rattle.blake3_node.specs.Node as N;
 ghost use Rattle.blake3_chunks.specs.Chunks as S;
 ghost use Rattle.blake3_chunks.specs.Chunks.{chunk_of, no_node, pressed, chained};
 
-use blake3_core::{IV, columns, diagonals, permute};
+use blake3_core::{IV, rounds};
 use blake3_node::{BLOCK_LEN, CHUNK_END, CHUNK_LEN, CHUNK_START};
 
 // As many chunks as are hashed side by side.
@@ -37,26 +37,7 @@ fn lane(n: Node, chunk: &[u8], k: usize, low: u32, high: u32, f: u32) -> Node
     let at = BLOCK_LEN * k;
     let m = blake3_node::whole(&chunk[at..]);
     let mut v = blake3_core::state(&h, low, high, 64, f);
-    columns(&mut v, &m);
-    diagonals(&mut v, &m);
-    let m1 = permute(&m);
-    columns(&mut v, &m1);
-    diagonals(&mut v, &m1);
-    let m2 = permute(&m1);
-    columns(&mut v, &m2);
-    diagonals(&mut v, &m2);
-    let m3 = permute(&m2);
-    columns(&mut v, &m3);
-    diagonals(&mut v, &m3);
-    let m4 = permute(&m3);
-    columns(&mut v, &m4);
-    diagonals(&mut v, &m4);
-    let m5 = permute(&m4);
-    columns(&mut v, &m5);
-    diagonals(&mut v, &m5);
-    let m6 = permute(&m5);
-    columns(&mut v, &m6);
-    diagonals(&mut v, &m6);
+    rounds(&mut v, &m);
     Node(blake3_core::fold(&v))
 }
 
@@ -74,12 +55,10 @@ fn lanes(
     ensures { result ≡ tab S.LANES (λ j. pressed (get_or hs j no_node) (chunk_of s.now j) k (get_or lows j 0) (get_or highs j 0) f) }
 {
     let mut ds = [Node([0u32; 8]); LANES];
-    let mut j: usize = 0;
-    while j < LANES {
+    for j in 0..LANES {
         let a = CHUNK_LEN * j;
         let e = a + CHUNK_LEN;
         ds[j] = lane(hs[j], &s[a..e], k, lows[j], highs[j], f);
-        j += 1;
     }
     ds
 }
@@ -89,24 +68,14 @@ fn lows(t: u64) -> [u32; LANES]
     requires { t + S.LANES < 2 ^ 64 }
     ensures { result ≡ tab S.LANES (λ j. (t + j) % 2 ^ 32) }
 {
-    [
-        blake3_core::low(t),
-        blake3_core::low(t + 1),
-        blake3_core::low(t + 2),
-        blake3_core::low(t + 3),
-    ]
+    std::array::from_fn(|j| blake3_core::low(t + j as u64))
 }
 
 fn highs(t: u64) -> [u32; LANES]
     requires { t + S.LANES < 2 ^ 64 }
     ensures { result ≡ tab S.LANES (λ j. (t + j) / 2 ^ 32) }
 {
-    [
-        blake3_core::high(t),
-        blake3_core::high(t + 1),
-        blake3_core::high(t + 2),
-        blake3_core::high(t + 3),
-    ]
+    std::array::from_fn(|j| blake3_core::high(t + j as u64))
 }
 
 // The chaining values of four chunks, of which the first has number t.
@@ -119,12 +88,10 @@ fn window(s: &[u8], t: u64) -> [Node; LANES]
     let us = highs(t);
     let mut hs = [Node(IV); LANES];
     let mut d = CHUNK_START;
-    let mut k: usize = 0;
-    while k < LAST {
+    for k in 0..LAST {
         let next = lanes(hs, s, k, ls, us, d);
         hs = next;
         d = 0;
-        k += 1;
     }
     lanes(hs, s, LAST, ls, us, CHUNK_END)
 }
@@ -136,12 +103,8 @@ pub fn four(s: &[u8], t: u64, f: u32) -> [u32; 8]
     requires f_bound { f < 16 }
     ensures { result ≡ S.four s.now t f }
 {
-    let hs = window(s, t);
-    let a = hs[0];
-    let b = hs[1];
-    let c = hs[2];
-    let d = hs[3];
-    let l = blake3_node::parent(&a.0, &b.0, 0);
-    let r = blake3_node::parent(&c.0, &d.0, 0);
+    let [Node(a), Node(b), Node(c), Node(d)] = window(s, t);
+    let l = blake3_node::parent(&a, &b, 0);
+    let r = blake3_node::parent(&c, &d, 0);
     blake3_node::parent(&l, &r, f)
 }

@@ -1,2 +1,2 @@
-mod Order
-pub mod Rounds
+mod Words
+pub mod Made

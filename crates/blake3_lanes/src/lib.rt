@@ -2,7 +2,8 @@
 //
 // Speed: the loop over the lanes of a window has no call left in it once `lane` is inlined, and LLVM then turns it into vector code for
 // four lanes at a time. That needs words of 32 bits alone in it (`Words`, `Digest`), 64 turns, and `lane` called at one place: `compress`,
-// which many call, would stay a call. The words of the message that are 0 are constants there, and their additions go.
+// which many call, would stay a call. `rounds` is inlined wherever it is called. The words of the message that are 0 are constants there,
+// and their additions go.
 #![tactic(auto)]
 
 ghost use Rattle.std.specs.Prelude.{◌≡◌, ◌*◌, ◌<◌, ◌≤◌, length, get_or};
@@ -11,7 +12,7 @@ ghost use Rattle.blake3_lanes.specs.Lanes as S;
 ghost use Rattle.blake3_lanes.specs.Lanes.{words_of, words_at, no_words, digest_of, hash_at};
 
 use blake3::Digest;
-use blake3_core::{IV, columns, diagonals, permute};
+use blake3_core::{IV, rounds};
 use blake3_node::{CHUNK_END, CHUNK_START, ROOT};
 use block::Block;
 
@@ -45,28 +46,8 @@ fn lane(w: Words) -> Digest
     let m = [
         w.0, w.1, w.2, w.3, 0u32, 0u32, 0u32, 0u32, 0u32, 0u32, 0u32, 0u32, 0u32, 0u32, 0u32, 0u32,
     ];
-    let h = IV;
-    let mut v = blake3_core::start(&h, 0, 16, CHUNK_START + CHUNK_END + ROOT);
-    columns(&mut v, &m);
-    diagonals(&mut v, &m);
-    let m1 = permute(&m);
-    columns(&mut v, &m1);
-    diagonals(&mut v, &m1);
-    let m2 = permute(&m1);
-    columns(&mut v, &m2);
-    diagonals(&mut v, &m2);
-    let m3 = permute(&m2);
-    columns(&mut v, &m3);
-    diagonals(&mut v, &m3);
-    let m4 = permute(&m3);
-    columns(&mut v, &m4);
-    diagonals(&mut v, &m4);
-    let m5 = permute(&m4);
-    columns(&mut v, &m5);
-    diagonals(&mut v, &m5);
-    let m6 = permute(&m5);
-    columns(&mut v, &m6);
-    diagonals(&mut v, &m6);
+    let mut v = blake3_core::start(&IV, 0, 16, CHUNK_START + CHUNK_END + ROOT);
+    rounds(&mut v, &m);
     Digest(blake3_core::fold(&v))
 }
 
@@ -76,23 +57,19 @@ fn gather(blocks: &[u8]) -> [Words; LANES]
     ensures { result ≡ tab S.LANES (words_at blocks.now) }
 {
     let mut ms = [Words(0, 0, 0, 0); LANES];
-    let mut t: usize = 0;
-    while t < LANES {
+    for t in 0..LANES {
         ms[t] = split(block::load(blocks, t * 16));
-        t += 1;
     }
     ms
 }
 
-// The 64 lanes: vector code.
+// The 64 lanes: vector code, which `ms.map(lane)` would not be.
 fn lanes(ms: [Words; LANES]) -> [Digest; LANES]
     ensures { result ≡ tab S.LANES (λ t. digest_of (get_or ms t no_words)) }
 {
     let mut ds = [Digest([0u32; 8]); LANES];
-    let mut t: usize = 0;
-    while t < LANES {
+    for t in 0..LANES {
         ds[t] = lane(ms[t]);
-        t += 1;
     }
     ds
 }
@@ -104,13 +81,11 @@ pub fn hash_window(out: &mut [u8], blocks: &[u8])
     ensures { out.new ≡ cat S.LANES (hash_at blocks.now) }
 {
     let ds = lanes(gather(blocks));
-    let mut t: usize = 0;
-    while t < LANES {
+    for t in 0..LANES {
         let a = t * 32;
         let e = a + 32;
         let d = ds[t];
         d.store(&mut out[a..e]);
-        t += 1;
     }
 }
 
@@ -119,7 +94,7 @@ pub fn at_once(left: usize) -> usize
     requires { 0 < left }
     ensures { (0 < result) × (result ≤ left) × (result ≤ S.LANES) }
 {
-    if left < LANES { left } else { LANES }
+    left.min(LANES)
 }
 
 // The hashes of `count` Blocks that lie side by side: window by window, then what is left one by one.
@@ -128,21 +103,20 @@ pub fn hash_blocks(out: &mut [u8], blocks: &[u8], count: usize)
     requires out_len { length out.old ≡ count * 32 }
     ensures { out.new ≡ cat count (hash_at blocks.now) }
 {
-    let mut t: usize = 0;
-    while count - t >= LANES {
+    let windows = count / LANES;
+    for w in 0..windows {
+        let t = w * LANES;
         let a = t * 32;
         let e = a + HASHES_LEN;
         let b = t * 16;
         let f = b + BLOCKS_LEN;
         hash_window(&mut out[a..e], &blocks[b..f]);
-        t += LANES;
     }
-    while t < count {
+    for t in windows * LANES..count {
         let a = t * 32;
         let e = a + 32;
         let d = blake3::hash_block(block::load(blocks, t * 16));
         d.store(&mut out[a..e]);
-        t += 1;
     }
 }
 

@@ -1,5 +1,5 @@
 -- A chunk's blocks, one after the other.
-use Rattle.std.specs.Prelude.{◌≡◌, ◌∷◌, ◌++◌, ◌+◌, ◌-◌, ◌*◌, ◌≤◌}
+use Rattle.std.specs.Prelude.{◌≡◌, ◌∷◌, ◌++◌, ◌+◌, ◌-◌, ◌*◌}
 use Rattle.lists.specs.Kit.{refl, ap, ◌∙◌, List, [], ℕ, zero, suc, length, get_or, take, drop, replicate}
 use mathlib.Core.List.{map}
 use Prim.Native.Nat.{◌/◌}
@@ -45,7 +45,7 @@ same-words b s h j =
     map (λ (i : ℕ). word (h i j) (h (i + 1) j) (h (i + 2) j) (h (i + 3) j))
     (0 ∷ 4 ∷ 8 ∷ 12 ∷ 16 ∷ 20 ∷ 24 ∷ 28 ∷ 32 ∷ 36 ∷ 40 ∷ 44 ∷ 48 ∷ 52 ∷ 56 ∷ 60 ∷ [])
 
-pub padded-words : (s b : List ℕ) (i n : ℕ) → length s ≤ i → b ≡ take i s ++ drop i (replicate n 0) → block_words b ≡ block_words s
-padded-words s b i n h e =
-    same-words b s
-    (λ k. ap (λ (l : List ℕ). get_or l k 0) (e ∙ ap (λ (l : List ℕ). l ++ drop i (replicate n 0)) (take_all i s h)) ∙ behind s i n k)
+pub padded-words : (s x : List ℕ) (n : ℕ) → x ≡ s → block_words (x ++ drop (length s) (replicate n 0)) ≡ block_words s
+padded-words s x n e =
+    same-words (x ++ drop (length s) (replicate n 0)) s
+    (λ k. ap (λ (l : List ℕ). get_or (l ++ drop (length s) (replicate n 0)) k 0) e ∙ behind s (length s) n k)

@@ -28,24 +28,7 @@ pub fn whole(s: &[u8]) -> [u32; 16]
     requires { N.BLOCK_LEN ≤ length s.now }
     ensures { result ≡ N.block_words s.now }
 {
-    [
-        load(s, 0),
-        load(s, 4),
-        load(s, 8),
-        load(s, 12),
-        load(s, 16),
-        load(s, 20),
-        load(s, 24),
-        load(s, 28),
-        load(s, 32),
-        load(s, 36),
-        load(s, 40),
-        load(s, 44),
-        load(s, 48),
-        load(s, 52),
-        load(s, 56),
-        load(s, 60),
-    ]
+    std::array::from_fn(|i| load(s, 4 * i))
 }
 
 // The words of a block that ends early: with zeros behind it.
@@ -53,12 +36,8 @@ fn padded(s: &[u8]) -> [u32; 16]
     requires { length s.now ≤ N.BLOCK_LEN }
     ensures { result ≡ N.block_words s.now }
 {
-    let mut b = [0u8; 64];
-    let mut i: usize = 0;
-    while i < s.len() {
-        b[i] = s[i];
-        i += 1;
-    }
+    let mut b = [0u8; BLOCK_LEN];
+    b[..s.len()].copy_from_slice(s);
     whole(&b)
 }
 
@@ -80,17 +59,16 @@ pub fn chunk(s: &[u8], t: u64, f: u32) -> [u32; 8]
     requires f_bound { f < 16 }
     ensures { result ≡ N.chunk s.now t f }
 {
+    let last = s.len().saturating_sub(1) / BLOCK_LEN;
     let mut h = IV;
     let mut d = CHUNK_START;
-    let mut k: usize = 0;
-    while BLOCK_LEN * k + BLOCK_LEN < s.len() {
+    for k in 0..last {
         let at = BLOCK_LEN * k;
         let m = whole(&s[at..]);
         h = compress(&h, &m, t, 64, d);
         d = 0;
-        k += 1;
     }
-    let at = BLOCK_LEN * k;
+    let at = BLOCK_LEN * last;
     let m = rest(&s[at..]);
     let n = (s.len() - at) as u32;
     compress(&h, &m, t, n, d + CHUNK_END + f)
@@ -111,6 +89,5 @@ pub fn parent(l: &[u32; 8], r: &[u32; 8], f: u32) -> [u32; 8]
     ensures { result ≡ N.parent l.now r.now f }
 {
     let m = both(l, r);
-    let h = IV;
-    compress(&h, &m, 0, 64, PARENT + f)
+    compress(&IV, &m, 0, 64, PARENT + f)
 }

@@ -1,4 +1,4 @@
-use Rattle.std.specs.Prelude.{◌≡◌, ◌++◌, ◌+◌, ◌-◌, ◌≤◌}
+use Rattle.std.specs.Prelude.{◌≡◌, ◌++◌, ◌+◌, ◌≤◌}
 use Rattle.lists.specs.Kit.{refl, sym, ap, ap₂, ◌∙◌, List, ℕ, arith, length, get_or, take, drop, replicate, set}
 use lib.ListN.{length-set}
 use lib.Seq.{take_at, length-take-le}
@@ -11,7 +11,7 @@ use Rattle.blake3.specs.FirstLaws.{firsts-fit}
 use Rattle.blake3.proofs.gathered.Goals as goal
 
 pub loop-i-init : goal.loop-i-init
-loop-i-init c = (tab-zero _ _, refl, omega arith)
+loop-i-init c = (tab-zero _ _, refl)
 
 pub overflow_add-from : goal.overflow_add-from
 overflow_add-from c =
@@ -22,7 +22,6 @@ loop-i-preserved c = (
   ap₂ (λ (x : List ℕ) (y : ℕ). set x c.loop-i.i y) c.loop-i.invariant.0 c.first.ensures
       ∙ tab-step c.loop-i.i (λ j. get_or (firsts c.args.stride c.args.s.now) (c.args.from + j) 0) (replicate 1024 0) (omega arith),
   length-set c.loop-i.b c.loop-i.i _ ∙ c.loop-i.invariant.1,
-  omega arith,
 )
 
 -- what is lent to `chunk`
@@ -38,7 +37,8 @@ pub returns : goal.returns
 returns c =
     c.chunk.ensures
     ∙ ap (λ (x : List ℕ). chunk x c.args.t c.args.f)
-    (lent c.args.s.now c.loop-i.b c.args.stride c.args.from c.args.len c.loop-i.i c.requires.stride_nonzero.1 (omega arith) c.loop-i.invariant.0)
+    (lent c.args.s.now c.loop-i.b c.args.stride c.args.from c.args.len c.loop-i.i c.requires.stride_nonzero.1 (omega arith)
+    c.loop-i.invariant.0)
 
 pub first-requires : goal.first-requires
 first-requires c = (c.requires.stride_nonzero.0, omega arith)

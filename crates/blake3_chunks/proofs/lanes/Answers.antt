@@ -13,20 +13,20 @@ own s j r n k low high f e =
     let q : 1024 * j + 1024 - 1024 * j ≡ 1024 = omega arith in e ∙ ap (λ (m : ℕ). pressed n (take m (drop (1024 * j) s)) k low high f) q
 
 pub loop-j-init : goal.loop-j-init
-loop-j-init c = (omega arith, tab-zero _ _)
+loop-j-init c = tab-zero _ _
 
 pub lane-requires : goal.lane-requires
 lane-requires c =
     let j = c.loop-j.j in
-    record { chunk_len = omega (arith, c.requires.s_len, length-take-drop (1024 * j) (1024 * j + 1024) c.args.s.now); k_bound = c.requires.k_bound }
+    record {
+      chunk_len = omega (arith, c.requires.s_len, length-take-drop (1024 * j) (1024 * j + 1024) c.args.s.now);
+      k_bound = c.requires.k_bound;
+    }
 
 pub loop-j-preserved : goal.loop-j-preserved
 loop-j-preserved c =
     let l = c.loop-j in
-    let s = c.args.s.now in (
-      omega arith,
-      tab-turn l.j _ _ l.ds _ l.invariant.1 (own s l.j _ _ _ _ _ _ c.lane.ensures) c.loop-j-test.true,
-    )
+    tab-turn l.j _ _ l.ds _ l.invariant (own c.args.s.now l.j _ _ _ _ _ _ c.lane.ensures) c.loop-j-test.true
 
 pub returns : goal.returns
-returns c = let l = c.loop-j in tab-end l.j 4 _ _ l.ds l.invariant.1 (omega arith) refl
+returns c = let l = c.loop-j in tab-end l.j 4 _ _ l.ds l.invariant (omega arith) refl

@@ -1,4 +1,4 @@
-use Rattle.std.specs.Prelude.{◌≡◌, ◌-◌}
+use Rattle.std.specs.Prelude.{◌≡◌}
 use Rattle.lists.specs.Kit.{refl, ap, ◌∙◌, arith}
 use native.Mathlib.Numerals.{add-one}
 use Rattle.lists.specs.Over.{tab}
@@ -8,7 +8,7 @@ use Rattle.blake3_chunks.proofs.window.Goals as goal
 
 pub loop-k-init : goal.loop-k-init
 unfolding tab before after
-loop-k-init c = (refl, refl, omega arith)
+loop-k-init c = (refl, refl)
 
 pub loop-k-preserved : goal.loop-k-preserved
 loop-k-preserved c =
@@ -16,7 +16,6 @@ loop-k-preserved c =
       lanes_next c.args.s.now c.args.t l.k l.d l.hs c.lanes-next.result c.lows-ls.result c.highs-us.result
           l.invariant.0 c.lows-ls.ensures c.highs-us.ensures c.lanes-next.ensures l.invariant.1,
       rw add-one,
-      omega arith,
     )
 
 pub returns : goal.returns

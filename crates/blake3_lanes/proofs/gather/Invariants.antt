@@ -1,12 +1,9 @@
 -- The loop's invariant: the words of the first t Blocks stand in front.
-use Rattle.std.specs.Prelude.{◌≡◌, ◌++◌, ◌+◌, ◌-◌, ◌≤◌}
+use Rattle.std.specs.Prelude.{◌≡◌, ◌++◌}
 use Rattle.lists.specs.Kit.{drop}
 use Rattle.lists.specs.Over.{tab}
 use Rattle.blake3_lanes.specs.Lanes.{words_at}
 use Rattle.blake3_lanes.proofs.gather.Given as goal
 
 abbrev pub invariant-loop-t : goal.invariant-loop-t
-invariant-loop-t l = (l.t ≤ 64) × (l.ms ≡ tab l.t (words_at l.blocks) ++ drop l.t l.initial.ms)
-
-abbrev pub decreases-loop-t : goal.decreases-loop-t
-decreases-loop-t l = 64 - l.t
+invariant-loop-t l = l.ms ≡ tab l.t (words_at l.blocks) ++ drop l.t l.initial.ms

@@ -1,11 +1,8 @@
 -- The loop's invariant: the hashes of the first t Blocks stand in front.
-use Rattle.std.specs.Prelude.{◌-◌, ◌*◌, ◌≤◌}
+use Rattle.std.specs.Prelude.{◌*◌}
 use Rattle.lists.specs.Over.{Written}
 use Rattle.blake3_lanes.specs.Lanes.{hash_at}
 use Rattle.blake3_lanes.proofs.hash_window.Given as goal
 
 abbrev pub invariant-loop-t : goal.invariant-loop-t
-invariant-loop-t l = (l.t ≤ 64) × Written (hash_at l.blocks) l.t (l.t * 32) l.initial.out l.out
-
-abbrev pub decreases-loop-t : goal.decreases-loop-t
-decreases-loop-t l = 64 - l.t
+invariant-loop-t l = Written (hash_at l.blocks) l.t (l.t * 32) l.initial.out l.out

@@ -9,4 +9,4 @@ returns c =
     ap₂ ◌&&◌
     (c.equals.ensures ∙ ap₂ eq_block c.block.ensures c.load.ensures)
     (c.equals-2.ensures ∙ ap₂ eq_block c.second.ensures c.load-2.ensures)
-    ∙ same-halves c.args.self.0 c.args.s.now c.args.at (λ i. omega (arith, c.shared_slice_known-1.given i)) (omega arith)
+    ∙ same-halves c.args.self.0 c.args.s.now c.args.at (λ i. omega (arith, c.type_inv.s i)) (omega arith)

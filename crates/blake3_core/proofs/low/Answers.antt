@@ -1,8 +1,0 @@
-use lib.Bits.{and_mask, mask_lt}
-use Rattle.blake3_core.proofs.low.Goals as goal
-
-pub overflow_cast-result : goal.overflow_cast-result
-overflow_cast-result c = record { fits = mask_lt c.args.t 32 }
-
-pub returns : goal.returns
-returns c = and_mask c.args.t 32

@@ -1,7 +1,0 @@
-use Rattle.word.specs.Word.{rotr}
-use Rattle.word.specs.WordLaws.{turned}
-use Rattle.blake3_core.proofs.rotr16.Goals as goal
-
-pub returns : goal.returns
-unfolding rotr
-returns c = turned c.args.x 16 16 c.ranges.x.fits
