@@ -7,47 +7,42 @@
 ghost use Rattle.std.specs.Prelude.{◌≡◌, List, ℕ, ◌<◌, ◌^◌};
 ghost use Rattle.block.specs.Block.{bytes_of};
 ghost use Rattle.fips197.specs.Cipher as C;
-ghost use Rattle.aes_tables.specs.Tables as T;
 ghost use Rattle.aes_key.specs.Words.{words_bytes};
 ghost use Rattle.aes.specs.Columns.{state_of};
 ghost use Rattle.aes_counter.specs.Starts.{pieces_of, rest_of, part_of, starts_of, begun};
 
 use aes::Columns;
 use aes_key::WORDS;
-use aes_tables::ENTRIES;
+use aes_tables::Tables;
 use block::Block;
 
 // The words of the parts: two for each value of three bytes.
 pub const PARTS: usize = 1536;
 
-// Two Blocks.
-#[derive(Clone, Copy)]
-pub struct Two(pub Block, pub Block);
-
 // What the bytes of the column e add to columns of the next round.
-fn pieces(t: &[u32; ENTRIES], e: u32) -> Columns
-    ensures { result ≡ pieces_of t.now e }
+fn pieces(t: &Tables, e: u32) -> Columns
+    ensures { result ≡ pieces_of t.now.words e }
 {
     Columns(
-        t[(e % 256) as usize],
-        t[256 + ((e >> 8) % 256) as usize],
-        t[512 + ((e >> 16) % 256) as usize],
-        t[768 + ((e >> 24) % 256) as usize],
+        t.words[(e % 256) as usize],
+        t.words[256 + ((e >> 8) % 256) as usize],
+        t.words[512 + ((e >> 16) % 256) as usize],
+        t.words[768 + ((e >> 24) % 256) as usize],
     )
 }
 
 // What is the same for all counters: what column 1 adds, and the second round's key.
-fn rest(t: &[u32; ENTRIES], w: &[u32; WORDS]) -> Columns
-    ensures { result ≡ rest_of t.now w.now }
+fn rest(t: &Tables, w: &[u32; WORDS]) -> Columns
+    ensures { result ≡ rest_of t.now.words w.now }
 {
     let q = pieces(t, aes::column(t, w[1], w[2], w[3], w[0], w[5]));
     Columns(q.1 ^ w[8], q.0 ^ w[9], q.3 ^ w[10], q.2 ^ w[11])
 }
 
 // The part of byte p, where it is x.
-fn part(t: &[u32; ENTRIES], w: &[u32; WORDS], z: Columns, p: usize, x: u32) -> Columns
-    requires { (z ≡ rest_of t.now w.now) × (x < 256) }
-    ensures { result ≡ part_of t.now w.now p x }
+fn part(t: &Tables, w: &[u32; WORDS], z: Columns, p: usize, x: u32) -> Columns
+    requires { (z ≡ rest_of t.now.words w.now) × (x < 256) }
+    ensures { result ≡ part_of t.now.words w.now p x }
 {
     match p {
         0 => {
@@ -72,18 +67,15 @@ fn part(t: &[u32; ENTRIES], w: &[u32; WORDS], z: Columns, p: usize, x: u32) -> C
 }
 
 // The parts, two words each: 256 for the lowest byte, then for the next, then for the third.
-pub fn starts(t: &[u32; ENTRIES], w: &[u32; WORDS]) -> [u64; PARTS]
-    requires { t.now ≡ T.tables }
+pub fn starts(t: &Tables, w: &[u32; WORDS]) -> [u64; PARTS]
     ensures { result ≡ starts_of w.now }
 {
     let z = rest(t, w);
     let mut out = [0u64; PARTS];
-    let mut i = 0;
-    while i < 768 {
-        let b = aes::block(part(t, w, z, i / 256, (i % 256) as u32));
+    for i in 0..768 {
+        let b = Block::from(part(t, w, z, i / 256, (i % 256) as u32));
         out[i * 2] = b.0;
         out[i * 2 + 1] = b.1;
-        i += 1;
     }
     out
 }
@@ -96,7 +88,7 @@ fn start(parts: &[u64; PARTS], c: u64) -> Columns
     let a = (c % 256) as usize * 2;
     let b = 512 + (c / 0x100 % 256) as usize * 2;
     let d = 1024 + (c / 0x1_0000) as usize * 2;
-    aes::split(Block(
+    Columns::from(Block(
         parts[a] ^ parts[b] ^ parts[d],
         parts[a + 1] ^ parts[b + 1] ^ parts[d + 1],
     ))
@@ -105,13 +97,13 @@ fn start(parts: &[u64; PARTS], c: u64) -> Columns
 // AES-128 of c and of d, a round of one and a round of the other in turn: each waits for its tables while the other goes on. The rounds are
 // written out: in a loop they are slower.
 pub fn encrypt_two(
-    t: &[u32; ENTRIES],
+    t: &Tables,
     w: &[u32; WORDS],
     parts: &[u64; PARTS],
     c: u64,
     d: u64,
-) -> Two
-    requires { (t.now ≡ T.tables) × (parts.now ≡ starts_of w.now) × (c < 2 ^ 24) × (d < 2 ^ 24) }
+) -> (Block, Block)
+    requires { (parts.now ≡ starts_of w.now) × (c < 2 ^ 24) × (d < 2 ^ 24) }
     ensures result_value { bytes_of result.0 ≡ C.cipher (words_bytes 44 w.now) (bytes_of (record { 0 = c; 1 = 0 })) }
     ensures result_value_2 { bytes_of result.1 ≡ C.cipher (words_bytes 44 w.now) (bytes_of (record { 0 = d; 1 = 0 })) }
 {
@@ -131,8 +123,8 @@ pub fn encrypt_two(
     let r8 = aes::round(t, w, 8, r7);
     let s9 = aes::round(t, w, 9, s8);
     let r9 = aes::round(t, w, 9, r8);
-    Two(
-        aes::block(aes::last_round(t, w, s9)),
-        aes::block(aes::last_round(t, w, r9)),
+    (
+        Block::from(aes::last_round(t, w, s9)),
+        Block::from(aes::last_round(t, w, r9)),
     )
 }

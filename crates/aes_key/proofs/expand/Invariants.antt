@@ -6,13 +6,7 @@ use Rattle.aes_key.specs.Words.{words_bytes}
 use Rattle.aes_key.proofs.expand.Given as goal
 
 abbrev pub invariant-loop-i : goal.invariant-loop-i
-invariant-loop-i l = (l.i ≤ 4) × (length l.w ≡ 44) × (words_bytes l.i l.w ≡ take (l.i * 4) l.key)
-
-abbrev pub decreases-loop-i : goal.decreases-loop-i
-decreases-loop-i l = 4 - l.i
+invariant-loop-i l = (length l.w ≡ 44) × (words_bytes l.i l.w ≡ take (l.i * 4) l.key)
 
 abbrev pub invariant-loop-i-2 : goal.invariant-loop-i-2
-invariant-loop-i-2 l = (4 ≤ l.i) × (l.i ≤ 44) × (length l.w ≡ 44) × (words_bytes l.i l.w ≡ words l.key (l.i - 4))
-
-abbrev pub decreases-loop-i-2 : goal.decreases-loop-i-2
-decreases-loop-i-2 l = 44 - l.i
+invariant-loop-i-2 l = (length l.w ≡ 44) × (words_bytes l.i l.w ≡ words l.key (l.i - 4))

@@ -2,7 +2,7 @@ use Rattle.std.specs.Prelude.{◌≡◌, ◌+◌, ◌*◌}
 use Rattle.lists.specs.Kit.{arith}
 use Prim.Native.Nat.{◌%◌}
 use Rattle.aes.specs.Columns.{block_of}
-use Rattle.aes.proofs.block.Goals as goal
+use Rattle.aes.proofs.BlockFromColumns.from.Goals as goal
 
 pub returns : goal.returns
 unfolding block_of
