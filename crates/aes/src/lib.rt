@@ -9,7 +9,7 @@ ghost use Rattle.fips197.specs.Cipher as C;
 ghost use Rattle.aes_key.specs.Words.{words_bytes};
 ghost use Rattle.aes.specs.Columns.{block_of, columns_of, column_of, last_of, state_of};
 
-use aes_key::WORDS;
+use aes_key::Key;
 use aes_tables::Tables;
 use block::Block;
 
@@ -68,10 +68,12 @@ fn last_column(t: &Tables, a: u32, b: u32, c: u32, d: u32, k: u32) -> u32
 }
 
 // Round k of those that are alike.
-pub fn round(t: &Tables, w: &[u32; WORDS], k: usize, s: Columns) -> Columns
+pub fn round(key: &Key, k: usize, s: Columns) -> Columns
     requires { k ≤ 10 }
-    ensures { state_of result ≡ C.add_round_key (words_bytes 44 w.now) k (C.mix_columns (C.shift_rows (C.sub_bytes (state_of s)))) }
+    ensures { state_of result ≡ C.add_round_key (words_bytes 44 key.now.words) k (C.mix_columns (C.shift_rows (C.sub_bytes (state_of s)))) }
 {
+    let t = &key.tables;
+    let w = &key.words;
     let i = k * 4;
     Columns(
         column(t, s.0, s.1, s.2, s.3, w[i]),
@@ -82,9 +84,11 @@ pub fn round(t: &Tables, w: &[u32; WORDS], k: usize, s: Columns) -> Columns
 }
 
 // The last round.
-pub fn last_round(t: &Tables, w: &[u32; WORDS], s: Columns) -> Columns
-    ensures { state_of result ≡ C.add_round_key (words_bytes 44 w.now) 10 (C.shift_rows (C.sub_bytes (state_of s))) }
+pub fn last_round(key: &Key, s: Columns) -> Columns
+    ensures { state_of result ≡ C.add_round_key (words_bytes 44 key.now.words) 10 (C.shift_rows (C.sub_bytes (state_of s))) }
 {
+    let t = &key.tables;
+    let w = &key.words;
     Columns(
         last_column(t, s.0, s.1, s.2, s.3, w[40]),
         last_column(t, s.1, s.2, s.3, s.0, w[41]),
@@ -94,20 +98,21 @@ pub fn last_round(t: &Tables, w: &[u32; WORDS], s: Columns) -> Columns
 }
 
 // The first AddRoundKey, and the nine rounds that are alike.
-fn rounds(t: &Tables, w: &[u32; WORDS], x: Block) -> Columns
-    ensures { state_of result ≡ C.rounds (words_bytes 44 w.now) 9 (bytes_of x) }
+fn rounds(key: &Key, x: Block) -> Columns
+    ensures { state_of result ≡ C.rounds (words_bytes 44 key.now.words) 9 (bytes_of x) }
 {
+    let w = &key.words;
     let b = Columns::from(x);
     let mut s = Columns(b.0 ^ w[0], b.1 ^ w[1], b.2 ^ w[2], b.3 ^ w[3]);
     for k in 1..10 {
-        s = round(t, w, k, s);
+        s = round(key, k, s);
     }
     s
 }
 
 // The Block x under a key whose words are w.
-pub fn encrypt(t: &Tables, w: &[u32; WORDS], x: Block) -> Block
-    ensures { bytes_of result ≡ C.cipher (words_bytes 44 w.now) (bytes_of x) }
+pub fn encrypt(key: &Key, x: Block) -> Block
+    ensures { bytes_of result ≡ C.cipher (words_bytes 44 key.now.words) (bytes_of x) }
 {
-    Block::from(last_round(t, w, rounds(t, w, x)))
+    Block::from(last_round(key, rounds(key, x)))
 }

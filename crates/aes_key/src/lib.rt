@@ -11,6 +11,13 @@ use aes_tables::Tables;
 // The words of an expanded key.
 pub const WORDS: usize = 44;
 
+// A key's words, and the tables that they are used with.
+#[derive(Clone, Copy)]
+pub struct Key {
+    pub tables: Tables,
+    pub words: [u32; WORDS],
+}
+
 // The round constants' first bytes: x^0 to x^9.
 const RCON: [u32; 10] = [1, 2, 4, 8, 16, 32, 64, 128, 0x1b, 0x36];
 
@@ -51,17 +58,20 @@ fn load(s: &[u8], at: usize) -> u32
     u32::from_le_bytes([s[at], s[at + 1], s[at + 2], s[at + 3]])
 }
 
-// The words of a key: its own four, and 40 more.
-pub fn expand(t: &Tables, key: &[u8]) -> [u32; WORDS]
-    requires { length key.now ≡ 16 }
-    ensures { words_bytes 44 result ≡ key_expansion key.now }
-{
-    let mut w = [0u32; WORDS];
-    for i in 0..4 {
-        w[i] = load(key, i * 4);
+impl Key {
+    // The words of a key: its own four, and 40 more.
+    pub fn expand(key: &[u8]) -> Key
+        requires { length key.now ≡ 16 }
+        ensures { words_bytes 44 result.words ≡ key_expansion key.now }
+    {
+        let tables = Tables::new();
+        let mut words = [0u32; WORDS];
+        for i in 0..4 {
+            words[i] = load(key, i * 4);
+        }
+        for i in 4..WORDS {
+            words[i] = next_word(&tables, &words, i);
+        }
+        Key { tables, words }
     }
-    for i in 4..WORDS {
-        w[i] = next_word(t, &w, i);
-    }
-    w
 }

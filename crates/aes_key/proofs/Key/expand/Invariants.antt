@@ -3,10 +3,10 @@ use Rattle.std.specs.Prelude.{◌≡◌, ◌-◌, ◌*◌, ◌≤◌}
 use Rattle.lists.specs.Kit.{length, take}
 use Rattle.fips197.specs.Key.{words}
 use Rattle.aes_key.specs.Words.{words_bytes}
-use Rattle.aes_key.proofs.expand.Given as goal
+use Rattle.aes_key.proofs.Key.expand.Given as goal
 
 abbrev pub invariant-loop-i : goal.invariant-loop-i
-invariant-loop-i l = (length l.w ≡ 44) × (words_bytes l.i l.w ≡ take (l.i * 4) l.key)
+invariant-loop-i l = (length l.words ≡ 44) × (words_bytes l.i l.words ≡ take (l.i * 4) l.key)
 
 abbrev pub invariant-loop-i-2 : goal.invariant-loop-i-2
-invariant-loop-i-2 l = (length l.w ≡ 44) × (words_bytes l.i l.w ≡ words l.key (l.i - 4))
+invariant-loop-i-2 l = (length l.words ≡ 44) × (words_bytes l.i l.words ≡ words l.key (l.i - 4))
