@@ -2,7 +2,7 @@
 // need them, a Block of each string at a time, and stored nowhere. The seed and what is drawn are known to all boxes and may be indices.
 #![tactic(auto)]
 
-ghost use Rattle.std.specs.Prelude.{◌≡◌, ℕ, ◌+◌, ◌*◌, ◌/◌, ◌%◌, ◌^◌, ◌<◌, ◌≤◌, length};
+ghost use Rattle.std.specs.Prelude.{◌≡◌, ℕ, ◌+◌, ◌*◌, ◌/◌, ◌%◌, ◌^◌, ◌<◌, ◌≤◌};
 ghost use Rattle.block.specs.Block.{block_at};
 ghost use Rattle.rbits.specs.Tables.{window_of};
 ghost use Rattle.draw.specs.Strings.{strings};

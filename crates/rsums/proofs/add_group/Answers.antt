@@ -25,7 +25,15 @@ add_pair-requires c =
     let mac = c.mac_off-mac.ensures ∙ ap mac_off c.other-k.ensures in
     let key = c.key_off-key.ensures ∙ ap key_off c.other-k.ensures in
     let macs = macs-within c.args.n c.args.i c.loop-q.q h in
-    let keys = keys-within c.args.n c.args.i c.loop-q.q h in record { x_len = (length-all _ _ c.loop-q.invariant.0, length-all _ _ c.loop-q.invariant.1); base_bound = (omega arith, c.requires.le_n.3); at_bound = (omega arith, omega arith, subst (λ x. c.args.count * x ≤ length c.args.s.now) (sym c.record_len-stride.ensures) c.requires.n_in_bounds); first_bound = c.requires.first_bound }
+    let keys = keys-within c.args.n c.args.i c.loop-q.q h in
+    let records : c.args.count * c.record_len-stride.result ≤ length c.args.s.now =
+    subst (λ x. c.args.count * x ≤ length c.args.s.now) (sym c.record_len-stride.ensures) c.requires.n_in_bounds in
+    record {
+      x_len = (length-all _ _ c.loop-q.invariant.0, length-all _ _ c.loop-q.invariant.1);
+      base_bound = (omega arith, c.requires.le_n.3);
+      at_bound = (omega arith, omega arith, records);
+      first_bound = c.requires.first_bound;
+    }
 
 pub loop-q-preserved : goal.loop-q-preserved
 loop-q-preserved c = (
@@ -41,9 +49,11 @@ pub returns : goal.returns
 returns c =
     let e : c.loop-q.q ≡ c.args.n - 1 = omega arith in record {
       macs_after = c.loop-q.invariant.0
-          ∙ ap (λ q. words_of 840 (grown mac_off c.args.n c.args.i c.args.s.now c.args.count c.args.first c.args.win.now c.args.h c.args.macs.now q)) e;
+          ∙ ap (λ q. words_of 840 (grown mac_off c.args.n c.args.i c.args.s.now c.args.count c.args.first c.args.win.now c.args.h
+          c.args.macs.now q)) e;
       keys_after = c.loop-q.invariant.1
-          ∙ ap (λ q. words_of 840 (grown key_off c.args.n c.args.i c.args.s.now c.args.count c.args.first c.args.win.now c.args.h c.args.keys.now q)) e;
+          ∙ ap (λ q. words_of 840 (grown key_off c.args.n c.args.i c.args.s.now c.args.count c.args.first c.args.win.now c.args.h
+          c.args.keys.now q)) e;
     }
 
 pub mac_off-mac-requires : goal.mac_off-mac-requires

@@ -24,11 +24,21 @@ records c =
 
 pub turn-requires : goal.turn-requires
 turn-requires c =
-    record { whole = subst (Whole (120 * c.args.blocks)) (sym c.prepare-strings.ensures) c.requires.whole; g_bound = (omega arith, c.requires.most); out_value = λ h. c.loop-g.invariant.half-left h ∙ made c.args.blocks c.loop-g.g (sym c.prepare-strings.ensures) }
+    record {
+      whole = subst (Whole (120 * c.args.blocks)) (sym c.prepare-strings.ensures) c.requires.whole;
+      g_bound = (omega arith, c.requires.most);
+      out_value = λ h. c.loop-g.invariant.half-left h ∙ made c.args.blocks c.loop-g.g (sym c.prepare-strings.ensures);
+    }
 
 pub pack-b-requires : goal.pack-b-requires
 pack-b-requires c =
-    record { le_stride = (omega (arith, c.record_len-stride.ensures, record-some c.args.n), records (goal.at.pack-b-requires c).At-loop-g); first_bound = omega arith }
+    record {
+      le_stride = (
+        omega (arith, c.record_len-stride.ensures, record-some c.args.n),
+        records (goal.at.pack-b-requires c).At-loop-g,
+      );
+      first_bound = omega arith;
+    }
 
 pub loop-g-preserved : goal.loop-g-preserved
 loop-g-preserved c =
@@ -36,9 +46,9 @@ loop-g-preserved c =
     (bytes-strings (120 * c.args.blocks) c.args.r.now (λ i. (c.type_inv.r i).fits))
     (omega (arith, strings-whole (120 * c.args.blocks) c.args.r.now c.requires.whole)) (omega arith) (omega arith) c.loop-g.g c.loop-g.bits
     c.loop-g.macs c.loop-g.keys c.loop-g.win c.loop-g.invariant c.record_len-stride.result c.pack-b.result c.add_bits.new.acc
-    c.add_group.new.macs c.add_group.new.keys c.turn.new.out (omega arith)
-    c.record_len-stride.ensures (c.turn.ensures ∙ made c.args.blocks c.loop-g.g c.prepare-strings.ensures) c.pack-b.ensures c.add_bits.ensures c.add_group.ensures.macs_after
-    c.add_group.ensures.keys_after
+    c.add_group.new.macs c.add_group.new.keys c.turn.new.out (omega arith) c.record_len-stride.ensures
+    (c.turn.ensures ∙ made c.args.blocks c.loop-g.g c.prepare-strings.ensures) c.pack-b.ensures c.add_bits.ensures
+    c.add_group.ensures.macs_after c.add_group.ensures.keys_after
 
 pub returns : goal.returns
 returns c =

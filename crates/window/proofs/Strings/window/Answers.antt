@@ -1,6 +1,5 @@
-use Rattle.std.specs.Prelude.{◌+◌, ◌*◌, ◌<◌, ◌≤◌}
+use Rattle.std.specs.Prelude.{◌+◌, ◌*◌, ◌<◌}
 use Rattle.lists.specs.Kit.{arith}
-use lib.ListN.{length-set}
 use Rattle.lists.specs.Over.{written-zero, written-end}
 use Rattle.rbits.specs.Chosen.{words_of}
 use Rattle.rbits.specs.Tables.{window_of}
@@ -30,8 +29,8 @@ pub loop-k-preserved : goal.loop-k-preserved
 loop-k-preserved c =
     let h = inside (goal.at.loop-k-preserved c).In-loop-k in
     strings-turn c.args.self.now.r.now c.args.blocks c.args.q (c.loop-k.k * 2) ((c.loop-k.k + 1) * 2) c.args.out.now c.loop-k.out
-    c.two_at.result.0 c.two_at.result.1 (omega arith) c.loop-k.invariant (c.two_at.ensures.by_index (120 * c.args.blocks) (omega (arith, h)))
-    (c.two_at.ensures.by_index_2 (120 * c.args.blocks) h) (omega arith)
+    c.two_at.result.0 c.two_at.result.1 (omega arith) c.loop-k.invariant
+    (c.two_at.ensures.by_index (120 * c.args.blocks) (omega (arith, h))) (c.two_at.ensures.by_index_2 (120 * c.args.blocks) h) (omega arith)
 
 pub returns : goal.returns
 unfolding window_of words_of
