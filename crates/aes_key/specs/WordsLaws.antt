@@ -57,10 +57,9 @@ words-load w key i v hk hw h e hv =
     words-set w i v hw ∙ ap₂ ◌++◌ e (ap bytes4 hv ∙ bytes4-at key hk (i * 4) h) ∙ sym (take-add (i * 4) 4 key)
     ∙ ap (λ n. take n key) (let q : i * 4 + 4 ≡ (i + 1) * 4 = omega arith in q)
 
-pub words-own : (w key : List ℕ) (i : ℕ) → i ≡ 4 → length key ≡ 16 → words_bytes i w ≡ take (i * 4) key → words_bytes i w ≡ words key (i - 4)
+pub words-own : (w key : List ℕ) (i : ℕ) → i ≡ 4 → length key ≡ 16 → words_bytes i w ≡ take (i * 4) key → words_bytes 4 w ≡ words key 0
 unfolding words
-words-own w key i h l e =
-    e ∙ take_all (i * 4) key (omega arith) ∙ ap (words key) (let q : 0 ≡ i - 4 = omega arith in q)
+words-own w key i h l e = ap (λ n. words_bytes n w) (sym h) ∙ e ∙ take_all (i * 4) key (omega arith)
 
 -- ---- one word more
 powers : all_of 10 (λ j. ltb (power j) 256) ≡ true

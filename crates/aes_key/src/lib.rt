@@ -4,13 +4,19 @@
 
 ghost use Rattle.std.specs.Prelude.{◌≡◌, ◌+◌, ◌-◌, ◌/◌, ◌%◌, ◌<◌, ◌≤◌, length};
 ghost use Rattle.fips197.specs.Key.{power, key_expansion};
-ghost use Rattle.aes_tables.specs.Tables as T;
 ghost use Rattle.aes_key.specs.Words.{words_bytes, sub_rot_of, next_of, word_at};
 
-use aes_tables::ENTRIES;
+use aes_tables::Tables;
 
 // The words of an expanded key.
 pub const WORDS: usize = 44;
+
+// A key's words, and the tables that they are used with.
+#[derive(Clone, Copy)]
+pub struct Key {
+    pub tables: Tables,
+    pub words: [u32; WORDS],
+}
 
 // The round constants' first bytes: x^0 to x^9.
 const RCON: [u32; 10] = [1, 2, 4, 8, 16, 32, 64, 128, 0x1b, 0x36];
@@ -24,21 +30,16 @@ fn round_constant(j: usize) -> u32
 }
 
 // SubWord(RotWord(w)).
-fn sub_rot(t: &[u32; ENTRIES], w: u32) -> u32
-    requires { t.now ≡ T.tables }
+fn sub_rot(t: &Tables, w: u32) -> u32
     ensures { result ≡ sub_rot_of w }
 {
-    aes_tables::column(
-        t[1024 + ((w >> 8) % 256) as usize],
-        t[1024 + ((w >> 16) % 256) as usize],
-        t[1024 + ((w >> 24) % 256) as usize],
-        t[1024 + (w % 256) as usize],
-    )
+    let b = w.to_le_bytes();
+    u32::from_le_bytes([t.sub(b[1]), t.sub(b[2]), t.sub(b[3]), t.sub(b[0])])
 }
 
 // w[i], of those before it.
-fn next_word(t: &[u32; ENTRIES], w: &[u32; WORDS], i: usize) -> u32
-    requires { (t.now ≡ T.tables) × (4 ≤ i) × (i < 44) }
+fn next_word(t: &Tables, w: &[u32; WORDS], i: usize) -> u32
+    requires { (4 ≤ i) × (i < 44) }
     ensures { result ≡ next_of w.now i }
 {
     let temp = w[i - 1];
@@ -54,28 +55,23 @@ fn load(s: &[u8], at: usize) -> u32
     requires { at + 4 ≤ length s.now }
     ensures { result ≡ word_at s.now at }
 {
-    aes_tables::column(
-        s[at] as u32,
-        s[at + 1] as u32,
-        s[at + 2] as u32,
-        s[at + 3] as u32,
-    )
+    u32::from_le_bytes([s[at], s[at + 1], s[at + 2], s[at + 3]])
 }
 
-// The words of a key: its own four, and 40 more.
-pub fn expand(t: &[u32; ENTRIES], key: &[u8]) -> [u32; WORDS]
-    requires { (t.now ≡ T.tables) × (length key.now ≡ 16) }
-    ensures { words_bytes 44 result ≡ key_expansion key.now }
-{
-    let mut w = [0u32; WORDS];
-    let mut i = 0;
-    while i < 4 {
-        w[i] = load(key, i * 4);
-        i += 1;
+impl Key {
+    // The words of a key: its own four, and 40 more.
+    pub fn expand(key: &[u8]) -> Key
+        requires { length key.now ≡ 16 }
+        ensures { words_bytes 44 result.words ≡ key_expansion key.now }
+    {
+        let tables = Tables::new();
+        let mut words = [0u32; WORDS];
+        for i in 0..4 {
+            words[i] = load(key, i * 4);
+        }
+        for i in 4..WORDS {
+            words[i] = next_word(&tables, &words, i);
+        }
+        Key { tables, words }
     }
-    while i < WORDS {
-        w[i] = next_word(t, &w, i);
-        i += 1;
-    }
-    w
 }

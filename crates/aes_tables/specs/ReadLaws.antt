@@ -15,13 +15,9 @@ use Rattle.aes_tables.specs.Tables.{entry_of, tables}
 use Rattle.aes_tables.specs.WordLaws.{bytes4-column4}
 use Rattle.aes_tables.specs.TableLaws.{table_at}
 
-module _ (t : List ℕ) (e : t ≡ tables) (x : ℕ) where
-  pub sbox-at : get_or t (1024 + x % 256) 0 ≡ SBox (x % 256)
-  unfolding entry_of
-  sbox-at = ap (λ (t : List ℕ). get_or t (1024 + x % 256) 0) e ∙ table_at 4 (x % 256) (omega arith) (omega arith)
-
-  pub sbox-fits : get_or t (1024 + x % 256) 0 < 256
-  sbox-fits = rw sbox-at (sbox-byte (x % 256))
+pub sbox-at : (t : List ℕ) (b : ℕ) → t ≡ tables → b < 256 → get_or t (1024 + b) 0 ≡ SBox b
+unfolding entry_of
+sbox-at t b e l = ap (λ (t : List ℕ). get_or t (1024 + b) 0) e ∙ table_at 4 b (omega arith) l
 
 -- column q of the matrix times s
 unfoldable pub mixed : ℕ → ℕ → List ℕ

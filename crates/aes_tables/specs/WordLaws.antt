@@ -1,6 +1,7 @@
 -- Columns and their bytes: there and back; XOR of columns is XOR of their bytes.
 use Rattle.std.specs.Prelude.{◌≡◌, refl, List, [], ◌∷◌, ℕ, ◌+◌, ◌*◌, ◌/◌, ◌%◌, ◌^◌, ◌<◌, length, get_or}
 use Rattle.std.proofs.Common.{ap, ◌∙◌, mod-eq_of_lt, arith}
+use Rattle.std.specs.Int.{w32, from_le_bytes}
 use Rattle.std.specs.Int.Bits.{bit_xor}
 use Rattle.std.proofs.lemmas.Nat.{xor_shr, xor_mod}
 use Rattle.lists.specs.Over.{tab}
@@ -42,6 +43,11 @@ bytes4-column4 b0 b1 b2 b3 h0 h1 h2 h3 =
     let e2 : w / 0x1_0000 % 256 ≡ b2 = ap (λ x. x % 256) q2 ∙ digit b3 b2 h2 in
     let e3 : w / 0x100_0000 % 256 ≡ b3 = ap (λ x. x % 256) q3 ∙ mod-eq_of_lt h3 in
     λ i. digit ((b3 * 256 + b2) * 256 + b1) b0 h0 i ∷ e1 i ∷ e2 i ∷ e3 i ∷ []
+
+-- as the library reads them
+pub le-column4 : (b0 b1 b2 b3 : ℕ) → from_le_bytes w32 (b0 ∷ b1 ∷ b2 ∷ b3 ∷ []) ≡ column4 b0 b1 b2 b3
+unfolding column4
+le-column4 b0 b1 b2 b3 = omega arith
 
 -- a column that is its first byte
 pub bytes4-byte : (b : ℕ) → b < 256 → bytes4 b ≡ b ∷ 0 ∷ 0 ∷ 0 ∷ []

@@ -6,11 +6,17 @@
 ghost use Rattle.std.specs.Prelude.{◌≡◌, ◌<◌};
 ghost use Rattle.fips197.specs.Field.{product};
 ghost use Rattle.fips197.specs.Sbox as S;
-ghost use Rattle.aes_tables.specs.Word.{column4};
 ghost use Rattle.aes_tables.specs.Tables as T;
 
 // The words of the tables: 256 for each of four places, and the S-box.
 pub const ENTRIES: usize = 1280;
+
+// The tables' words, which are what they should be.
+#[derive(Clone, Copy)]
+pub struct Tables {
+    pub words: [u32; ENTRIES],
+    pub ghost right: { words ≡ T.tables },
+}
 
 // SBOX (FIPS 197, Figure 7).
 const SBOX: [u8; 256] = [
@@ -40,47 +46,44 @@ fn sbox() -> [u8; 256]
 }
 
 // {02} • b: shifted, and m(x) subtracted where a digit 8 came out.
-fn xtimes(b: u32) -> u32
-    requires { b < 256 }
+fn xtimes(b: u8) -> u8
     ensures { result ≡ product 2 b }
 {
-    (b * 2) ^ (b / 128 * 0x11b)
-}
-
-// Four bytes as a column, the first one lowest.
-pub fn column(b0: u32, b1: u32, b2: u32, b3: u32) -> u32
-    requires { (b0 < 256) × (b1 < 256) × (b2 < 256) × (b3 < 256) }
-    ensures { result ≡ column4 b0 b1 b2 b3 }
-{
-    ((b3 * 256 + b2) * 256 + b1) * 256 + b0
+    let b = b as u32;
+    ((b * 2) ^ (b / 128 * 0x11b)) as u8
 }
 
 // What the byte s, out of the S-box, adds to its column from place q; s itself for q = 4.
-fn entry(q: usize, s: u32) -> u32
-    requires { (q < 5) × (s < 256) }
+fn entry(q: usize, s: u8) -> u32
+    requires { q < 5 }
     ensures { result ≡ T.entry_of q s }
 {
     let d = xtimes(s);
     let e = d ^ s;
     match q {
-        0 => column(d, s, s, e),
-        1 => column(e, d, s, s),
-        2 => column(s, e, d, s),
-        3 => column(s, s, e, d),
-        _ => s,
+        0 => u32::from_le_bytes([d, s, s, e]),
+        1 => u32::from_le_bytes([e, d, s, s]),
+        2 => u32::from_le_bytes([s, e, d, s]),
+        3 => u32::from_le_bytes([s, s, e, d]),
+        _ => s as u32,
     }
 }
 
-// All of them: 256 for each place, then the S-box.
-pub fn tables() -> [u32; ENTRIES]
-    ensures { result ≡ T.tables }
-{
-    let s = sbox();
-    let mut out = [0u32; ENTRIES];
-    let mut i = 0;
-    while i < ENTRIES {
-        out[i] = entry(i / 256, s[i % 256] as u32);
-        i += 1;
+impl Tables {
+    // All of them: 256 for each place, then the S-box.
+    pub fn new() -> Tables {
+        let s = sbox();
+        let mut words = [0u32; ENTRIES];
+        for i in 0..ENTRIES {
+            words[i] = entry(i / 256, s[i % 256]);
+        }
+        Tables { words }
     }
-    out
+
+    // The S-box's entry b.
+    pub fn sub(&self, b: u8) -> u8
+        ensures { result ≡ S.SBox b }
+    {
+        self.words[1024 + b as usize] as u8
+    }
 }

@@ -5,22 +5,17 @@
 #![tactic(auto)]
 
 ghost use Rattle.std.specs.Prelude.{◌≡◌, ◌^◌, ◌<◌, length};
-ghost use Rattle.aes_tables.specs.Tables as T;
-ghost use Rattle.window.specs.Ready.{Ready};
 
-use aes_key::WORDS;
-use aes_tables::ENTRIES;
+use aes_key::Key;
 use block::Block;
-use std::io;
-use window::Cipher;
-
-const SEEDS: usize = 1000;
+use std::{array, io};
+use window::Strings;
 
 const NUMBERS: [usize; 11] = [
     0, 1, 255, 256, 257, 65535, 65536, 65537, 4294967295, 4294967296, 4294967297,
 ];
 
-// The Blocks of one seed, and of all, in bytes.
+// The Blocks of one seed, and of 1,000, in bytes.
 const EACH: usize = 176;
 
 const ALL: usize = 176000;
@@ -34,61 +29,27 @@ const INPUT: [u8; 16] = [
     0x32, 0x43, 0xf6, 0xa8, 0x88, 0x5a, 0x30, 0x8d, 0x31, 0x31, 0x98, 0xa2, 0xe0, 0x37, 0x07, 0x34,
 ];
 
-// The hexadecimal digit of n's low half.
-fn digit(n: u8) -> u8 {
-    let d = n % 16;
-    if d < 10 { 48 + d } else { 87 + d }
-}
-
-// Writes a byte in hexadecimal.
-fn show_byte(rt: &impl Print, b: u8) -> io::Result<()> {
-    let two = [digit(b >> 4), digit(b)];
-    rt.write_all(&two)
-}
-
 // Writes the bytes in hexadecimal, and a line end.
 fn show(rt: &impl Print, s: &[u8]) -> io::Result<()> {
-    let mut i = 0;
-    while i < s.len() {
-        show_byte(rt, s[i])?;
-        i += 1;
+    for b in s {
+        print!(rt; "{b:02x}")?;
     }
-    rt.write_all(b"\n")
-}
-
-// Writes n in decimal.
-fn decimal(rt: &impl Print, n: usize) -> io::Result<()> {
-    if 9 < n {
-        decimal(rt, n / 10)?;
-    }
-    let d = [48 + (n % 10) as u8];
-    rt.write_all(&d)
+    println!(rt; "")
 }
 
 // Writes a key's words, a line for each.
 fn show_words(rt: &impl Print, key: &[u8; 16]) -> io::Result<()> {
-    let t = aes_tables::tables();
-    let w = aes_key::expand(&t, &key[..]);
-    let mut i = 0;
-    while i < WORDS {
-        let b = [
-            (w[i] % 256) as u8,
-            (w[i] / 0x100 % 256) as u8,
-            (w[i] / 0x1_0000 % 256) as u8,
-            (w[i] / 0x100_0000 % 256) as u8,
-        ];
-        show(rt, &b)?;
-        i += 1;
+    for w in &Key::expand(&key[..]).words {
+        show(rt, &w.to_le_bytes())?;
     }
     Ok(())
 }
 
 // Writes a Block under a key.
 fn show_cipher(rt: &impl Print, key: &[u8; 16], input: &[u8; 16]) -> io::Result<()> {
-    let t = aes_tables::tables();
-    let w = aes_key::expand(&t, &key[..]);
+    let k = Key::expand(&key[..]);
     let mut out = [0u8; 16];
-    block::store(&mut out, aes::encrypt(&t, &w, block::load(&input[..], 0)));
+    block::store(&mut out, aes::encrypt(&k, block::load(&input[..], 0)));
     show(rt, &out)
 }
 
@@ -101,14 +62,12 @@ fn seed(k: usize) -> [u8; 16]
     let mut b = k / 256 * 7 % 256;
     let mut c = 0;
     let mut d = (2 * k + 29) % 256;
-    let mut i = 0;
-    while i < 16 {
-        s[i] = ((a + b + c) % 256) as u8;
+    for x in &mut s {
+        *x = ((a + b + c) % 256) as u8;
         a = (a + 2 * k) % 256;
         b = (b + k / 256) % 256;
         c = (c + d) % 256;
         d = (d + 2 * (2 * k + 29)) % 256;
-        i += 1;
     }
     s
 }
@@ -118,51 +77,45 @@ fn put(out: &mut [u8], i: usize, b: Block)
     requires { (length out.old ≡ 176) × (i < 11) }
 {
     let a = i * 16;
-    let e = a + 16;
-    block::store(&mut out[a..e], b);
+    block::store(&mut out[a..a + 16], b);
 }
 
 // Puts Blocks c and d of a seed, as a session draws them, as Blocks i and i + 1.
-fn put_two(out: &mut [u8], i: usize, seed: &[u8], with: Cipher, c: usize, d: usize)
-    requires out_len { (length out.old ≡ 176) × (i < 10) × (length seed.now ≡ 16) }
-    requires ready { Ready seed.now with.tables with.words with.parts }
+fn put_two(out: &mut [u8], i: usize, seed: &Strings, c: usize, d: usize)
+    requires out_len { (length out.old ≡ 176) × (i < 10) × (length seed.now.r.now ≡ 16) }
     requires c_bound { (c < 2 ^ 24) × (d < 2 ^ 24) }
 {
-    let t = with.tables;
-    let w = with.words;
-    let p = with.parts;
-    let b = window::two_at(seed, &t, &w, &p, c, d);
-    put(out, i, b.0);
-    put(out, i + 1, b.1);
+    let (x, y) = seed.two_at(c, d);
+    put(out, i, x);
+    put(out, i + 1, y);
 }
 
 // Puts Block c of a seed by the cipher itself, as Block i.
-fn put_one(out: &mut [u8], i: usize, t: &[u32; ENTRIES], w: &[u32; WORDS], c: u64)
-    requires { (length out.old ≡ 176) × (i < 11) × (t.now ≡ T.tables) }
+fn put_one(out: &mut [u8], i: usize, key: &Key, c: u64)
+    requires { (length out.old ≡ 176) × (i < 11) }
 {
-    put(out, i, aes::encrypt(t, w, Block(c, 0)));
+    put(out, i, aes::encrypt(key, Block(c, 0)));
 }
 
 // The Blocks below 2^24, as a session draws them.
 fn draw_low(out: &mut [u8], s: &[u8; 16])
     requires { length out.old ≡ 176 }
 {
-    let with = window::prepare(&s[..]);
-    put_two(out, 0, &s[..], with, 0, 1);
-    put_two(out, 2, &s[..], with, 255, 256);
-    put_two(out, 4, &s[..], with, 257, 65535);
-    put_two(out, 6, &s[..], with, 65536, 65537);
+    let seed = window::prepare(&s[..]);
+    put_two(out, 0, &seed, 0, 1);
+    put_two(out, 2, &seed, 255, 256);
+    put_two(out, 4, &seed, 257, 65535);
+    put_two(out, 6, &seed, 65536, 65537);
 }
 
 // Those around 2^32, by the cipher itself.
 fn draw_high(out: &mut [u8], s: &[u8; 16])
     requires { length out.old ≡ 176 }
 {
-    let t = aes_tables::tables();
-    let w = aes_key::expand(&t, &s[..]);
-    put_one(out, 8, &t, &w, 4294967295);
-    put_one(out, 9, &t, &w, 4294967296);
-    put_one(out, 10, &t, &w, 4294967297);
+    let key = Key::expand(&s[..]);
+    put_one(out, 8, &key, 4294967295);
+    put_one(out, 9, &key, 4294967296);
+    put_one(out, 10, &key, 4294967297);
 }
 
 // The Blocks that seed k draws.
@@ -175,18 +128,10 @@ fn draw_all(out: &mut [u8], k: usize)
 }
 
 // Writes the Blocks of one seed, each behind its number.
-fn show_drawn(rt: &impl Print, s: &[u8]) -> io::Result<()>
-    requires { length s.now ≡ 176 }
-{
-    let numbers = NUMBERS;
-    let mut i = 0;
-    while i < 11 {
-        let a = i * 16;
-        let e = a + 16;
-        decimal(rt, numbers[i])?;
-        rt.write_all(b" ")?;
-        show(rt, &s[a..e])?;
-        i += 1;
+fn show_drawn(rt: &impl Print, s: &[u8]) -> io::Result<()> {
+    for (n, b) in NUMBERS.iter().zip(s.chunks_exact(16)) {
+        print!(rt; "{n} ")?;
+        show(rt, b)?;
     }
     Ok(())
 }
@@ -195,33 +140,18 @@ fn show_drawn(rt: &impl Print, s: &[u8]) -> io::Result<()>
 fn show_hash(rt: &impl Print, s: &[u8]) -> io::Result<()> {
     let mut hash = [0u8; 32];
     blake3::hash(s, &mut hash);
-    let mut i = 0;
-    while i < 32 {
-        show_byte(rt, hash[i])?;
-        i += 1;
-    }
-    rt.write_all(b"\n")
+    show(rt, &hash)
 }
 
 fn main(rt: HostRuntime) -> io::Result<()> {
     show_words(&rt, &KEY)?;
     show_cipher(&rt, &KEY, &INPUT)?;
-    let mut key = [0u8; 16];
-    let mut input = [0u8; 16];
-    let mut i = 0;
-    while i < 16 {
-        key[i] = i as u8;
-        input[i] = (i * 17) as u8;
-        i += 1;
-    }
+    let key = array::from_fn(|i| i as u8);
+    let input = array::from_fn(|i| (i * 17) as u8);
     show_cipher(&rt, &key, &input)?;
     let mut all = [0u8; ALL];
-    let mut k = 0;
-    while k < SEEDS {
-        let a = k * EACH;
-        let e = a + EACH;
-        draw_all(&mut all[a..e], k);
-        k += 1;
+    for (k, each) in all.chunks_exact_mut(EACH).enumerate() {
+        draw_all(each, k);
     }
     show_drawn(&rt, &all[EACH..2 * EACH])?;
     show_hash(&rt, &all)

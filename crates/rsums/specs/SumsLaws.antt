@@ -1,14 +1,13 @@
 -- The sums of all other parties: a turn of `add_group`, one other party more, and of `sums`, 64 records more.
-use Rattle.std.specs.Prelude.{◌≡◌, Bool, true, false, ◌&&◌, List, length, get_or, replicate, leb}
+use Rattle.std.specs.Prelude.{◌≡◌, Bool, true, false, ◌&&◌, List, [], ◌∷◌, length, get_or, replicate, leb}
 use Rattle.std.proofs.Math.Path.{refl, sym, ap}
 use Rattle.std.proofs.Common.{ap₂, ◌∙◌, arith, ltb-true, ltb-false, lt-ltb, le-ltb, le-leb}
 use Prim.Native.Nat.{ℕ, ◌+◌, ◌-◌, ◌*◌, ◌/◌, ◌%◌, ◌<◌, ◌≤◌}
-use Rattle.std.proofs.lemmas.List.{length-replicate}
 use Rattle.std.specs.Int.Count.{ones}
 use Rattle.std.proofs.Math.Dec.{ltb}
 use Rattle.std.proofs.lemmas.Bool.{lt-leb}
 use Rattle.lists.specs.Pick.{pick}
-use Rattle.lists.specs.Over.{tab}
+use Rattle.lists.specs.Over.{tab, length-cat}
 use Rattle.lists.specs.All.{and-false}
 use Rattle.lists.specs.Bytes.{Bytes}
 use Rattle.algebra.specs.Group.{sel, odd, num, sel-nil}
@@ -25,6 +24,11 @@ use Rattle.rpairs.specs.Added.{added_from}
 use Rattle.rsums.specs.Sums.{party_sums, grown}
 
 -- ---- `add_group`
+
+-- the words of 840 Blocks
+pub length-all : (x : List ℕ) (f : ℕ → Block) → x ≡ words_of 840 f → length x ≡ 1680
+unfolding words_of
+length-all x f e = ap length e ∙ length-cat 840 2 (λ j. (f j).0 ∷ (f j).1 ∷ []) (λ j l. refl)
 
 -- the entry of the q-th party but i lies in a record
 pub macs-within : (n i q : ℕ) → q < n - 1 → mac_off (nth i q) + 16 ≤ record_len n
@@ -139,10 +143,6 @@ module _ (off : ℕ → ℕ) (n i : ℕ) (s r : List ℕ) (row count : ℕ) wher
 -- what the loop over the groups has after g of them
 pub record Grouped (n i : ℕ) (s r : List ℕ) (row count g : ℕ) (bits macs keys win : List ℕ) : Type 0 where
   pub turns : g * 64 < count + 64
-  pub bits-long : length bits ≡ 120
-  pub macs-long : length macs ≡ 1680
-  pub keys-long : length keys ≡ 1680
-  pub win-long : length win ≡ 240
   pub bits_are : bits ≡ tab 120 (masked s (record_len n) r row count g)
   pub macs-are : macs ≡ words_of 840 (party_groups mac_off n i s r row count g)
   pub keys-are : keys ≡ words_of 840 (party_groups key_off n i s r row count g)
@@ -152,10 +152,6 @@ module _ (n i : ℕ) (s r : List ℕ) (row count : ℕ) where
   pub grouped-none : Grouped n i s r row count 0 (replicate 120 0) (replicate 1680 0) (replicate 1680 0) (replicate 240 0)
   grouped-none = record {
     turns = omega arith;
-    bits-long = refl;
-    macs-long = length-replicate {A = ℕ} 1680 0;
-    keys-long = length-replicate {A = ℕ} 1680 0;
-    win-long = refl;
     bits_are = masked-none s (record_len n) r row count;
     macs-are = parties-none mac_off n i s r row count;
     keys-are = parties-none key_off n i s r row count;
@@ -170,14 +166,9 @@ module _ (n i : ℕ) (s r : List ℕ) (row count : ℕ) where
         → bits' ≡ tab 120 (masked_at bits win' (g % 2) b)
         → macs' ≡ words_of 840 (grown mac_off n i s count (g * 64) win' (g % 2) macs (n - 1))
         → keys' ≡ words_of 840 (grown key_off n i s count (g * 64) win' (g % 2) keys (n - 1))
-        → length bits' ≡ length bits → length macs' ≡ length macs → length keys' ≡ length keys → length win' ≡ length win
         → Grouped n i s r row count (g + 1) bits' macs' keys' win'
-    grouped-turn stride b bits' macs' keys' win' h hs hw hb eb em ek lb lm lk lw = record {
+    grouped-turn stride b bits' macs' keys' win' h hs hw hb eb em ek = record {
       turns = omega arith;
-      bits-long = lb ∙ have.bits-long;
-      macs-long = lm ∙ have.macs-long;
-      keys-long = lk ∙ have.keys-long;
-      win-long = lw ∙ have.win-long;
       bits_are = masked-turn s (record_len n) r row count g b bits win' bits' have.bits_are hw
           (hb ∙ ap (λ x. packed 64 (λ e. record_bit s x count (g * 64 + e))) hs) eb;
       macs-are = parties-turn mac_off n i s r row count hr long g (omega arith) macs macs' win' have.macs-are hw em;

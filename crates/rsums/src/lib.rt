@@ -26,8 +26,8 @@ pub struct AllSums {
 
 // Adds what the strings choose of the 64 records from `first` on, of every party but i.
 fn add_group(
-    macs: &mut [u64],
-    keys: &mut [u64],
+    macs: &mut [u64; WORDS],
+    keys: &mut [u64; WORDS],
     s: &[u8],
     n: usize,
     i: usize,
@@ -36,7 +36,6 @@ fn add_group(
     win: &[u64; WINDOW],
     h: usize,
 )
-    requires macs_len { (length macs.old ≡ 1680) × (length keys.old ≡ 1680) }
     requires le_n { (2 ≤ n) × (n ≤ 8) × (i < n) × (h < 2) }
     requires n_in_bounds { count * record_len n ≤ length s.now }
     requires first_bound { first + 64 < 2 ^ 64 }
@@ -46,9 +45,7 @@ fn add_group(
         keys.old (n - 1)) }
 {
     let stride = share::record_len(n);
-    let last = n - 1;
-    let mut q = 0;
-    while q < last {
+    for q in 0..n - 1 {
         let k = plan::other(i, q);
         let mac = share::mac_off(k);
         let key = share::key_off(k);
@@ -65,7 +62,6 @@ fn add_group(
             win,
             h,
         );
-        q += 1;
     }
 }
 
@@ -79,27 +75,22 @@ pub fn sums(s: &[u8], n: usize, i: usize, count: usize, r: &[u8], blocks: usize)
     ensures keys_value { result.keys ≡ words_of 840 (party_sums key_off n i s.now (strings (120 * blocks) r.now)
         (16 * blocks) count) }
 {
-    let c = window::prepare(r);
-    let t = c.tables;
-    let w = c.words;
-    let p = c.parts;
+    let strings = window::prepare(r);
     let stride = share::record_len(n);
     let mut bits = [0u64; 120];
     let mut macs = [0u64; WORDS];
     let mut keys = [0u64; WORDS];
     let mut win = [0u64; WINDOW];
-    let mut g = 0;
-    while g * 64 < count {
-        window::turn(&mut win, r, &t, &w, &p, blocks, g);
+    for g in 0..count.div_ceil(64) {
+        strings.turn(&mut win, blocks, g);
         let h = g % 2;
         let b = rbits::pack(s, stride, count, g * 64);
         rbits::add_bits(&mut bits, &win, h, b);
         add_group(&mut macs, &mut keys, s, n, i, count, g * 64, &win, h);
-        g += 1;
     }
     AllSums {
         bits: rbits::parities(&bits),
-        macs: macs,
-        keys: keys,
+        macs,
+        keys,
     }
 }

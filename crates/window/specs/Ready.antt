@@ -1,11 +1,10 @@
--- What Blocks are drawn with: for a seed AES's tables, the seed's words, and the parts that counters begin with.
-use Rattle.std.specs.Prelude.{◌≡◌, List, ℕ, length}
+-- What Blocks are drawn with: a cipher under the seed, where there is one.
+use Rattle.std.specs.Prelude.{◌≡◌, ◌≢◌, List, ℕ, Option, Some, None, length}
 use Rattle.fips197.specs.Key.{key_expansion}
-use Rattle.aes_tables.specs.Tables as T
 use Rattle.aes_key.specs.Words.{words_bytes}
-use Rattle.aes_counter.specs.Starts.{starts_of}
+use Rattle.aes_counter.specs.declared.Cipher.{Cipher}
 
-pub record Ready (r t w p : List ℕ) : Type 0 where
-  pub tables : length r ≡ 16 → t ≡ T.tables
-  pub words : length r ≡ 16 → words_bytes 44 w ≡ key_expansion r
-  pub parts : length r ≡ 16 → p ≡ starts_of w
+pub record Ready (r : List ℕ) (c : Option Cipher) : Type 0 where
+  pub lent : c ≡ None → length r ≢ 16
+  pub seed : (k : Cipher) → c ≡ Some k → length r ≡ 16
+  pub words : (k : Cipher) → c ≡ Some k → words_bytes 44 k.key.words ≡ key_expansion r

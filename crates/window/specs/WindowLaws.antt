@@ -53,18 +53,18 @@ module _ (r : List ℕ) (blocks q : ℕ) where
       pair_turn of_string j l d b.0 b.1 w (ap (λ (x : Block). x.0) at) (ap (λ (x : Block). x.1) at) h
 
   -- a turn of `window`: strings j and j + 1
-  pub strings-turn : (j : ℕ) (l d : List ℕ) (a b : Block) → Written (pair_of of_string) j (j * 2) l d
+  pub strings-turn : (j j' : ℕ) (l d : List ℕ) (a b : Block) → j' ≡ j + 2 → Written (pair_of of_string) j (j * 2) l d
       → a ≡ block_at (strings (120 * blocks) r) ((j * blocks + q) * 16)
       → b ≡ block_at (strings (120 * blocks) r) ((j * blocks + q + blocks) * 16) → j * 2 + 4 ≤ length l
-      → Written (pair_of of_string) (j + 2) ((j + 2) * 2) l
+      → Written (pair_of of_string) j' (j' * 2) l
       (set (set (set (set d (j * 2) a.0) (j * 2 + 1) a.1) (j * 2 + 2) b.0) (j * 2 + 3) b.1)
-  strings-turn j l d a b w ea eb h =
+  strings-turn j j' l d a b more w ea eb h =
       let e : List ℕ = set (set d (j * 2) a.0) (j * 2 + 1) a.1 in
       let one : Written (pair_of of_string) (j + 1) ((j + 1) * 2) l e = string-turn j l d a w ea (omega arith) in
       let next : j * blocks + q + blocks ≡ (j + 1) * blocks + q = omega arith in
       let two = string-turn (j + 1) l e b one (eb ∙ ap (λ k. block_at (strings (120 * blocks) r) (k * 16)) next) (omega arith) in
       let low : (j + 1) * 2 ≡ j * 2 + 2 = omega arith in
       let high : (j + 1) * 2 + 1 ≡ j * 2 + 3 = omega arith in
-      let more : j + 1 + 1 ≡ j + 2 = omega arith in
-      subst (λ (x : List ℕ). Written (pair_of of_string) (j + 2) ((j + 2) * 2) l x) (λ i. set (set e (low i) b.0) (high i) b.1)
+      let more : j + 1 + 1 ≡ j' = omega arith in
+      subst (λ (x : List ℕ). Written (pair_of of_string) j' (j' * 2) l x) (λ i. set (set e (low i) b.0) (high i) b.1)
       (subst (λ k. Written (pair_of of_string) k (k * 2) l (set (set e ((j + 1) * 2) b.0) ((j + 1) * 2 + 1) b.1)) more two)

@@ -8,6 +8,6 @@ use Rattle.aes.proofs.encrypt.Goals as goal
 pub returns : goal.returns
 unfolding C.cipher
 returns c =
-    let w = words_bytes 44 c.args.w.now in
-    ap bytes_of c.block.ensures ∙ bytes_of-block c.last_round.result ∙ c.last_round.ensures
+    let w = words_bytes 44 c.args.key.now.words in
+    ap bytes_of c.from.ensures ∙ bytes_of-block c.last_round.result ∙ c.last_round.ensures
     ∙ ap (λ (s : List ℕ). C.add_round_key w 10 (C.shift_rows (C.sub_bytes s))) c.rounds.ensures

@@ -4,4 +4,4 @@ use Rattle.aes.proofs.last_round.Goals as goal
 
 pub returns : goal.returns
 returns c =
-    last-columns c.args.w.now c.args.s _ (search) (search) (search) (search)
+    last-columns c.args.key.now.words c.args.s _ (search) (search) (search) (search)

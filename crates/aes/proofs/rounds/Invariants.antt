@@ -1,5 +1,5 @@
 -- The loop's invariant: the State is that after k - 1 rounds, for each y whose first AddRoundKey gave what the loop began with.
-use Rattle.std.specs.Prelude.{◌≡◌, ◌-◌, ◌≤◌}
+use Rattle.std.specs.Prelude.{◌≡◌, ◌-◌}
 use Rattle.lists.specs.Kit.{List, ℕ}
 use Rattle.fips197.specs.Cipher as C
 use Rattle.aes_key.specs.Words.{words_bytes}
@@ -7,8 +7,5 @@ use Rattle.aes.specs.Columns.{state_of}
 use Rattle.aes.proofs.rounds.Given as goal
 
 abbrev pub invariant-loop-k : goal.invariant-loop-k
-invariant-loop-k l = (1 ≤ l.k) × (l.k ≤ 10)
-    × ((y : List ℕ) → state_of l.initial.s ≡ C.rounds (words_bytes 44 l.w) 0 y → state_of l.s ≡ C.rounds (words_bytes 44 l.w) (l.k - 1) y)
-
-abbrev pub decreases-loop-k : goal.decreases-loop-k
-decreases-loop-k l = 10 - l.k
+invariant-loop-k l =
+    (y : List ℕ) → state_of l.initial.s ≡ C.rounds (words_bytes 44 l.key.words) 0 y → state_of l.s ≡ C.rounds (words_bytes 44 l.key.words) (l.k - 1) y

@@ -5,4 +5,4 @@ use Rattle.aes_counter.proofs.rest.Goals as goal
 pub returns : goal.returns
 unfolding first_of
 returns c =
-    rest-made c.args.t.now c.args.w.now c.column.result c.pieces-q.result c.pieces-q.ensures c.column.ensures
+    rest-made c.args.key.now.tables.words c.args.key.now.words c.column.result c.pieces-q.result c.pieces-q.ensures c.column.ensures

@@ -4,17 +4,14 @@ use Rattle.share.specs.Record.{mac_off, key_off}
 use Rattle.engine.specs.Area.{nth-below}
 use Rattle.rbits.specs.Chosen.{words_of}
 use Rattle.rsums.specs.Sums.{grown}
-use Rattle.rsums.specs.SumsLaws.{macs-within, keys-within, grown-none, grown-turn}
+use Rattle.rsums.specs.SumsLaws.{length-all, macs-within, keys-within, grown-none, grown-turn}
 use Rattle.rsums.proofs.add_group.Goals as goal
 use Rattle.rsums.proofs.add_group.Goals.{After-other-k}
 
 pub loop-q-init : goal.loop-q-init
 loop-q-init c = (
-  omega arith,
-  c.requires.macs_len.0,
-  c.requires.macs_len.1,
-  grown-none mac_off c.args.n c.args.i c.args.s.now c.args.count c.args.first c.args.win.now c.args.h c.args.macs.now c.requires.macs_len.0,
-  grown-none key_off c.args.n c.args.i c.args.s.now c.args.count c.args.first c.args.win.now c.args.h c.args.keys.now c.requires.macs_len.1,
+  grown-none mac_off c.args.n c.args.i c.args.s.now c.args.count c.args.first c.args.win.now c.args.h c.args.macs.now (omega arith),
+  grown-none key_off c.args.n c.args.i c.args.s.now c.args.count c.args.first c.args.win.now c.args.h c.args.keys.now (omega arith),
 )
 
 -- the q-th party but i is a party
@@ -28,28 +25,35 @@ add_pair-requires c =
     let mac = c.mac_off-mac.ensures ∙ ap mac_off c.other-k.ensures in
     let key = c.key_off-key.ensures ∙ ap key_off c.other-k.ensures in
     let macs = macs-within c.args.n c.args.i c.loop-q.q h in
-    let keys = keys-within c.args.n c.args.i c.loop-q.q h in record { x_len = (c.loop-q.invariant.1, c.loop-q.invariant.2); base_bound = (omega arith, c.requires.le_n.3); at_bound = (omega arith, omega arith, subst (λ x. c.args.count * x ≤ length c.args.s.now) (sym c.record_len-stride.ensures) c.requires.n_in_bounds); first_bound = c.requires.first_bound }
+    let keys = keys-within c.args.n c.args.i c.loop-q.q h in
+    let records : c.args.count * c.record_len-stride.result ≤ length c.args.s.now =
+    subst (λ x. c.args.count * x ≤ length c.args.s.now) (sym c.record_len-stride.ensures) c.requires.n_in_bounds in
+    record {
+      x_len = (length-all _ _ c.loop-q.invariant.0, length-all _ _ c.loop-q.invariant.1);
+      base_bound = (omega arith, c.requires.le_n.3);
+      at_bound = (omega arith, omega arith, records);
+      first_bound = c.requires.first_bound;
+    }
 
 pub loop-q-preserved : goal.loop-q-preserved
 loop-q-preserved c = (
-  omega arith,
-  c.add_pair.auto.x ∙ c.loop-q.invariant.1,
-  c.add_pair.auto.y ∙ c.loop-q.invariant.2,
   grown-turn mac_off c.args.n c.args.i c.args.s.now c.args.count c.args.first c.args.win.now c.args.h c.args.macs.now c.loop-q.q _ _ _
-      c.loop-q.macs _ c.record_len-stride.ensures c.other-k.ensures c.mac_off-mac.ensures c.loop-q.invariant.3
+      c.loop-q.macs _ c.record_len-stride.ensures c.other-k.ensures c.mac_off-mac.ensures c.loop-q.invariant.0
       c.add_pair.ensures.x_after,
   grown-turn key_off c.args.n c.args.i c.args.s.now c.args.count c.args.first c.args.win.now c.args.h c.args.keys.now c.loop-q.q _ _ _
-      c.loop-q.keys _ c.record_len-stride.ensures c.other-k.ensures c.key_off-key.ensures c.loop-q.invariant.4
+      c.loop-q.keys _ c.record_len-stride.ensures c.other-k.ensures c.key_off-key.ensures c.loop-q.invariant.1
       c.add_pair.ensures.y_after,
 )
 
 pub returns : goal.returns
 returns c =
     let e : c.loop-q.q ≡ c.args.n - 1 = omega arith in record {
-      macs_after = c.loop-q.invariant.3
-          ∙ ap (λ q. words_of 840 (grown mac_off c.args.n c.args.i c.args.s.now c.args.count c.args.first c.args.win.now c.args.h c.args.macs.now q)) e;
-      keys_after = c.loop-q.invariant.4
-          ∙ ap (λ q. words_of 840 (grown key_off c.args.n c.args.i c.args.s.now c.args.count c.args.first c.args.win.now c.args.h c.args.keys.now q)) e;
+      macs_after = c.loop-q.invariant.0
+          ∙ ap (λ q. words_of 840 (grown mac_off c.args.n c.args.i c.args.s.now c.args.count c.args.first c.args.win.now c.args.h
+          c.args.macs.now q)) e;
+      keys_after = c.loop-q.invariant.1
+          ∙ ap (λ q. words_of 840 (grown key_off c.args.n c.args.i c.args.s.now c.args.count c.args.first c.args.win.now c.args.h
+          c.args.keys.now q)) e;
     }
 
 pub mac_off-mac-requires : goal.mac_off-mac-requires
@@ -57,9 +61,3 @@ mac_off-mac-requires c = below (goal.at.mac_off-mac-requires c).After-other-k
 
 pub key_off-key-requires : goal.key_off-key-requires
 key_off-key-requires c = below (goal.at.key_off-key-requires c).After-other-k
-
-pub shape_of-macs : goal.shape_of-macs
-shape_of-macs c = c.loop-q.invariant.1 ∙ sym c.requires.macs_len.0
-
-pub shape_of-keys : goal.shape_of-keys
-shape_of-keys c = c.loop-q.invariant.2 ∙ sym c.requires.macs_len.1

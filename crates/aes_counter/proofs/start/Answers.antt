@@ -1,7 +1,0 @@
-use Rattle.lists.specs.Kit.{refl}
-use Rattle.aes_counter.specs.StartLaws.{start-state}
-use Rattle.aes_counter.proofs.start.Goals as goal
-
-pub returns : goal.returns
-returns c w e =
-    start-state w c.args.parts.now c.args.c _ _ _ c.split.result c.requires e refl refl refl c.split.ensures
