@@ -138,9 +138,9 @@ fn inner_due(kind: Kind, s: &[u8], at: usize) -> bool
 
 // What is read of a message: the length used, its count included, and whether the counts are those due.
 #[derive(Clone, Copy)]
-struct Reading {
-    used: usize,
-    due: bool,
+pub struct Reading {
+    pub used: usize,
+    pub due: bool,
 }
 
 // A list read item by item. Every item takes at least a byte, so the work is bounded by m's length, whatever the count says.
@@ -184,7 +184,7 @@ fn read_items(size: usize, flags: usize, count: usize, m: &[u8]) -> Option<Readi
 }
 
 // The reader.
-fn read(kind: Kind, count: usize, m: &[u8]) -> Option<Reading>
+pub fn read(kind: Kind, count: usize, m: &[u8]) -> Option<Reading>
     ensures { Told kind count (F.read_of kind m.now) result }
 {
     match kind {
