@@ -1,4 +1,4 @@
-use Rattle.std.specs.Prelude.{◌+◌, ◌-◌, ◌<◌}
+use Rattle.std.specs.Prelude.{◌+◌, ◌<◌}
 use Rattle.lists.specs.Kit.{refl, ap, ◌∙◌, List, ℕ, arith, length, get_or}
 use lib.ListN.{length-set}
 use lib.Bits.{bit_or, bit_xor}
@@ -8,18 +8,17 @@ use Rattle.records.proofs.or_apart.Goals as goal
 use Rattle.records.proofs.or_apart.Invariants.{both}
 
 pub loop-k-init : goal.loop-k-init
-loop-k-init c = (omega arith, refl, tab-zero _ _)
+loop-k-init c = (refl, tab-zero _ _)
 
 pub loop-k-preserved : goal.loop-k-preserved
 loop-k-preserved c =
     let f = both c.args.e.now c.args.s.now c.args.at c.args.due.now in
     let k = c.loop-k.k in
     let w : k < length c.args.e.now = omega arith in (
-      omega arith,
-      simp length-set c.loop-k.invariant.1,
-      tab-turn k f c.args.e.now c.loop-k.e _ c.loop-k.invariant.2
+      simp length-set c.loop-k.invariant.0,
+      tab-turn k f c.args.e.now c.loop-k.e _ c.loop-k.invariant.1
           (ap (λ x. bit_or x (bit_xor (get_or c.args.s.now (c.args.at + k) 0) (get_or c.args.due.now k 0)))
-          (ap (λ (x : List ℕ). get_or x k 0) c.loop-k.invariant.2 ∙ over-get (tab k f) c.args.e.now k 0 (length-tab k f) w))
+          (ap (λ (x : List ℕ). get_or x k 0) c.loop-k.invariant.1 ∙ over-get (tab k f) c.args.e.now k 0 (length-tab k f) w))
           w,
     )
 
@@ -28,4 +27,4 @@ unfolding ored
 returns c =
     tab-end c.loop-k.k (length c.args.e.now) (both c.args.e.now c.args.s.now c.args.at c.args.due.now) c.args.e.now
     c.loop-k.e
-    c.loop-k.invariant.2 (omega arith) refl
+    c.loop-k.invariant.1 (omega arith) refl

@@ -24,14 +24,14 @@ own_zero-requires c =
       omega (arith, record-within c.args.n k c.requires.1, lent_longer c.args.n, lent_longer (k + 1), c.requires.2),
     )
 
-pub returns-then-own_zero : goal.returns-then-own_zero
-returns-then-own_zero c =
+pub returns : goal.returns
+returns c =
     sym (fault-none c.args.n c.args.i c.args.s.now c.args.at c.if-s-at-gt1.false
     (sym c.labelled.ensures ∙ c.if-not-labelled.false)
-    (sym c.own_zero.ensures ∙ c.if-own_zero.true))
+    (sym c.own_zero.ensures ∙ c.if-not-own_zero.false))
 
-pub returns-else-own_zero : goal.returns-else-own_zero
-returns-else-own_zero c =
+pub returns-then-not-own_zero : goal.returns-then-not-own_zero
+returns-then-not-own_zero c =
     sym (fault-own c.args.n c.args.i c.args.s.now c.args.at c.if-s-at-gt1.false
     (sym c.labelled.ensures ∙ c.if-not-labelled.false)
-    (sym c.own_zero.ensures ∙ c.if-own_zero.false))
+    (sym c.own_zero.ensures ∙ c.if-not-own_zero.true))
