@@ -16,7 +16,8 @@ use Rattle.message.specs.declared.Kind.{Kind}
 use Rattle.message.specs.declared.Kind.TheVariants.{Items, Dms, Dvalues, Options}
 use Rattle.message.specs.Format.{item_len, item_at, count_of, decodes, item_of}
 use Rattle.message.specs.Format.{item_due, form_by, form_of}
-use Rattle.message.specs.FormatLaws.{and-true, of-bools, vec-held, items-held, bucket-held, bucket-bytes, bucket-due, Decoded, at-le, decoded, read_none, read_some, inners_due, counts-are, Formed}
+use Rattle.message.specs.FormatLaws.{and-true, of-bools, vec-held, items-held, bucket-held, bucket-bytes, bucket-due, Decoded, at-le, decoded}
+use Rattle.message.specs.FormatLaws.{read_none, read_some, inners_due, counts-are, Formed}
 
 module _ (K : Kind) (count : ℕ) (m : List ℕ) where
   pub form-bad : decodes K m ≡ false → form_of K count m ≡ 13
@@ -145,7 +146,10 @@ entry-held m a h = go (ltb 0 (length s)) refl (eqb (get_or s 0 0) 0) refl (eqb (
     }
     go true e false f true g true i h = record {
       tag = omega (arith, ltb-true 0 (length s) e, length-drop a m);
-      either = inr (sym byte ∙ eqb-true (get_or s 0 0) 1 g, (rw (e, f, g, i) refl, omega (arith, leb-true 17 (length s) i, length-drop a m)));
+      either = inr (
+        sym byte ∙ eqb-true (get_or s 0 0) 1 g,
+        (rw (e, f, g, i) refl, omega (arith, leb-true 17 (length s) i, length-drop a m)),
+      );
     }
     go true e false f true g false i h = absurd (omega arith)
     go true e false f false g r i h = absurd (omega arith)

@@ -43,7 +43,8 @@ module _ (s xs : List ℕ) (at count n : ℕ) (hn : n ≡ min count (length s - 
       go : (k : ℕ) → k < count → (b : Bool) → ltb k (length xs) ≡ b → get_or (drop at s) k 0 ≤ 1
       go k l true q = let w = ltb-true k (length xs) q in rw (← byte k w) (h k 0 (omega arith) w)
       go k l false q =
-          let z : get_or (drop at s) k 0 ≡ 0 = get_or-eq_default (drop at s) 0 (omega (arith, ltb-false k (length xs) q, long, length-drop at s)) in
+          let z : get_or (drop at s) k 0 ≡ 0 =
+          get_or-eq_default (drop at s) 0 (omega (arith, ltb-false k (length xs) q, long, length-drop at s)) in
           omega arith
   bools-are false h = sym (bools-false (drop at s) count h.0 (omega (arith, h.1, long)) (rw (← byte h.0 h.1) (h.2 0)))
 

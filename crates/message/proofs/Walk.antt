@@ -16,7 +16,8 @@ use Rattle.lists.specs.All.{all_of_lem, all-zero, all-turn}
 use Rattle.lists.specs.Over.{in-chunks}
 use Rattle.message.specs.declared.Kind.{Kind}
 use Rattle.message.specs.declared.Kind.TheVariants.{Items}
-use Rattle.message.specs.Format.{bools, vec_len, item_len, item_at, count_of, decodes, item_of, Decoding, Undecoded, read_of, item_due, form_by, form_of, used_of}
+use Rattle.message.specs.Format.{bools, vec_len, item_len, item_at, count_of, decodes, item_of, Decoding, Undecoded, read_of, item_due}
+use Rattle.message.specs.Format.{form_by, form_of, used_of}
 use Rattle.message.specs.Format.{due_of}
 use Rattle.message.specs.FormatLaws.{item-le, at_zero, at_next, decoded, decodes-of, decodes-bad, used-some, read_none, read_some}
 use Rattle.message.specs.FormatLaws.{inners_due, counts-are, vec-some, items-some, items-not, at-le}
@@ -173,4 +174,6 @@ module _ (size c : ℕ) (m : List ℕ) (some : 0 < size) where
     plain-items z (suc t) l =
         let w = plain-items z t (omega arith) in
         subst (λ p. Walked I m p (8 + suc t * size)) (add-one t)
-        (subst (Walked I m (t + 1)) (omega (arith, suc-mul t size)) (fixed-turn t (8 + t * size) w (omega arith) (ap (λ n. bools n (drop (8 + t * size) m)) z ∙ bools-none (drop (8 + t * size) m))))
+        (subst (Walked I m (t + 1)) (omega (arith, suc-mul t size))
+        (fixed-turn t (8 + t * size) w (omega arith)
+        (ap (λ n. bools n (drop (8 + t * size) m)) z ∙ bools-none (drop (8 + t * size) m))))

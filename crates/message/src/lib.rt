@@ -137,7 +137,7 @@ fn inner_due(kind: Kind, s: &[u8], at: usize) -> bool
 }
 
 // What is read of a message: the length used, its count included, and whether the counts are those due.
-#[derive(Clone, Copy, Debug, PartialEq, Eq)]
+#[derive(Clone, Copy)]
 pub struct Reading {
     pub used: usize,
     pub due: bool,

@@ -20,7 +20,8 @@ pub overflow_add-pos : goal.overflow_add-pos
 overflow_add-pos c =
     omega (
       arith,
-      walked-room c.args.kind c.args.m.now c.loop-k.k c.loop-k.pos c.unwrap_or-pos.result c.loop-k.invariant (this (goal.at.overflow_add-pos c).After-unwrap_or-pos),
+      walked-room c.args.kind c.args.m.now c.loop-k.k c.loop-k.pos c.unwrap_or-pos.result c.loop-k.invariant
+          (this (goal.at.overflow_add-pos c).After-unwrap_or-pos),
     )
 
 pub loop-k-preserved : goal.loop-k-preserved

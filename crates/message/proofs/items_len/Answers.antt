@@ -17,5 +17,7 @@ returns-then-size-eq0 c =
 
 pub returns : goal.returns
 returns c =
-    let a = c.args in
-    (items-whole a.s.now a.at a.size a.count c.if-s-at.false (sym c.bools.ensures ∙ c.if-not-bools.false), omega (arith, c.if-size-eq0.false))
+    let a = c.args in (
+      items-whole a.s.now a.at a.size a.count c.if-s-at.false (sym c.bools.ensures ∙ c.if-not-bools.false),
+      omega (arith, c.if-size-eq0.false),
+    )

@@ -12,7 +12,8 @@ use Rattle.message.proofs.read_items.Goals.{In_ok-used, In-loop-k}
 pub returns-in_err-used : goal.returns-in_err-used
 returns-in_err-used c =
     rw c.from_residual.ensures
-    (read_none (Items c.args.size c.args.flags) c.args.m.now (fixed-over c.args.size c.args.flags c.args.m.now c.requires c.in_err-used.ensures))
+    (read_none (Items c.args.size c.args.flags) c.args.m.now
+    (fixed-over c.args.size c.args.flags c.args.m.now c.requires c.in_err-used.ensures))
 
 fits : (c : In_ok-used) → 8 + count_of c.args.m.now * c.args.size ≤ length c.args.m.now
 fits c = (vec-held c.args.size c.args.m.now (omega (arith, c.in_ok-used.ensures.0, c.in_ok-used.ensures.1))).fits
@@ -71,5 +72,5 @@ loop-k-preserved c =
 pub returns : goal.returns
 returns c =
     let a = c.args in
-    fixed-end a.size a.flags a.m.now c.requires (fits (goal.at.returns c).In_ok-used) a.count c.in_ok-used.used c.load64-found.result c.loop-k.k
-    _ c.loop-k.invariant (omega (arith, c.load64-found.ensures)) c.in_ok-used.ensures.0 c.load64-found.ensures
+    fixed-end a.size a.flags a.m.now c.requires (fits (goal.at.returns c).In_ok-used) a.count c.in_ok-used.used c.load64-found.result
+    c.loop-k.k _ c.loop-k.invariant (omega (arith, c.load64-found.ensures)) c.in_ok-used.ensures.0 c.load64-found.ensures

@@ -57,4 +57,5 @@ pub loop-t-preserved : goal.loop-t-preserved
 loop-t-preserved c = found (goal.at.loop-t-preserved c).After-record_fault ∙ ap code_of c.in_ok-record_fault.was
 
 pub returns : goal.returns
-returns c = sym (ap (records_fault c.args.n c.args.i c.args.s.now) (let e : c.args.count ≡ c.loop-t.t = omega arith in e) ∙ c.loop-t.invariant)
+returns c =
+    sym (ap (records_fault c.args.n c.args.i c.args.s.now) (let e : c.args.count ≡ c.loop-t.t = omega arith in e) ∙ c.loop-t.invariant)

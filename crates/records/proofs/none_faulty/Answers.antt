@@ -50,18 +50,19 @@ inside c =
 
 pub overflow_mul-at : goal.overflow_mul-at
 overflow_mul-at c =
-    let inside-here : c.loop-t.t * (c.lent_len-len.result) + lent_len c.args.n ≤ length c.args.s.now = let at-here : c.loop-t.t * (c.lent_len-len.result) ≡ c.loop-t.t * lent_len c.args.n = ap (λ m. c.loop-t.t * m) c.lent_len-len.ensures in
+    let at-here : c.loop-t.t * (c.lent_len-len.result) ≡ c.loop-t.t * lent_len c.args.n = ap (λ m. c.loop-t.t * m) c.lent_len-len.ensures in
     omega (
       arith,
       at-here,
       in-record c.loop-t.t c.args.count (lent_len c.args.n) 0 (lent_len c.args.n)
           (length c.args.s.now) c.loop-t-test.true (omega arith) c.requires.n_in_bounds,
-    ) in
-    omega (arith, inside-here)
+    )
 
 pub or_apart-requires : goal.or_apart-requires
-or_apart-requires c =
-    (due-long (goal.at.or_apart-requires c).At-loop-t ∙ sym c.loop-t.invariant.0, omega (arith, inside (goal.at.or_apart-requires c).In-loop-t, c.loop-t.invariant.0, head-within c.args.n))
+or_apart-requires c = (
+  due-long (goal.at.or_apart-requires c).At-loop-t ∙ sym c.loop-t.invariant.0,
+  omega (arith, inside (goal.at.or_apart-requires c).In-loop-t, c.loop-t.invariant.0, head-within c.args.n),
+)
 
 -- the own entry of record t
 own_in : (c : In-loop-t) → c.loop-t.t * (c.lent_len-len.result) + (LABEL + c.mac_off-own.result) + ENTRY ≤ length c.args.s.now
@@ -88,10 +89,14 @@ loop-t-preserved c = (
   shown-turn c.args.n c.args.s.now 0 (lent_head c.args.n c.args.i false) c.loop-t.t (c.loop-t.t * (c.lent_len-len.result)) c.loop-t.heads
       c.or_apart.new.e
       c.loop-t.invariant.2
-      (at (goal.at.loop-t-preserved c).At-loop-t ∙ (let q : c.loop-t.t * lent_len c.args.n ≡ c.loop-t.t * lent_len c.args.n + 0 = omega arith in q))
-      (c.loop-t.invariant.0 ∙ sym (ap length (sym (due-is (goal.at.loop-t-preserved c).At-loop-t)) ∙ due-long (goal.at.loop-t-preserved c).At-loop-t))
-      (c.or_apart.ensures ∙ ap (ored c.loop-t.heads c.args.s.now (c.loop-t.t * (c.lent_len-len.result))) (due-is (goal.at.loop-t-preserved c).At-loop-t)),
-  shown-turn c.args.n c.args.s.now (LABEL + mac_off c.args.i) (replicate ENTRY 0) c.loop-t.t (c.loop-t.t * (c.lent_len-len.result) + (LABEL + c.mac_off-own.result)) c.loop-t.e
+      (at (goal.at.loop-t-preserved c).At-loop-t
+      ∙ (let q : c.loop-t.t * lent_len c.args.n ≡ c.loop-t.t * lent_len c.args.n + 0 = omega arith in q))
+      (c.loop-t.invariant.0
+      ∙ sym (ap length (sym (due-is (goal.at.loop-t-preserved c).At-loop-t)) ∙ due-long (goal.at.loop-t-preserved c).At-loop-t))
+      (c.or_apart.ensures
+      ∙ ap (ored c.loop-t.heads c.args.s.now (c.loop-t.t * (c.lent_len-len.result))) (due-is (goal.at.loop-t-preserved c).At-loop-t)),
+  shown-turn c.args.n c.args.s.now (LABEL + mac_off c.args.i) (replicate ENTRY 0) c.loop-t.t
+      (c.loop-t.t * (c.lent_len-len.result) + (LABEL + c.mac_off-own.result)) c.loop-t.e
       c.or_apart-in-loop-t.new.e
       c.loop-t.invariant.3
       (ap₂ ◌+◌ (at (goal.at.loop-t-preserved c).At-loop-t) (ap (λ m. LABEL + m) c.mac_off-own.ensures))
@@ -111,7 +116,10 @@ unfolding passes
 returns c =
     let e : passes c.loop-t.heads c.loop-t.e
     ≡ ((leb (get_or c.loop-t.heads 0 0) 1 && c.zeros.result) && c.zeros-2.result) =
-    ap₂ (λ a b. (leb (get_or c.loop-t.heads 0 0) 1 && a) && b) (sym (c.zeros.ensures ∙ zeros-from c.loop-t.heads _ 1 (take_all 31 (drop 1 c.loop-t.heads) (omega (arith, length-drop 1 c.loop-t.heads))))) (sym (c.zeros-2.ensures ∙ zeros-from c.loop-t.e _ 0 refl)) in
+    ap₂ (λ a b. (leb (get_or c.loop-t.heads 0 0) 1 && a) && b)
+    (sym (c.zeros.ensures
+    ∙ zeros-from c.loop-t.heads _ 1 (take_all 31 (drop 1 c.loop-t.heads) (omega (arith, length-drop 1 c.loop-t.heads)))))
+    (sym (c.zeros-2.ensures ∙ zeros-from c.loop-t.e _ 0 refl)) in
     let n : c.loop-t.t ≡ c.args.count = omega arith in
     λ h. seen_all c.args.n c.args.i c.args.s.now c.args.count c.loop-t.heads c.loop-t.e c.loop-t.invariant.0 c.loop-t.invariant.1
     (subst (λ t. Shown c.args.n c.args.s.now 0 (lent_head c.args.n c.args.i false) t c.loop-t.heads) n c.loop-t.invariant.2)
