@@ -1,4 +1,4 @@
-use Rattle.std.specs.Prelude.{◌-◌}
+use Rattle.std.specs.Prelude.{◌≡◌, Err}
 use Rattle.lists.specs.Kit.{ap, ◌∙◌, arith, length, rules}
 use Rattle.rounds.specs.Area.{KEY_SUMS, sizes, size_of}
 use Rattle.rounds.specs.Fabitn as Fabitn
@@ -17,10 +17,13 @@ check_string-requires c =
 
 pub returns-in_err-check_string : goal.returns-in_err-check_string
 unfolding Fabitn.abits
-returns-in_err-check_string c = ?
+returns-in_err-check_string c =
+    rw (← c.section-sums.ensures, ← c.delta-delta.ensures)
+    (let r : c.from_residual.result ≡ Err c.in_err-check_string.field-0.0 = search rules in
+    rw r (item-first _ STRINGS c.loop-j.j c.in_err-check_string.field-0.0 c.loop-j-test.true c.loop-j.invariant c.in_err-check_string.ensures))
 
 pub loop-j-preserved : goal.loop-j-preserved
-loop-j-preserved c = ?
+loop-j-preserved c = item-next _ c.loop-j.j c.loop-j.invariant c.in_ok-check_string.ensures
 
 pub returns : goal.returns
 unfolding Fabitn.abits
