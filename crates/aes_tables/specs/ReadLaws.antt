@@ -8,7 +8,7 @@ use Rattle.lists.specs.Pick.{pick}
 use Rattle.lists.specs.Over.{tab}
 use Rattle.fips197.specs.Field.{product}
 use Rattle.fips197.specs.Sbox.{SBox}
-use Rattle.fips197.proofs.SboxLaws.{sbox-byte, product-sbox}
+use Rattle.fips197.proofs.SboxLaws.{product-sbox}
 use Rattle.fips197.specs.Cipher.{matrix}
 use Rattle.aes_tables.specs.Word.{column4, bytes4}
 use Rattle.aes_tables.specs.Tables.{entry_of, tables}

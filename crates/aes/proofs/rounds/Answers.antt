@@ -20,5 +20,6 @@ loop-k-preserved c =
 pub returns : goal.returns
 returns c =
     let w = words_bytes 44 c.args.key.now.words in
-    c.loop-k.invariant (bytes_of c.args.x) (first-columns c.args.key.now.words c.args.x c.from-b.result _ c.from-b.ensures refl refl refl refl)
+    c.loop-k.invariant (bytes_of c.args.x)
+    (first-columns c.args.key.now.words c.args.x c.from-b.result _ c.from-b.ensures refl refl refl refl)
     ∙ ap (λ n. C.rounds w n (bytes_of c.args.x)) (let e : c.loop-k.k - 1 ≡ 9 = omega arith in e)

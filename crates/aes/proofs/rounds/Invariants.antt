@@ -8,4 +8,5 @@ use Rattle.aes.proofs.rounds.Given as goal
 
 abbrev pub invariant-loop-k : goal.invariant-loop-k
 invariant-loop-k l =
-    (y : List ℕ) → state_of l.initial.s ≡ C.rounds (words_bytes 44 l.key.words) 0 y → state_of l.s ≡ C.rounds (words_bytes 44 l.key.words) (l.k - 1) y
+    (y : List ℕ) → state_of l.initial.s ≡ C.rounds (words_bytes 44 l.key.words) 0 y
+    → state_of l.s ≡ C.rounds (words_bytes 44 l.key.words) (l.k - 1) y

@@ -12,11 +12,11 @@ returns-in-0 c =
 pub returns-in-1 : goal.returns-in-1
 unfolding first_of
 returns-in-1 c =
-    part-1 c.args.key.now.tables.words c.args.key.now.words c.args.p c.args.x c.column-in-1.result c.pieces-q-in-1.result c.pieces-q-in-1.ensures c.in-1.is
-    c.column-in-1.ensures
+    part-1 c.args.key.now.tables.words c.args.key.now.words c.args.p c.args.x c.column-in-1.result c.pieces-q-in-1.result
+    c.pieces-q-in-1.ensures c.in-1.is c.column-in-1.ensures
 
 pub returns-in_default : goal.returns-in_default
 unfolding first_of
 returns-in_default c =
-    part-2 c.args.key.now.tables.words c.args.key.now.words c.args.p c.args.x c.column-in_default.result c.pieces-q-in_default.result c.pieces-q-in_default.ensures (omega arith)
-    c.column-in_default.ensures
+    part-2 c.args.key.now.tables.words c.args.key.now.words c.args.p c.args.x c.column-in_default.result
+    c.pieces-q-in_default.result c.pieces-q-in_default.ensures (omega arith) c.column-in_default.ensures

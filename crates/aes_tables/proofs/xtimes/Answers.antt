@@ -1,4 +1,4 @@
-use Rattle.lists.specs.Kit.{sym, ◌∙◌, arith}
+use Rattle.lists.specs.Kit.{sym, arith}
 use Rattle.fips197.proofs.FieldLaws.{product-two, product-byte}
 use Rattle.aes_tables.proofs.xtimes.Goals as goal
 

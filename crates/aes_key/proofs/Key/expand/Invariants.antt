@@ -1,5 +1,5 @@
 -- The loops' invariants: the first i words have the bytes of the key's first 4 i; then they are the expansion's.
-use Rattle.std.specs.Prelude.{◌≡◌, ◌-◌, ◌*◌, ◌≤◌}
+use Rattle.std.specs.Prelude.{◌≡◌, ◌-◌, ◌*◌}
 use Rattle.lists.specs.Kit.{length, take}
 use Rattle.fips197.specs.Key.{words}
 use Rattle.aes_key.specs.Words.{words_bytes}
