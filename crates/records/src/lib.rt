@@ -52,14 +52,17 @@ fn record_fault(s: &[u8], at: usize, n: usize, i: usize) -> Result<(), Reason>
     Ok(())
 }
 
-// ORs into e what of s, from `at` on, differs from the bytes that are due, byte by byte: the compiler takes sixteen at a time.
-fn or_apart(e: &mut [u8], s: &[u8], at: usize, due: &[u8])
-    requires { (length due.now ≡ length e.old) × (at + length e.old ≤ length s.now) }
+// ORs into e what of s, from `at` on, differs from the bytes that are due, byte by byte: the compiler takes sixteen at a time, since it
+// reads all before it writes to e.
+fn or_apart(e: &mut [u8; ENTRY], s: &[u8], at: usize, due: &[u8; ENTRY])
+    requires { at + ENTRY ≤ length s.now }
     ensures { e.new ≡ ored e.old s.now at due.now }
 {
-    for k in 0..e.len() {
-        e[k] = e[k] | (s[at + k] ^ due[k]);
+    let mut all = *e;
+    for k in 0..ENTRY {
+        all[k] = all[k] | (s[at + k] ^ due[k]);
     }
+    *e = all;
 }
 
 // Whether all bytes are zero.

@@ -59,10 +59,7 @@ overflow_mul-at c =
     )
 
 pub or_apart-requires : goal.or_apart-requires
-or_apart-requires c = (
-  due-long (goal.at.or_apart-requires c).At-loop-t ∙ sym c.loop-t.invariant.0,
-  omega (arith, inside (goal.at.or_apart-requires c).In-loop-t, c.loop-t.invariant.0, head-within c.args.n),
-)
+or_apart-requires c = omega (arith, inside (goal.at.or_apart-requires c).In-loop-t, head-within c.args.n)
 
 -- the own entry of record t
 own_in : (c : In-loop-t) → c.loop-t.t * (c.lent_len-len.result) + (LABEL + c.mac_off-own.result) + ENTRY ≤ length c.args.s.now
@@ -79,8 +76,7 @@ pub overflow_add-at : goal.overflow_add-at
 overflow_add-at c = omega (arith, own_in (goal.at.overflow_add-at c).In-loop-t)
 
 pub or_apart-requires-in-loop-t : goal.or_apart-requires-in-loop-t
-or_apart-requires-in-loop-t c =
-    (sym c.loop-t.invariant.1, omega (arith, own_in (goal.at.or_apart-requires-in-loop-t c).In-loop-t, c.loop-t.invariant.1))
+or_apart-requires-in-loop-t c = omega (arith, own_in (goal.at.or_apart-requires-in-loop-t c).In-loop-t)
 
 pub loop-t-preserved : goal.loop-t-preserved
 loop-t-preserved c = (
