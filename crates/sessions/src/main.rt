@@ -1,8 +1,8 @@
 // Whole sessions in memory, of 2 and 3 boxes, through the public calls `opening::open` and `session::round`, round by round in lockstep:
 // what each box sent (its length, and the first bytes of its BLAKE3), what the results are worth, and how boxes refuse when a bit is
-// flipped on the way. Then sessions whose boxes have their results in batches, each by a list of its own (document 02, order 7), against the
-// same in one batch. The inputs are those of `oracle gen N L 32`, so the Rust of oracle/ can be held against every line but those of round
-// 11 (it doesn't open the third commitment), and of batches.
+// flipped on the way. Then sessions whose boxes have their results in batches, each by a list of its own (document 02, order 7), against
+// the same in one batch. The inputs are those of `oracle gen N L 32`, so the Rust of oracle/ can be held against every line but those of
+// round 11 (it doesn't open the third commitment), and of batches.
 #![tactic(auto)]
 
 ghost use Rattle.std.specs.Prelude.{◌≤◌, ◌<◌, IfOk};

@@ -1,5 +1,5 @@
 // What is printed of a session, and the checks on its results. A box's results, as its inputs, are records.
-ghost use Rattle.std.specs.Prelude.{◌+◌, ◌*◌, ◌<◌, ◌≤◌};
+ghost use Rattle.std.specs.Prelude.{◌<◌, ◌≤◌};
 
 use crate::boxes::Play;
 use crate::deal::{key_off, mac_off, record_len};

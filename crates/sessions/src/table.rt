@@ -1,5 +1,5 @@
-// All that a session has but its work areas: a room for each of three boxes, what they sent last, and r. There is room for 3 boxes with l up
-// to 6, and for 2 with l up to 16.
+// All that a session has but its work areas: a room for each of three boxes, what they sent last, and r. There is room for 3 boxes with l
+// up to 6, and for 2 with l up to 16.
 ghost use Rattle.std.specs.Prelude.{◌+◌, ◌<◌, ◌≤◌};
 
 use block::Block;
