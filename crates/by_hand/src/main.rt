@@ -7,15 +7,17 @@
 use engine::{Answer, Session, Verdict};
 use std::io;
 
-// The bytes of a work area of 8 boxes for one AND.
+// The bytes of a work area of 8 boxes for one AND, and of a record among 8.
 const WORK_LEN: usize = 131906;
 
-// What was asked, and the number that came: 0 for accepted.
-fn line(rt: &impl Print, what: &[u8], number: u8) -> io::Result<()> {
-    rt.write_all(what)?;
-    println!(rt; ": {number}")
+const RECORD_LEN: usize = 288;
+
+// What was asked, and the number that came.
+fn line(rt: &impl Print, what: &str, number: u8) -> io::Result<()> {
+    println!(rt; "{what}: {number}")
 }
 
+// 0 for accepted.
 fn number(v: Verdict) -> u8 {
     match v {
         Verdict::Accepted => 0,
@@ -24,174 +26,111 @@ fn number(v: Verdict) -> u8 {
 }
 
 // Opening with nothing lent but counts: the first number that n and they give, or 6 for the share lists behind them.
-fn bare(n: usize, counts: &[u32]) -> u8 {
+fn bare(rt: &impl Print, what: &str, n: usize, counts: &[u32]) -> io::Result<()> {
     let none = [0u8; 1];
     let mut work = [0u8; 1];
     let mut out = [0u8; 1];
     let a = opening::open(
         n, 0, counts, &none, &none, &none, &none, &none, &none, &none, &mut work, &mut out,
     );
-    let v = a.verdict;
-    number(v)
+    line(rt, what, number(a.verdict))
 }
 
-// Heads of box 0's records among 8, with bits of 0.
-fn put_heads(list: &mut [u8]) {
-    let size = share::lent_len(8);
-    let mut at = 0;
-    while size <= list.len() - at {
-        let e = at + size;
-        share::put_lent_head(&mut list[at..e], 8, 0, false);
-        at = e;
+// A list of box 0's records, zero but for their heads.
+fn zeros<const N: usize>() -> [u8; N] {
+    let mut list = [0; N];
+    let (records, _) = list.as_chunks_mut::<RECORD_LEN>();
+    for record in records {
+        share::put_lent_head(record, 8, 0, false);
     }
+    list
 }
 
 // Opening of 8 boxes for one AND, all inputs zero but the records' heads.
 fn open_eight(work: &mut [u8; WORK_LEN]) -> Answer {
-    let delta = [0u8; 16];
-    let seed = [0u8; 32];
-    let pairs = [0u8; 256];
-    let mut bits = [0u8; 50400];
-    put_heads(&mut bits);
-    let mut shares = [0u8; 288];
-    put_heads(&mut shares);
-    let masks = [0u8; 40];
-    let mut out = [0u8; 280];
+    let shares: [u8; 288] = zeros();
     opening::open(
         8,
         0,
-        &[1u32],
-        &delta,
-        &seed,
-        &pairs,
-        &bits,
+        &[1],
+        &[0; 16],
+        &[0; 32],
+        &[0; 256],
+        &zeros::<50400>(),
         &shares,
         &shares,
-        &masks,
+        &[0; 40],
         work,
-        &mut out,
+        &mut [0; 280],
     )
 }
 
-// The call for round 1 among 8, with a commitment of each, and an outgoing buffer for seven echoes of `len` bytes.
-fn echo(s: Session, work: &mut [u8; WORK_LEN], out: &mut [u8]) -> u8 {
-    let mut incoming = [0u8; 40];
-    incoming[0] = 1;
-    let starts = [0usize; 8];
-    let lens = [40usize; 8];
-    let missing = [0u8; 8];
-    let r = [0u8; 1];
-    let a = session::round(
-        s,
-        1,
-        &incoming,
-        &starts,
-        &lens,
-        &missing,
-        &r[..0],
-        work,
-        out,
-    );
-    let v = a.verdict;
-    number(v)
-}
-
-// The call for round 1, with an outgoing buffer as it is due, of the same session with other counts.
-fn forged(
+// The call for round 1 among 8, with a commitment of each; the outgoing buffer is for seven echoes.
+fn echo(
     rt: &impl Print,
-    what: &[u8],
+    what: &str,
     s: Session,
-    first: u32,
-    second: u32,
     work: &mut [u8; WORK_LEN],
+    out: &mut [u8],
 ) -> io::Result<()> {
-    let party = s.party;
-    let other = Session {
-        party: party,
-        due: s.due,
-        counts: [first, second, 0, 0, 0, 0, 0, 0, 0, 0, 0, 0, 0, 0, 0, 0],
-    };
-    let mut out = [0u8; 784];
-    line(rt, what, echo(other, work, &mut out))
+    let mut incoming = [0; 40];
+    incoming[0] = 1;
+    let a = session::round(s, 1, &incoming, &[0; 8], &[40; 8], &[0; 8], &[], work, out);
+    line(rt, what, number(a.verdict))
 }
 
+// A session of 8 with one AND, and the same with other counts, which is called with an outgoing buffer as it is due.
 fn eight(rt: &impl Print) -> io::Result<()> {
-    let mut work = [0u8; WORK_LEN];
+    let mut work = [0; WORK_LEN];
     let a = open_eight(&mut work);
+    line(rt, "8 boxes, 1 result", number(a.verdict))?;
     let s = a.session;
-    let v = a.verdict;
-    line(rt, b"8 boxes, 1 result", number(v))?;
-    let mut long = [0u8; 791];
-    line(
-        rt,
-        b"echoes of 113 bytes among 8",
-        echo(s, &mut work, &mut long),
-    )?;
-    forged(rt, b"no batch in the session", s, 0, 0, &mut work)?;
-    forged(rt, b"batches of 2 for 1 result", s, 2, 0, &mut work)?;
-    forged(rt, b"batches of 1 and 1 for 1 result", s, 1, 1, &mut work)?;
-    forged(rt, b"batches of 0 and 1 for 1 result", s, 0, 1, &mut work)?;
-    let mut out = [0u8; 784];
-    line(
-        rt,
-        b"echoes of 112 bytes among 8",
-        echo(s, &mut work, &mut out),
-    )
-}
-
-// One batch, and two.
-fn one(rt: &impl Print, what: &[u8], n: usize, count: u32) -> io::Result<()> {
-    line(rt, what, bare(n, &[count]))
-}
-
-fn two(rt: &impl Print, what: &[u8], n: usize, first: u32, second: u32) -> io::Result<()> {
-    line(rt, what, bare(n, &[first, second]))
-}
-
-// None, 16 and 17 of `count` each.
-fn none(rt: &impl Print, what: &[u8], n: usize) -> io::Result<()> {
-    let counts = [1u32];
-    line(rt, what, bare(n, &counts[..0]))
-}
-
-fn sixteen(rt: &impl Print, what: &[u8], n: usize, count: u32) -> io::Result<()> {
-    let counts = [count; 16];
-    line(rt, what, bare(n, &counts))
-}
-
-fn seventeen(rt: &impl Print, what: &[u8], n: usize, count: u32) -> io::Result<()> {
-    let counts = [count; 17];
-    line(rt, what, bare(n, &counts))
+    let mut long = [0; 791];
+    echo(rt, "echoes of 113 bytes among 8", s, &mut work, &mut long)?;
+    let mut out = [0; 784];
+    let forged = [
+        ("no batch in the session", 0, 0),
+        ("batches of 2 for 1 result", 2, 0),
+        ("batches of 1 and 1 for 1 result", 1, 1),
+        ("batches of 0 and 1 for 1 result", 0, 1),
+    ];
+    for (what, first, second) in forged {
+        let mut counts = [0; 16];
+        counts[0] = first;
+        counts[1] = second;
+        echo(rt, what, Session { counts, ..s }, &mut work, &mut out)?;
+    }
+    echo(rt, "echoes of 112 bytes among 8", s, &mut work, &mut out)
 }
 
 // How many batches there may be, and that 15 comes before it.
 fn batches(rt: &impl Print) -> io::Result<()> {
-    none(rt, b"no batch", 2)?;
-    sixteen(rt, b"16 batches, no share lists", 2, 18750)?;
-    seventeen(rt, b"17 batches", 2, 1)?;
-    seventeen(rt, b"17 batches of 300000", 2, 300000)?;
-    none(rt, b"9 boxes, no batch", 9)?;
-    seventeen(rt, b"9 boxes, 17 batches", 9, 1)
+    bare(rt, "no batch", 2, &[])?;
+    bare(rt, "16 batches, no share lists", 2, &[18750; 16])?;
+    bare(rt, "17 batches", 2, &[1; 17])?;
+    bare(rt, "17 batches of 300000", 2, &[300000; 17])?;
+    bare(rt, "9 boxes, no batch", 9, &[])?;
+    bare(rt, "9 boxes, 17 batches", 9, &[1; 17])
 }
 
 // Their sum, and batches of 0.
 fn sums(rt: &impl Print) -> io::Result<()> {
-    two(rt, b"299999 and 1, no share lists", 2, 299999, 1)?;
-    two(rt, b"299999 and 2", 2, 299999, 2)?;
-    two(rt, b"4294967295 and 2", 2, 4294967295, 2)?;
-    sixteen(rt, b"16 of 4294967295", 2, 4294967295)?;
-    one(rt, b"0", 2, 0)?;
-    two(rt, b"0 and 1", 2, 0, 1)?;
-    two(rt, b"300000 and 0", 2, 300000, 0)?;
-    two(rt, b"300001 and 0", 2, 300001, 0)?;
-    two(rt, b"9 boxes, 300001 and 0", 9, 300001, 0)
+    bare(rt, "299999 and 1, no share lists", 2, &[299999, 1])?;
+    bare(rt, "299999 and 2", 2, &[299999, 2])?;
+    bare(rt, "4294967295 and 2", 2, &[u32::MAX, 2])?;
+    bare(rt, "16 of 4294967295", 2, &[u32::MAX; 16])?;
+    bare(rt, "0", 2, &[0])?;
+    bare(rt, "0 and 1", 2, &[0, 1])?;
+    bare(rt, "300000 and 0", 2, &[300000, 0])?;
+    bare(rt, "300001 and 0", 2, &[300001, 0])?;
+    bare(rt, "9 boxes, 300001 and 0", 9, &[300001, 0])
 }
 
 fn main(rt: HostRuntime) -> io::Result<()> {
-    one(&rt, b"300000 results, no share lists", 2, 300000)?;
-    one(&rt, b"300001 results", 2, 300001)?;
-    one(&rt, b"8 boxes, no share lists", 8, 1)?;
-    one(&rt, b"9 boxes", 9, 1)?;
+    bare(&rt, "300000 results, no share lists", 2, &[300000])?;
+    bare(&rt, "300001 results", 2, &[300001])?;
+    bare(&rt, "8 boxes, no share lists", 8, &[1])?;
+    bare(&rt, "9 boxes", 9, &[1])?;
     batches(&rt)?;
     sums(&rt)?;
     eight(&rt)

@@ -1,307 +1,154 @@
 // What is printed of a session, and the checks on its results. A box's results, as its inputs, are records.
-ghost use Rattle.std.specs.Prelude.{◌+◌, ◌*◌, ◌<◌, ◌≤◌};
+ghost use Rattle.std.specs.Prelude.{◌<◌, ◌≤◌};
 
-use crate::boxes::{List, Play};
-use crate::table::{
-    ALL, ALPHA, BETA, CLEAN, DUE, LOUD, NUMBER, OUT, PARTY, ROUND, TOLD, Table, ZERO,
-};
-use std::io;
-
-// ---- lines
-
-fn number(rt: &impl Print, xs: [usize; 4], q: usize) -> io::Result<()> {
-    if q < 4 {
-        let x = xs[q];
-        print!(rt; "{x}")?;
-    }
-    Ok(())
-}
-
-// Prints a line, with a number in the place of each '#'.
-pub(crate) fn say(rt: &impl Print, line: &[u8], xs: [usize; 4]) -> io::Result<()> {
-    let mut from = 0;
-    let mut count = 0;
-    let mut q = 0;
-    while q < line.len() {
-        let end = q;
-        q += 1;
-        if line[end] == b'#' {
-            rt.write_all(&line[from..end])?;
-            number(rt, xs, count)?;
-            count += 1;
-            from = q;
-        }
-    }
-    rt.write_all(&line[from..])
-}
-
-fn text(rt: &impl Print, s: &[u8]) -> io::Result<()> {
-    rt.write_all(s)
-}
-
-// The name of round k, without the zeros behind it.
-fn name(rt: &impl Print, k: usize) -> io::Result<()> {
-    let s = plan::round_name(k);
-    let t = &s[..];
-    let mut j = 0;
-    while j < t.len() {
-        if t[j] == 0 {
-            break;
-        }
-        j += 1;
-    }
-    rt.write_all(&t[0..j])
-}
+use crate::boxes::Play;
+use crate::deal::{key_off, mac_off, record_len};
+use crate::table::{ALPHA, BETA, OUT_LEN, Room, Table, first};
+use std::{fmt, io};
 
 // ---- what boxes wrote
 
-fn hexadecimal(rt: &impl Print, x: u8) -> io::Result<()> {
-    print!(rt; "{x:02x}")
+// The name of round k, without the zeros behind it.
+#[derive(Clone, Copy)]
+struct Name(usize);
+
+impl fmt::Display for Name {
+    fn fmt<W: fmt::Write>(&self, f: &mut fmt::Formatter<W>) -> fmt::Result {
+        for b in plan::round_name(self.0) {
+            if b == 0 {
+                break;
+            }
+            f.write_char(char::from(b))?;
+        }
+        Ok(())
+    }
 }
 
 // The length, and the first eight bytes of the BLAKE3.
-fn digest(rt: &impl Print, s: &[u8]) -> io::Result<()> {
-    let mut hash = [0u8; 32];
-    blake3::hash(s, &mut hash);
-    say(rt, b", # ", [s.len(), 0, 0, 0])?;
-    let mut q: usize = 0;
-    while q < 8 {
-        hexadecimal(rt, hash[q])?;
-        q += 1;
-    }
-    Ok(())
-}
+#[derive(Clone, Copy)]
+struct Digest<'a>(&'a [u8]);
 
-// The digests of len bytes at `place` of each room.
-fn digests(rt: &impl Print, t: &Table, place: usize, n: usize, len: usize) -> io::Result<()>
-    requires { place ≤ 89222 }
-{
-    let mut i = 0;
-    while i < n {
-        digest(
-            rt,
-            crate::table::part(t, crate::table::room(i) + place, len),
-        )?;
-        i += 1;
+impl fmt::Display for Digest<'_> {
+    fn fmt<W: fmt::Write>(&self, f: &mut fmt::Formatter<W>) -> fmt::Result {
+        let mut hash = [0; 32];
+        blake3::hash(self.0, &mut hash);
+        write!(f, "{} ", self.0.len())?;
+        for b in &hash[..8] {
+            write!(f, "{b:02x}")?;
+        }
+        Ok(())
     }
-    Ok(())
 }
 
 // Round k, and what each box sent for it.
 pub(crate) fn round(rt: &impl Print, t: &Table, n: usize, len: usize, k: usize) -> io::Result<()> {
-    say(rt, b"# ", [k, 0, 0, 0])?;
-    name(rt, k)?;
-    digests(rt, t, crate::table::SENT, n, len)?;
-    text(rt, b"\n")
+    print!(rt; "{k} {}", Name(k))?;
+    for stretch in t.mail.as_chunks::<OUT_LEN>().0.iter().take(n) {
+        print!(rt; ", {}", Digest(first(stretch, len)))?;
+    }
+    println!(rt; "")
+}
+
+// What each box wrote last.
+fn written(rt: &impl Print, rooms: &[Room], len: usize) -> io::Result<()> {
+    print!(rt; "results")?;
+    for room in rooms {
+        print!(rt; ", {}", Digest(first(&room.out, len)))?;
+    }
+    println!(rt; "")
 }
 
 // ---- results
 
-// Whether 16 bytes are the sum of those at `key`, and those at `delta` where the bit is 1.
-fn is_mac(t: &Table, mac: usize, key: usize, delta: usize, bit: u8) -> bool
-    requires { (mac + 16 ≤ 275349) × (key + 16 ≤ 275349) × (delta + 16 ≤ 275349) }
-{
-    let mut good = true;
-    let mut q = 0;
-    while q < 16 {
-        let d = if bit == 1 { t[delta + q] } else { 0 };
-        good = good & (t[mac + q] == t[key + q] ^ d);
-        q += 1;
-    }
-    good
-}
-
 // Whether box j's MAC for k is k's key of j, plus k's delta where j's bit is 1; their records start at `at`.
-fn mac_holds(t: &Table, at: usize, j: usize, k: usize) -> bool
-    requires { (j < 3) × (k < 3) × (at ≤ 49472) }
+fn mac_holds(rooms: &[Room; 3], at: usize, j: usize, k: usize) -> bool
+    requires { (j < 3) × (k < 3) × (at ≤ 7408) }
 {
-    let a = crate::table::room(j) + at;
-    let b = crate::table::room(k);
-    let bit = crate::table::get(t, a);
-    let mac = a + crate::deal::mac_off(k);
-    is_mac(t, mac, b + at + crate::deal::key_off(j), b, bit)
+    let bit = rooms[j].out[at] == 1;
+    let mac = block::load(&rooms[j].out, at + mac_off(k));
+    let key = block::load(&rooms[k].out, at + key_off(j));
+    let delta = block::load(&rooms[k].inputs.delta, 0);
+    mac.equals(key.xor(delta.const_mul(bit)))
 }
 
 // At one position, for each box and each other.
-fn macs_hold(t: &Table, at: usize, n: usize) -> bool
-    requires { at ≤ 49472 }
+fn macs_hold(rooms: &[Room; 3], at: usize, n: usize) -> bool
+    requires { (at ≤ 7408) × (n ≤ 3) }
 {
     let mut good = true;
-    let mut q = 0;
-    while q < 9 {
-        let j = q / 3;
-        let k = q % 3;
-        if (j < n) & (k < n) & (j != k) {
-            good = good & mac_holds(t, at, j, k);
+    for j in 0..n {
+        for k in 0..n {
+            good &= j == k || mac_holds(rooms, at, j, k);
         }
-        q += 1;
     }
     good
 }
 
-// The XOR of the boxes' bytes at `at`.
-fn joint(t: &Table, at: usize, n: usize) -> u8
-    requires { at ≤ 89222 }
+fn right(good: bool) -> &'static str {
+    if good { "holds" } else { "IS BROKEN" }
+}
+
+// One position of the results; alpha, beta and the AND are the XOR of the boxes' bits.
+fn result(rt: &impl Print, rooms: &[Room; 3], at: usize, n: usize) -> io::Result<()>
+    requires { (n ≤ 3) × (at ≤ 7408) }
 {
-    let mut sum = 0;
-    let mut i = 0;
-    while i < n {
-        sum = sum ^ crate::table::get(t, crate::table::room(i) + at);
-        i += 1;
+    let mut alpha = 0;
+    let mut beta = 0;
+    let mut bit = 0;
+    for room in &rooms[..n] {
+        alpha ^= room.inputs.lists[ALPHA + at];
+        beta ^= room.inputs.lists[BETA + at];
+        bit ^= room.out[at];
     }
-    sum
+    println!(rt;
+        "the MAC rule {}, alpha {alpha} and beta {beta} is {bit}: the AND {}",
+        right(macs_hold(rooms, at, n)),
+        right(alpha & beta == bit)
+    )
 }
 
-fn right(rt: &impl Print, good: bool) -> io::Result<()> {
-    if good {
-        text(rt, b"holds")
-    } else {
-        text(rt, b"IS BROKEN")
-    }
-}
-
-// One position of the results.
-fn result(rt: &impl Print, t: &Table, at: usize, n: usize) -> io::Result<()>
-    requires { (n ≤ 3) × (at ≤ 1536) }
-{
-    let alpha = joint(t, ALPHA + at, n);
-    let beta = joint(t, BETA + at, n);
-    let bit = joint(t, OUT + at, n);
-    text(rt, b"the MAC rule ")?;
-    right(rt, macs_hold(t, OUT + at, n))?;
-    say(
-        rt,
-        b", alpha # and beta # is #: the AND ",
-        [alpha as usize, beta as usize, bit as usize, 0],
-    )?;
-    right(rt, alpha & beta == bit)?;
-    text(rt, b"\n")
-}
-
-// All of them, len bytes.
-fn positions(rt: &impl Print, t: &Table, n: usize, len: usize) -> io::Result<()>
-    requires { (n ≤ 3) × (len ≤ 1536) }
-{
-    let size = crate::deal::record_len(n);
-    let mut at = 0;
-    while at < len {
-        result(rt, t, at, n)?;
-        at += size;
+pub(crate) fn results(rt: &impl Print, t: &Table, p: &Play) -> io::Result<()> {
+    let len = plan::shares_len(p.n, p.l).min(1536);
+    written(rt, &t.rooms[..p.n], len)?;
+    for at in (0..len).step_by(record_len(p.n)) {
+        result(rt, &t.rooms, at, p.n)?;
     }
     Ok(())
 }
 
-pub(crate) fn results(rt: &impl Print, t: &Table, n: usize, len: usize) -> io::Result<()>
-    requires { (n ≤ 3) × (len ≤ 1536) }
-{
-    text(rt, b"results")?;
-    digests(rt, t, OUT, n, len)?;
-    text(rt, b"\n")?;
-    positions(rt, t, n, len)
-}
-
 // ---- ends
 
-// Whether the work areas are zero.
-fn zeroed(t: &Table, n: usize) -> bool {
-    let mut good = true;
-    let mut i = 0;
-    while i < n {
-        good = good & (crate::table::noted(t, i, ZERO) == 1);
-        i += 1;
-    }
-    good
-}
-
 // What a box sent in all, and the work areas.
-pub(crate) fn left(rt: &impl Print, t: &Table, n: usize, sum: usize) -> io::Result<()> {
-    if zeroed(t, n) {
-        say(
-            rt,
-            b"a box sent # bytes; the work areas are zero\n",
-            [sum, 0, 0, 0],
-        )
+pub(crate) fn left(rt: &impl Print, rooms: &[Room], sum: usize) -> io::Result<()> {
+    let left = if rooms.iter().all(|room| room.log.zero) {
+        "zero"
     } else {
-        say(
-            rt,
-            b"a box sent # bytes; the work areas are NOT ZERO\n",
-            [sum, 0, 0, 0],
-        )
-    }
+        "NOT ZERO"
+    };
+    println!(rt; "a box sent {sum} bytes; the work areas are {left}")
 }
 
-// How box i ended.
-fn end(rt: &impl Print, t: &Table, i: usize) -> io::Result<()> {
-    let code = crate::table::noted(t, i, NUMBER);
-    let xs = [
-        i,
-        code,
-        crate::table::noted(t, i, PARTY),
-        crate::table::noted(t, i, ROUND),
-    ];
-    if code == 0 {
-        say(rt, b"  box #: done\n", xs)
-    } else if crate::table::noted(t, i, CLEAN) == 1 {
-        say(
-            rt,
-            b"  box #: # of # in round #; its work area is zero, its buffer untouched\n",
-            xs,
-        )
-    } else {
-        say(
-            rt,
-            b"  box #: # of # in round #; ITS MEMORY IS NOT AS DUE\n",
-            xs,
-        )
-    }
-}
-
-pub(crate) fn ends(rt: &impl Print, t: &Table, n: usize) -> io::Result<()> {
-    let mut i = 0;
-    while i < n {
-        end(rt, t, i)?;
-        i += 1;
+pub(crate) fn ends(rt: &impl Print, rooms: &[Room]) -> io::Result<()> {
+    for (i, room) in rooms.iter().enumerate() {
+        println!(rt; "  box {i}: {}", room.log)?;
     }
     Ok(())
 }
 
 // ---- batches
 
-fn list(rt: &impl Print, b: List) -> io::Result<()> {
-    let counts = b.counts;
-    let len = b.len;
-    let mut q: usize = 0;
-    while q < 16 {
-        if q < len {
-            say(rt, b" #", [crate::table::wide(counts[q]), 0, 0, 0])?;
-        }
-        q += 1;
-    }
-    Ok(())
-}
-
 // The lists that the boxes are lent.
-pub(crate) fn lists(rt: &impl Print, p: Play) -> io::Result<()> {
-    let n = p.n;
-    say(rt, b"parties #, results # in batches of", [n, p.l, 0, 0])?;
-    let mut i = 0;
-    while i < n {
+pub(crate) fn lists(rt: &impl Print, p: &Play) -> io::Result<()> {
+    print!(rt; "parties {}, results {} in batches of", p.n, p.l)?;
+    for (i, counts) in p.batches[..p.n].iter().enumerate() {
         if i != 0 {
-            text(rt, b",")?;
+            print!(rt; ",")?;
         }
-        list(rt, crate::boxes::batches(p, i))?;
-        i += 1;
+        for count in *counts {
+            print!(rt; " {count}")?;
+        }
     }
-    text(rt, b"\n")
-}
-
-// Whether the room of box i has the same inputs, messages and results in both.
-fn same(t: &Table, u: &Table, i: usize) -> bool {
-    let room = crate::table::room(i);
-    crate::table::equal(
-        crate::table::part(t, room, DUE),
-        crate::table::part(u, room, DUE),
-    )
+    println!(rt; "")
 }
 
 // What was written in batches, u, and whether it is what was in one, t.
@@ -309,69 +156,56 @@ pub(crate) fn batched(
     rt: &impl Print,
     t: &Table,
     u: &Table,
-    n: usize,
+    p: &Play,
     sum: usize,
-    len: usize,
 ) -> io::Result<()> {
-    text(rt, b"messages")?;
-    digests(rt, u, ALL, n, sum)?;
-    text(rt, b"\nresults")?;
-    digests(rt, u, OUT, n, len)?;
-    if same(t, u, 0) & same(t, u, 1) & same(t, u, 2) {
-        text(rt, b"\nthe same as in one batch\n")
+    let rooms = &u.rooms[..p.n];
+    print!(rt; "messages")?;
+    for room in rooms {
+        print!(rt; ", {}", Digest(first(&room.all, sum)))?;
+    }
+    println!(rt; "")?;
+    written(rt, rooms, plan::shares_len(p.n, p.l))?;
+    if t.mail == u.mail && t.rooms.iter().zip(&u.rooms).all(|(a, b)| a.same(b)) {
+        println!(rt; "the same as in one batch")
     } else {
-        text(rt, b"\nNOT THE SAME as in one batch\n")
+        println!(rt; "NOT THE SAME as in one batch")
     }
 }
 
-// What the last call told box i: each batch's count and first record.
-fn told(rt: &impl Print, t: &Table, i: usize) -> io::Result<()> {
-    say(rt, b"  box #: done; told", [i, 0, 0, 0])?;
-    let mut used = true;
-    let mut clean = true;
-    let mut q: usize = 0;
-    while q < 16 {
-        let first = crate::table::noted(t, i, TOLD + 2 * q);
-        let count = crate::table::noted(t, i, TOLD + 2 * q + 1);
-        used = used & (count != 0);
-        if used {
-            say(rt, b" # from #;", [count, first, 0, 0])?;
-        } else {
-            clean = clean & (first == 0) & (count == 0);
+// What the last call told each box: each batch's count and first record.
+pub(crate) fn told(rt: &impl Print, rooms: &[Room]) -> io::Result<()> {
+    for (i, room) in rooms.iter().enumerate() {
+        print!(rt; "  box {i}: {}", room.log)?;
+        if room.log.refusal.is_none() {
+            print!(rt; "; told")?;
+            let (pairs, _) = room.log.told.as_chunks::<2>();
+            for [first, count] in pairs.iter().take_while(|pair| pair[1] != 0) {
+                print!(rt; " {count} from {first};")?;
+            }
+            let clean = pairs
+                .iter()
+                .skip_while(|pair| pair[1] != 0)
+                .all(|&pair| pair == [0, 0]);
+            print!(rt;
+                "{}",
+                if clean {
+                    " zeros else"
+                } else {
+                    " NOT ZEROS ELSE"
+                }
+            )?;
         }
-        q += 1;
-    }
-    if clean {
-        text(rt, b" zeros else\n")
-    } else {
-        text(rt, b" NOT ZEROS ELSE\n")
-    }
-}
-
-pub(crate) fn told_all(rt: &impl Print, t: &Table, n: usize) -> io::Result<()> {
-    let mut i = 0;
-    while i < n {
-        if crate::table::noted(t, i, NUMBER) == 0 {
-            told(rt, t, i)?;
-        } else {
-            end(rt, t, i)?;
-        }
-        i += 1;
+        println!(rt; "")?;
     }
     Ok(())
 }
 
 // Whether each box was told of batches by one call alone.
-pub(crate) fn quiet(rt: &impl Print, t: &Table, n: usize) -> io::Result<()> {
-    let mut good = true;
-    let mut i = 0;
-    while i < n {
-        good = good & (crate::table::noted(t, i, LOUD) == 1);
-        i += 1;
-    }
-    if good {
-        text(rt, b"every other call told zeros\n")
+pub(crate) fn quiet(rt: &impl Print, rooms: &[Room]) -> io::Result<()> {
+    if rooms.iter().all(|room| room.log.loud == 1) {
+        println!(rt; "every other call told zeros")
     } else {
-        text(rt, b"ANOTHER CALL TOLD OF BATCHES\n")
+        println!(rt; "ANOTHER CALL TOLD OF BATCHES")
     }
 }

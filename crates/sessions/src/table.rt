@@ -1,157 +1,201 @@
-// One table holds all that a session has but its work areas, so that functions lend a single buffer on: a room for each of three boxes,
-// then r. A room has the box's inputs, what it wrote, what it sent last and in all, and its log. There is room for 3 boxes with l up to 6, and
-// for 2 with l up to 16.
-ghost use Rattle.std.specs.Prelude.{◌+◌, ◌≤◌};
+// All that a session has but its work areas: a room for each of three boxes, what they sent last, and r. There is room for 3 boxes with l
+// up to 6, and for 2 with l up to 16.
+ghost use Rattle.std.specs.Prelude.{◌+◌, ◌<◌, ◌≤◌};
 
-pub type Table = [u8; TABLE_LEN];
+use block::Block;
+use engine::{Answer, Frame, Session, Verdict};
+use share::LENT_HEAD;
+use std::fmt;
 
-pub const TABLE_LEN: usize = 275349;
-
-// Where the parts of a room start: of the inputs (deal.rt) the lists of records, behind them what was written and sent.
-pub const ALPHA: usize = 304;
-
-pub const BETA: usize = 1840;
-
-pub const BITS: usize = 3376;
-
-pub const OUT: usize = 41776;
-
-pub const SENT: usize = 49472;
-
-pub const ALL: usize = 57168;
-
-// The round that is due; of a refusal its number, party and round; whether the last call left zeros in the work area, and also the outgoing
-// buffer alone.
-pub const DUE: usize = 89168;
-
-pub const NUMBER: usize = 89169;
-
-pub const PARTY: usize = 89170;
-
-pub const ROUND: usize = 89171;
-
-pub const ZERO: usize = 89172;
-
-pub const CLEAN: usize = 89173;
-
-// How many calls told of batches; the session's counts, and what the last call told, a byte each.
-pub const LOUD: usize = 89174;
-
-pub const COUNTS: usize = 89175;
-
-pub const TOLD: usize = 89191;
-
-// Behind the rooms.
-pub const STRINGS: usize = 267669;
-
-// What there is room for.
+// The bytes of a list of shares, of what a box writes in a call, of that of three, of what a box sends in all, and of r.
 pub const SHARES_LEN: usize = 1536;
-
-pub const BITS_LEN: usize = 38400;
 
 pub const OUT_LEN: usize = 7696;
 
-// Where the room of box i starts.
-pub(crate) fn room(i: usize) -> usize
-    ensures { result ≤ 178446 }
-{
-    if i < 3 { 89223 * i } else { 0 }
+pub const MAIL_LEN: usize = 3 * OUT_LEN;
+
+pub const ALL_LEN: usize = 32000;
+
+pub const STRINGS_LEN: usize = 7680;
+
+// Where a box's lists of records start, and what there is room for: behind the last record it holds the longest.
+pub const ALPHA: usize = 0;
+
+pub const BETA: usize = 1536;
+
+pub const BITS: usize = 3072;
+
+pub const BITS_LEN: usize = 38400;
+
+pub const LISTS_LEN: usize = 41760;
+
+#[derive(Drop)]
+pub struct Table {
+    pub rooms: [Room; 3],
+
+    // what each box sent last, OUT_LEN bytes a box
+    pub mail: [u8; MAIL_LEN],
+    pub strings: [u8; STRINGS_LEN],
 }
 
-pub(crate) fn least(a: usize, b: usize) -> usize
-    ensures { result ≤ b }
-{
-    if a < b { a } else { b }
+// A box: what it is lent (deal.rt), what it wrote last and what it sent in all.
+#[derive(Drop)]
+pub struct Room {
+    pub inputs: Inputs,
+    pub out: [u8; OUT_LEN],
+    pub all: [u8; ALL_LEN],
+    pub log: Log,
 }
 
-pub(crate) fn small(x: usize) -> u8 {
-    if x < 256 { x as u8 } else { 255 }
+#[derive(PartialEq, Eq, Drop)]
+pub struct Inputs {
+    pub delta: [u8; 16],
+    pub seed: [u8; 32],
+    pub pairs: [u8; 96],
+    pub masks: [u8; 160],
+    pub lists: [u8; LISTS_LEN],
 }
 
-pub(crate) fn wide(x: u32) -> usize {
-    x as usize
-}
-
-pub(crate) fn get(t: &Table, at: usize) -> u8 {
-    if at < TABLE_LEN { t[at] } else { 0 }
-}
-
-pub(crate) fn put(t: &mut Table, at: usize, b: u8) {
-    if at < TABLE_LEN {
-        t[at] = b;
+impl Table {
+    pub(crate) fn new() -> Self {
+        Table {
+            rooms: [Room::new(), Room::new(), Room::new()],
+            mail: [0; MAIL_LEN],
+            strings: [0; STRINGS_LEN],
+        }
     }
 }
 
-// A number of box i's log.
-pub(crate) fn noted(t: &Table, i: usize, place: usize) -> usize
-    requires { place ≤ 89222 }
-{
-    get(t, room(i) + place) as usize
-}
-
-// `len` bytes; none where there aren't as many.
-pub(crate) fn part(s: &[u8], at: usize, len: usize) -> &[u8] {
-    if s.len() < at {
-        return &s[0..0];
+impl Room {
+    fn new() -> Self {
+        Room {
+            inputs: Inputs {
+                delta: [0; 16],
+                seed: [0; 32],
+                pairs: [0; 96],
+                masks: [0; 160],
+                lists: [0; LISTS_LEN],
+            },
+            out: [0; OUT_LEN],
+            all: [0; ALL_LEN],
+            log: Log::new(),
+        }
     }
-    if s.len() - at < len {
-        return &s[0..0];
-    }
-    let e = at + len;
-    &s[at..e]
-}
 
-pub(crate) fn copy(t: &mut Table, to: usize, from: usize, len: usize)
-    requires { (to + len ≤ 275349) × (from + len ≤ 275349) }
-{
-    let mut q = 0;
-    while q < len {
-        t[to + q] = t[from + q];
-        q += 1;
+    // Whether the inputs, all messages and what was written last are the same.
+    pub(crate) fn same(&self, o: &Room) -> bool {
+        self.inputs == o.inputs && self.out == o.out && self.all == o.all
     }
 }
 
-pub(crate) fn store(t: &mut Table, to: usize, s: &[u8])
-    requires { to ≤ 275349 }
-{
-    let mut q = 0;
-    while q < s.len() {
-        put(t, to + q, s[q]);
-        q += 1;
+impl Inputs {
+    // 16 bytes of a record.
+    pub(crate) fn put(&mut self, at: usize, b: Block)
+        requires { at + 16 ≤ 41760 }
+    {
+        let lists = &mut self.lists[..];
+        block::store(&mut lists[at..at + 16], b);
+    }
+
+    // The head of box j's record among n.
+    pub(crate) fn put_head(&mut self, at: usize, n: usize, j: usize, bit: bool)
+        requires { (at + 32 ≤ 41760) × (n ≤ 8) × (j < n) }
+    {
+        let lists = &mut self.lists[..];
+        share::put_lent_head(&mut lists[at..at + LENT_HEAD], n, j, bit);
     }
 }
 
-// Numbers, a byte each: 255 for what is more.
-pub(crate) fn store_numbers(t: &mut Table, to: usize, s: &[u32])
-    requires { to ≤ 275349 }
-{
-    let mut q = 0;
-    while q < s.len() {
-        put(t, to + q, small(wide(s[q])));
-        q += 1;
+// The first n; none where there aren't as many.
+pub(crate) fn first<T>(s: &[T], n: usize) -> &[T] {
+    s.get(..n).unwrap_or(&[])
+}
+
+// ---- the log
+
+// A refusal: the number, the party, and the round of the call.
+#[derive(Clone, Copy)]
+pub struct Refusal {
+    pub number: u8,
+    pub party: usize,
+    pub round: usize,
+}
+
+// A box's session, the refusal that ended it, and what the last call told; whether that left zeros in the work area, and also the outgoing
+// buffer alone; how many calls told of batches.
+#[derive(Clone, Copy)]
+pub struct Log {
+    pub session: Session,
+    pub refusal: Option<Refusal>,
+    pub told: [u32; 32],
+    pub zero: bool,
+    pub clean: bool,
+    pub loud: u8,
+}
+
+fn refused(v: Verdict, round: usize) -> Option<Refusal> {
+    match v {
+        Verdict::Accepted => None,
+        Verdict::Refused(number, party) => Some(Refusal {
+            number,
+            party,
+            round,
+        }),
     }
 }
 
-// Whether there is nothing but b.
-pub(crate) fn only(s: &[u8], b: u8) -> bool {
-    let mut good = true;
-    let mut q = 0;
-    while q < s.len() {
-        good = good & (s[q] == b);
-        q += 1;
+impl Log {
+    fn new() -> Self {
+        Log {
+            session: Session {
+                party: Frame { n: 0, i: 0, l: 0 },
+                due: 0,
+                counts: [0; 16],
+            },
+            refusal: None,
+            told: [0; 32],
+            zero: false,
+            clean: false,
+            loud: 0,
+        }
     }
-    good
+
+    // Whether the box refused in a round before k.
+    pub(crate) fn ended_before(&self, k: usize) -> bool {
+        self.refusal.is_some_and(|r| r.round != k)
+    }
+
+    // What was answered in round k, and what it left.
+    pub(crate) fn note(&mut self, a: Answer, k: usize, zero: bool, clean: bool) {
+        self.zero = zero;
+        self.clean = clean;
+        self.session = a.session;
+        self.refusal = refused(a.verdict, k);
+        self.told = a.told;
+        if !a.told.iter().all(|&x| x == 0) {
+            self.loud = self.loud.saturating_add(1);
+        }
+    }
 }
 
-pub(crate) fn equal(s: &[u8], u: &[u8]) -> bool {
-    if s.len() != u.len() {
-        return false;
+// How the box ended.
+impl fmt::Display for Log {
+    fn fmt<W: fmt::Write>(&self, f: &mut fmt::Formatter<W>) -> fmt::Result {
+        let Some(
+            Refusal {
+                number,
+                party,
+                round,
+            },
+        ) = self.refusal
+        else {
+            return f.write_str("done");
+        };
+        write!(f, "{number} of {party} in round {round}; ")?;
+        f.write_str(if self.clean {
+            "its work area is zero, its buffer untouched"
+        } else {
+            "ITS MEMORY IS NOT AS DUE"
+        })
     }
-    let mut good = true;
-    let mut q = 0;
-    while q < s.len() {
-        good = good & (s[q] == u[q]);
-        q += 1;
-    }
-    good
 }

@@ -2,7 +2,9 @@
 ghost use Rattle.std.specs.Prelude.{◌<◌, ◌≤◌};
 
 use crate::record::Play;
-use crate::table::{ALPHA, BETA, BITS, INPUTS, INPUTS_LEN, OUT_LEN, REFUSED, STRINGS, Table};
+use crate::table::{
+    ALPHA, BETA, BITS, INPUTS, INPUTS_LEN, OUT_LEN, REFUSED, STRINGS, Table, first,
+};
 use engine::{Answer, Frame, Session, Verdict};
 
 // What an outgoing buffer holds before a call.
@@ -47,29 +49,58 @@ fn absent(t: &Table, j: usize, k: usize) -> u8
     block::bit_byte((round != 0) & (round != crate::table::small(k)))
 }
 
-// What rule w does to the mail of box i in round k.
-fn ruled(t: &mut Table, w: u64, i: usize, k: usize, mail: Mail) -> Mail {
-    let from = crate::table::field(w, 2);
-    let to = crate::table::field(w, 3);
-    let mut now = mail;
-    if (crate::table::field(w, 1) != k) | (from == i) | ((to != i) & (to != 255)) {
-        return now;
+// What a rule does to a message: a byte is changed, the message ends early, or it is missing.
+#[derive(Clone, Copy)]
+enum Damage {
+    Xor { at: usize, mask: u8 },
+    End(usize),
+    Missing,
+}
+
+// A rule of a session, for the messages of a round from one box to one other, or to all.
+#[derive(Clone, Copy)]
+struct Rule {
+    damage: Damage,
+    round: usize,
+    from: usize,
+    to: Option<usize>,
+}
+
+impl Rule {
+    fn of(w: u64) -> Self {
+        let at = (w >> 48) as usize;
+        let to = crate::table::field(w, 3);
+        Rule {
+            damage: match crate::table::field(w, 0) {
+                0 => Damage::Xor {
+                    at,
+                    mask: crate::table::small(crate::table::field(w, 4)),
+                },
+                1 => Damage::End(at),
+                _ => Damage::Missing,
+            },
+            round: crate::table::field(w, 1),
+            from: crate::table::field(w, 2),
+            to: if to == 255 { None } else { Some(to) },
+        }
     }
-    if 8 <= from {
-        return now;
+
+    // What it does to the mail of box i in round k; bytes are changed where they lie.
+    fn apply(self, t: &mut Table, i: usize, k: usize, mail: &mut Mail) {
+        let from = self.from;
+        if self.round != k || from == i || self.to.unwrap_or(i) != i || 8 <= from {
+            return;
+        }
+        match self.damage {
+            Damage::Xor { at, mask } => {
+                let spot = crate::table::sum(mail.starts[from], at);
+                let b = crate::table::get(t, spot);
+                crate::table::put(t, spot, b ^ mask);
+            }
+            Damage::End(len) => mail.lens[from] = len,
+            Damage::Missing => mail.missing[from] = 1,
+        }
     }
-    let kind = crate::table::field(w, 0);
-    let at = (w >> 48) as usize;
-    if kind == 0 {
-        let spot = crate::table::sum(now.starts[from], at);
-        let b = crate::table::get(t, spot);
-        crate::table::put(t, spot, b ^ crate::table::small(crate::table::field(w, 4)));
-    } else if kind == 1 {
-        now.lens[from] = at;
-    } else {
-        now.missing[from] = 1;
-    }
-    now
 }
 
 // What was sent to box i.
@@ -79,95 +110,89 @@ fn letters(t: &Table, r: Turn, i: usize) -> Mail {
         lens: [0; 8],
         missing: [0; 8],
     };
-    let mut j = 0;
-    while j < 8 {
+    for j in 0..8 {
         now.starts[j] = crate::table::sum(r.from, letter(i, j, r.len));
         now.lens[j] = r.len;
         now.missing[j] = absent(t, j, r.k);
-        j += 1;
     }
     now
 }
 
-// The same by the rules; bytes are changed where they lie.
+// The same by the rules.
 pub(crate) fn delivered(t: &mut Table, p: Play, r: Turn, i: usize) -> Mail {
     let mut now = letters(t, r, i);
-    let end = crate::table::least(p.hashes, 2000000000);
-    let mut at = p.rules;
-    while at < end {
-        now = ruled(t, crate::table::word(t, at), i, r.k, now);
-        at += 8;
+    for at in (p.rules..p.hashes.min(2000000000)).step_by(8) {
+        Rule::of(crate::table::word(t, at)).apply(t, i, r.k, &mut now);
     }
     now
 }
 
 // ---- the calls
 
-// What a call answered: the number and party of a refusal, the round due, and whether the session is still that of the box, and told what
-// is due.
+// A refusal: its number and the party that it names.
+#[derive(Clone, Copy, PartialEq, Eq)]
+pub struct Refusal {
+    pub number: usize,
+    pub party: usize,
+}
+
+pub(crate) fn refused(v: Verdict) -> Option<Refusal> {
+    match v {
+        Verdict::Accepted => None,
+        Verdict::Refused(number, party) => Some(Refusal {
+            number: number as usize,
+            party,
+        }),
+    }
+}
+
+// What stands in a record: the number and the party, 0 for a box that goes on or is done.
+pub(crate) fn recorded(refusal: Option<Refusal>) -> (usize, usize) {
+    match refusal {
+        None => (0, 0),
+        Some(Refusal { number, party }) => (number, party),
+    }
+}
+
+// What a call answered: its refusal, the round due, and whether the session is still that of the box, and told what is due.
 #[derive(Clone, Copy)]
 pub struct Reply {
-    pub code: usize,
-    pub party: usize,
+    pub refusal: Option<Refusal>,
     pub due: usize,
     pub same: bool,
 }
 
-pub(crate) fn verdict(v: Verdict) -> Reply {
-    match v {
-        Verdict::Accepted => Reply {
-            code: 0,
-            party: 0,
-            due: 0,
-            same: true,
-        },
-        Verdict::Refused(code, party) => Reply {
-            code: code as usize,
-            party: party,
-            due: 0,
-            same: true,
-        },
-    }
-}
-
 // l as the count of the only batch.
 fn single(l: usize) -> u32 {
-    wide(crate::table::small(l))
-}
-
-fn wide(x: u8) -> u32 {
-    x as u32
+    u32::from(crate::table::small(l))
 }
 
 // Whether x stands at `at` of the numbers, and zeros else.
 fn alone(s: &[u32], at: usize, x: u32) -> bool {
-    let mut good = true;
-    let mut q = 0;
-    while q < s.len() {
-        let due = if q == at { x } else { 0 };
-        good = good & (s[q] == due);
-        q += 1;
-    }
-    good
+    s.iter()
+        .enumerate()
+        .all(|(q, &y)| y == if q == at { x } else { 0 })
 }
 
 // What the call for round k answered. The last tells of the batch if it accepts; the others tell zeros.
 fn answered(a: Answer, n: usize, i: usize, l: usize, k: usize) -> Reply {
     let s = a.session;
     let f = s.party;
-    let counts = s.counts;
-    let told = a.told;
-    let v = a.verdict;
-    let mut now = verdict(v);
-    now.due = s.due;
-    let due = if (k == plan::FAAND) & (now.code == 0) {
+    let refusal = refused(a.verdict);
+    let told = if k == plan::FAAND && refusal.is_none() {
         single(l)
     } else {
         0
     };
-    let kept = alone(&counts, 0, single(l)) & alone(&told, 1, due);
-    now.same = (f.n == n) & (f.i == i) & (f.l == l) & kept;
-    now
+    Reply {
+        refusal,
+        due: s.due,
+        same: f.n == n
+            && f.i == i
+            && f.l == l
+            && alone(&s.counts, 0, single(l))
+            && alone(&a.told, 1, told),
+    }
 }
 
 fn opened(t: &Table, n: usize, i: usize, l: usize, work: &mut [u8], out: &mut [u8]) -> Answer {
@@ -190,37 +215,15 @@ fn opened(t: &Table, n: usize, i: usize, l: usize, work: &mut [u8], out: &mut [u
     )
 }
 
-// The first n numbers, or marks.
-fn firsts(s: &[usize; 8], n: usize) -> &[usize] {
-    let t = &s[..];
-    if t.len() < n {
-        return t;
-    }
-    &t[0..n]
-}
-
-fn marks(s: &[u8; 8], n: usize) -> &[u8] {
-    let t = &s[..];
-    if t.len() < n {
-        return t;
-    }
-    &t[0..n]
-}
-
 fn called(t: &Table, s: Session, k: usize, mail: Mail, work: &mut [u8], out: &mut [u8]) -> Answer {
-    let f = s.party;
-    let n = f.n;
-    let l = f.l;
-    let starts = mail.starts;
-    let lens = mail.lens;
-    let missing = mail.missing;
+    let Frame { n, l, .. } = s.party;
     session::round(
         s,
         k,
         t,
-        firsts(&starts, n),
-        firsts(&lens, n),
-        marks(&missing, n),
+        first(&mail.starts, n),
+        first(&mail.lens, n),
+        first(&mail.missing, n),
         crate::table::part(t, STRINGS, plan::r_due(n, l, k)),
         work,
         out,
@@ -243,12 +246,12 @@ pub(crate) fn call(
     if k == 0 {
         return answered(opened(t, n, i, l, work, out), n, i, l, k);
     }
-    let mut counts: [u32; 16] = [0; 16];
+    let mut counts = [0; 16];
     counts[0] = single(l);
     let s = Session {
-        party: Frame { n: n, i: i, l: l },
-        due: due,
-        counts: counts,
+        party: Frame { n, i, l },
+        due,
+        counts,
     };
     answered(called(t, s, k, mail, work, out), n, i, l, k)
 }

@@ -15,10 +15,8 @@ const RESULT_LEN: usize = 864;
 fn put_ds(t: &mut Table, seed: u64, i: usize, count: usize)
     requires { count ≤ 255 }
 {
-    let mut q = 0;
-    while q < count {
+    for q in 0..count {
         crate::table::put(t, DS + q, crate::record::draw_bit(seed, 9, i, 0, q + 1));
-        q += 1;
     }
 }
 
@@ -27,7 +25,7 @@ fn differs(t: &Table, w: u64, at: usize, out: &mut [u8]) -> u64 {
     let i = crate::table::field(w, 1);
     let count = crate::table::field(w, 2);
     let len = crate::table::product(count, out.len());
-    let ds = if count == 0 { 0 } else { count - 1 };
+    let ds = count.saturating_sub(1);
     let v = combine::combine(
         crate::table::field(w, 0),
         i,
@@ -36,10 +34,11 @@ fn differs(t: &Table, w: u64, at: usize, out: &mut [u8]) -> u64 {
         crate::table::part(t, DS, ds),
         out,
     );
-    let a = crate::boxes::verdict(v);
-    let x = crate::report::unless(a.code == crate::table::field(w, 3), NUMBER, 0);
-    let y = crate::report::unless((a.code == 0) | (a.party == i), PARTY, x);
-    y | crate::turns::written(t, at, a.code, out)
+    let refusal = crate::boxes::refused(v);
+    let (number, party) = crate::boxes::recorded(refusal);
+    let x = crate::report::unless(number == crate::table::field(w, 3), NUMBER, 0);
+    let y = crate::report::unless(refusal.is_none() || party == i, PARTY, x);
+    y | crate::turns::written(t, at, refusal.is_some(), out)
 }
 
 // The combining recorded at `at`.
@@ -60,10 +59,7 @@ pub(crate) fn replay(rt: &impl Print, t: &mut Table, at: usize) -> io::Result<()
     };
     crate::table::count(t, place, 1);
     let mut out = [MARK; RESULT_LEN];
-    let size = crate::table::least(
-        crate::table::product(3, crate::record::record_len(n)),
-        RESULT_LEN,
-    );
+    let size = crate::table::product(3, crate::record::record_len(n)).min(RESULT_LEN);
     let bad = differs(t, w, at + 16, &mut out[0..size]);
     crate::report::note(rt, t, i, 0, bad)
 }

@@ -88,13 +88,11 @@ fn replay(
 fn replay_all(rt: &impl Print, t: &mut Table, works: &mut Works, end: usize) -> io::Result<()> {
     let count = table::length(t, LIST + 8);
     let mut at = LIST + 16;
-    let mut q = 0;
-    while q < count {
+    for q in 0..count {
         table::put_block(t, CURRENT, Block(q as u64, 0));
         let next = table::sum(at, table::length(t, at));
         replay(rt, t, works, at, next)?;
         at = next;
-        q += 1;
     }
     note_list(rt, t, SESSIONS, (at == end) & (0 < count))
 }
@@ -109,12 +107,10 @@ fn combinings(rt: &(impl Files + Print + Eprint), t: &mut Table) -> io::Result<(
     let end = read(rt, t, LIST, "combine")?;
     let count = table::length(t, LIST + 8);
     let mut at = LIST + 16;
-    let mut q = 0;
-    while q < count {
+    for q in 0..count {
         table::put_block(t, CURRENT, Block(q as u64, 0));
         combining::replay(rt, t, at)?;
         at = table::sum(at, 48);
-        q += 1;
     }
     note_list(rt, t, COMBININGS, (at == end) & (0 < count))
 }

@@ -30,12 +30,12 @@ pub(crate) fn parse(t: &Table, at: usize) -> Play
     let hashes = rules + 8 * crate::table::field(w, 7);
     let rows = if n == 2 { 480 * n } else { 736 * n };
     Play {
-        n: n,
-        l: l,
-        leaky: leaky,
+        n,
+        l,
+        leaky,
         seed: crate::table::word(t, at + 8),
-        rules: rules,
-        hashes: hashes,
+        rules,
+        hashes,
         ends: crate::table::sum(hashes, rows),
     }
 }
@@ -52,16 +52,14 @@ pub(crate) fn draw_bit(seed: u64, kind: u64, j: usize, k: usize, q: usize) -> u8
 }
 
 pub(crate) fn strings(t: &mut Table, seed: u64) {
-    let mut q = 0;
-    while q < 180 {
+    for q in 0..180 {
         crate::table::put_digest(t, STRINGS + 32 * q, draw(seed, 7, 0, 0, q));
-        q += 1;
     }
 }
 
 // The bytes of a record among n boxes.
 pub(crate) fn record_len(n: usize) -> usize {
-    share::lent_len(crate::table::least(n, 8))
+    share::lent_len(n.min(8))
 }
 
 // j's entry for k in its record q among n boxes, which starts at `at`; with its own entry, which is zero, the head. Kind 8: an entry is
@@ -80,7 +78,7 @@ fn entry(t: &mut Table, at: usize, seed: u64, kind: u64, n: usize, j: usize, k: 
         mac = d.block().xor(draw(seed, 0, k, 0, 0).block().const_mul(bit));
         key = draw(seed, kind, k, j, q).block();
     }
-    let e = crate::table::least(k, 7);
+    let e = k.min(7);
     let base = crate::table::sum(at, LABEL);
     crate::table::put_block(t, crate::table::sum(base, share::mac_off(e)), mac);
     crate::table::put_block(t, crate::table::sum(base, share::key_off(e)), key);
@@ -101,11 +99,9 @@ pub(crate) fn records(
     }
     let size = record_len(n);
     let entries = crate::table::product(count, n);
-    let mut q = 0;
-    while q < entries {
+    for q in 0..entries {
         let at = crate::table::sum(from, crate::table::product(q / n, size));
         entry(t, at, seed, kind, n, j, q % n, q / n);
-        q += 1;
     }
 }
 
@@ -113,15 +109,10 @@ fn masks(t: &mut Table, seed: u64, j: usize, n: usize, leaky: usize) {
     if leaky == 0 {
         return;
     }
-    let count = crate::table::least(crate::table::product(n, leaky), 600);
-    let mut q = 0;
-    while q < count {
-        crate::table::put(
-            t,
-            INPUTS + 400 + q,
-            draw_bit(seed, 3, j, q / leaky, q % leaky),
-        );
-        q += 1;
+    let count = crate::table::product(n, leaky).min(600);
+    for q in 0..count {
+        let mask = draw_bit(seed, 3, j, q / leaky, q % leaky);
+        crate::table::put(t, INPUTS + 400 + q, mask);
     }
 }
 
@@ -129,10 +120,8 @@ fn masks(t: &mut Table, seed: u64, j: usize, n: usize, leaky: usize) {
 fn seeds(t: &mut Table, seed: u64, j: usize) {
     crate::table::put_block(t, INPUTS, draw(seed, 0, j, 0, 0).block());
     crate::table::put_digest(t, INPUTS + 16, draw(seed, 1, j, 0, 0));
-    let mut k = 0;
-    while k < 8 {
+    for k in 0..8 {
         crate::table::put_digest(t, INPUTS + 48 + 32 * k, draw(seed, 2, j, k, 0));
-        k += 1;
     }
 }
 

@@ -1,38 +1,8 @@
 // What is printed: differences as they are found, and the counts in the end.
-ghost use Rattle.std.specs.Prelude.{◌<◌};
-
 use crate::table::{
     COMBINED, CURRENT, DAMAGED, DIFFERENCES, ENDS, HONEST, MESSAGES, Table, UNCOMBINED,
 };
 use std::io;
-
-// ---- lines
-
-fn number(rt: &impl Print, xs: [usize; 4], q: usize) -> io::Result<()> {
-    if q < 4 {
-        let x = xs[q];
-        print!(rt; "{x}")?;
-    }
-    Ok(())
-}
-
-// Prints a line, with a number in the place of each '#'.
-fn say(rt: &impl Print, line: &[u8], xs: [usize; 4]) -> io::Result<()> {
-    let mut from = 0;
-    let mut count = 0;
-    let mut q = 0;
-    while q < line.len() {
-        let end = q;
-        q += 1;
-        if line[end] == b'#' {
-            rt.write_all(&line[from..end])?;
-            number(rt, xs, count)?;
-            count += 1;
-            from = q;
-        }
-    }
-    rt.write_all(&line[from..])
-}
 
 // ---- differences
 
@@ -75,78 +45,53 @@ pub(crate) fn unless(good: bool, bit: u64, bad: u64) -> u64 {
     if good { bad } else { bad | bit }
 }
 
-// Line q of what the bits mean.
-fn meaning(rt: &impl Print, q: usize) -> io::Result<()> {
-    let all =
-        b"record\nlength of the list\nmark of the list\nrounds left\nsession\nround due\nwhat was written\nsomething written\nnumber\n\
-        round\nparty\na refused call wrote\nwork area not zero\nnot 20 after the end\n20 names another\nsession after the end\n\
-        a round is due after the end\n";
-    let s = &all[..];
-    let mut left = q;
-    let mut from = 0;
-    let mut at = 0;
-    while at < s.len() {
-        let end = at;
-        at += 1;
-        if s[end] == b'\n' {
-            if left == 0 {
-                return rt.write_all(&s[from..at]);
-            }
-            left -= 1;
-            from = at;
-        }
-    }
-    Ok(())
-}
+const MEANINGS: [(u64, &str); 17] = [
+    (RECORD, "record"),
+    (LIST_LENGTH, "length of the list"),
+    (LIST_MARK, "mark of the list"),
+    (ROUNDS_LEFT, "rounds left"),
+    (SESSION, "session"),
+    (ROUND_DUE, "round due"),
+    (WRITTEN, "what was written"),
+    (NOTHING_WRITTEN, "something written"),
+    (NUMBER, "number"),
+    (ROUND, "round"),
+    (PARTY, "party"),
+    (REFUSED_WROTE, "a refused call wrote"),
+    (WORK_AREA, "work area not zero"),
+    (AFTER, "not 20 after the end"),
+    (AFTER_PARTY, "20 names another"),
+    (AFTER_SESSION, "session after the end"),
+    (AFTER_DUE, "a round is due after the end"),
+];
 
 // Counts the differences, and says which: box i, by the call for round k.
 pub(crate) fn note(rt: &impl Print, t: &mut Table, i: usize, k: usize, bad: u64) -> io::Result<()> {
-    let mut q: usize = 0;
-    while q < 17 {
-        if (bad >> q) % 2 == 1 {
+    for (bit, meaning) in MEANINGS {
+        if bad & bit != 0 {
             crate::table::count(t, DIFFERENCES, 1);
-            let xs = [crate::table::length(t, CURRENT), i, k, 0];
-            say(rt, b"difference in #, party #, round #: ", xs)?;
-            meaning(rt, q)?;
+            let current = crate::table::length(t, CURRENT);
+            println!(rt; "difference in {current}, party {i}, round {k}: {meaning}")?;
         }
-        q += 1;
     }
     Ok(())
 }
 
 // ---- the end
 
-// How many boxes ended by each number.
-fn refusals(rt: &impl Print, t: &Table) -> io::Result<()> {
-    let mut k: usize = 1;
-    while k < 256 {
+// How many boxes ended by each number, and the other counts.
+pub(crate) fn report(rt: &impl Print, t: &Table) -> io::Result<()> {
+    println!(rt; "honest sessions {}", crate::table::length(t, HONEST))?;
+    println!(rt; "damaged sessions {}", crate::table::length(t, DAMAGED))?;
+    println!(rt; "messages {}", crate::table::length(t, MESSAGES))?;
+    println!(rt; "results {}", crate::table::length(t, ENDS))?;
+    for k in 1..256 {
         let x = crate::table::length(t, ENDS + 16 * k);
         if x != 0 {
-            say(rt, b"refused by #: #\n", [k, x, 0, 0])?;
+            println!(rt; "refused by {k}: {x}")?;
         }
-        k += 1;
     }
-    Ok(())
-}
-
-pub(crate) fn report(rt: &impl Print, t: &Table) -> io::Result<()> {
-    let of = [
-        crate::table::length(t, HONEST),
-        crate::table::length(t, DAMAGED),
-        crate::table::length(t, MESSAGES),
-        crate::table::length(t, ENDS),
-    ];
-    say(
-        rt,
-        b"honest sessions #\ndamaged sessions #\nmessages #\nresults #\n",
-        of,
-    )?;
-    refusals(rt, t)?;
-    let last = [
-        crate::table::length(t, COMBINED),
-        crate::table::length(t, UNCOMBINED),
-        crate::table::length(t, DIFFERENCES),
-        0,
-    ];
-    say(rt, b"combined #\nnot combined #\ndifferences #\n", last)
+    println!(rt; "combined {}", crate::table::length(t, COMBINED))?;
+    println!(rt; "not combined {}", crate::table::length(t, UNCOMBINED))?;
+    println!(rt; "differences {}", crate::table::length(t, DIFFERENCES))
 }

@@ -5,7 +5,6 @@ ghost use Rattle.std.specs.Prelude.{◌<◌, ◌≤◌};
 use blake3::Digest;
 use block::Block;
 use share::LENT_HEAD;
-use std::num::wrapping_add_u64;
 
 pub type Table = [u8; TABLE_LEN];
 
@@ -59,12 +58,6 @@ pub const OUT_LEN: usize = 35000;
 
 // ---- numbers
 
-pub(crate) fn least(a: usize, b: usize) -> usize
-    ensures { (result ≤ a) × (result ≤ b) }
-{
-    if a < b { a } else { b }
-}
-
 // Sum and product of numbers that fit any file here; 0 for larger ones.
 pub(crate) fn sum(a: usize, b: usize) -> usize
     ensures { result ≤ 2000000000 }
@@ -97,13 +90,13 @@ pub(crate) fn field(w: u64, at: u64) -> usize
 }
 
 pub(crate) fn small(x: usize) -> u8 {
-    if x < 256 { x as u8 } else { 255 }
+    u8::try_from(x).unwrap_or(255)
 }
 
 // ---- reading
 
 pub(crate) fn get(t: &Table, at: usize) -> u8 {
-    if at < TABLE_LEN { t[at] } else { 0 }
+    t.get(at).copied().unwrap_or(0)
 }
 
 // Eight bytes.
@@ -120,27 +113,19 @@ pub(crate) fn length(t: &Table, at: usize) -> usize {
     (word(t, at) % 0x1_0000_0000) as usize
 }
 
+// The first n; none where there aren't as many.
+pub(crate) fn first<T>(s: &[T], n: usize) -> &[T] {
+    s.get(..n).unwrap_or(&[])
+}
+
 // `len` bytes; none where there aren't as many.
 pub(crate) fn part(s: &[u8], at: usize, len: usize) -> &[u8] {
-    if s.len() < at {
-        return &s[0..0];
-    }
-    if s.len() - at < len {
-        return &s[0..0];
-    }
-    let e = at + len;
-    &s[at..e]
+    first(s.get(at..).unwrap_or(&[]), len)
 }
 
 // Whether there is nothing but b.
 pub(crate) fn only(s: &[u8], b: u8) -> bool {
-    let mut good = true;
-    let mut q = 0;
-    while q < s.len() {
-        good = good & (s[q] == b);
-        q += 1;
-    }
-    good
+    s.iter().all(|&x| x == b)
 }
 
 // Whether the hash of s stands at `at`; whether there are 32 zeros.
@@ -160,8 +145,8 @@ pub(crate) fn none(t: &Table, at: usize) -> bool {
 // ---- writing
 
 pub(crate) fn put(t: &mut Table, at: usize, b: u8) {
-    if at < TABLE_LEN {
-        t[at] = b;
+    if let Some(place) = t.get_mut(at) {
+        *place = b;
     }
 }
 
@@ -208,14 +193,12 @@ pub(crate) fn put_head(s: &mut [u8], at: usize, n: usize, j: usize, bit: bool) {
 pub(crate) fn store(t: &mut Table, to: usize, s: &[u8])
     requires { to ≤ 2000000000 }
 {
-    let mut q = 0;
-    while q < s.len() {
-        put(t, to + q, s[q]);
-        q += 1;
+    for (q, &b) in s.iter().enumerate() {
+        put(t, to + q, b);
     }
 }
 
 pub(crate) fn count(t: &mut Table, at: usize, more: usize) {
-    let x = wrapping_add_u64(word(t, at), more as u64);
+    let x = word(t, at).wrapping_add(more as u64);
     put_block(t, at, Block(x, 0));
 }

@@ -17,22 +17,24 @@ const WORK_LEN: usize = 187500;
 
 // An end by the call for round k, against the word of the recorded one.
 fn recorded(a: Reply, k: usize, w: u64) -> u64 {
-    let x = crate::report::unless(crate::table::field(w, 0) == a.code, NUMBER, 0);
+    let (number, party) = crate::boxes::recorded(a.refusal);
+    let x = crate::report::unless(crate::table::field(w, 0) == number, NUMBER, 0);
     let y = crate::report::unless(crate::table::field(w, 1) == k, ROUND, x);
-    crate::report::unless(crate::table::field(w, 2) == a.party, PARTY, y)
+    crate::report::unless(crate::table::field(w, 2) == party, PARTY, y)
 }
 
 // The answer of box i to the call after the end.
 fn after(b: Reply, i: usize) -> u64 {
-    let x = crate::report::unless(b.code == 20, AFTER, 0);
-    let y = crate::report::unless(b.party == i, AFTER_PARTY, x);
+    let (number, party) = crate::boxes::recorded(b.refusal);
+    let x = crate::report::unless(number == 20, AFTER, 0);
+    let y = crate::report::unless(party == i, AFTER_PARTY, x);
     let z = crate::report::unless(b.same, AFTER_SESSION, y);
     crate::report::unless(b.due == 0, AFTER_DUE, z)
 }
 
 // What stands in the outgoing buffer, with its hash recorded at `at`: what was written, or what was there before a refused call.
-pub(crate) fn written(t: &Table, at: usize, code: usize, out: &[u8]) -> u64 {
-    if code == 0 {
+pub(crate) fn written(t: &Table, at: usize, refused: bool, out: &[u8]) -> u64 {
+    if !refused {
         return crate::report::unless(crate::table::stands(t, at, out), WRITTEN, 0);
     }
     let x = crate::report::unless(crate::table::only(out, MARK), REFUSED_WROTE, 0);
@@ -62,7 +64,7 @@ fn left(
 fn noted(t: &mut Table, p: Play, r: Turn, i: usize, a: Reply) -> u64
     requires { (i < 8) × (i < p.n) }
 {
-    let next = if a.code == 0 { r.next } else { 0 };
+    let next = if a.refusal.is_none() { r.next } else { 0 };
     crate::table::put(t, DUE + i, crate::table::small(a.due));
     let x = crate::report::unless(a.same, SESSION, 0);
     let y = crate::report::unless(a.due == next, ROUND_DUE, x);
@@ -72,7 +74,8 @@ fn noted(t: &mut Table, p: Play, r: Turn, i: usize, a: Reply) -> u64
     }
     let k = r.k;
     crate::table::put(t, REFUSED + i, crate::table::small(k));
-    let place = crate::table::sum(ENDS, crate::table::product(16, a.code));
+    let (number, _) = crate::boxes::recorded(a.refusal);
+    let place = crate::table::sum(ENDS, crate::table::product(16, number));
     crate::table::count(t, place, 1);
     let w = crate::table::word(t, crate::table::sum(p.ends, 4 * i));
     y | recorded(a, k, w)
@@ -89,10 +92,10 @@ fn differs(t: &mut Table, p: Play, r: Turn, i: usize, work: &mut [u8], out: &mut
     let mail = crate::boxes::delivered(t, p, r, i);
     let a = crate::boxes::call(t, p, k, i, due, mail, work, out);
     let x = noted(t, p, r, i, a);
-    let ended = (a.code != 0) | (r.next == 0);
+    let ended = a.refusal.is_some() || r.next == 0;
     let y = left(t, p, k, i, ended, mail, work, out);
     crate::table::store(t, crate::table::sum(r.to, room), out);
-    x | y | written(t, hash, a.code, out)
+    x | y | written(t, hash, a.refusal.is_some(), out)
 }
 
 // The same, with the box's part of the work areas and an outgoing buffer.
@@ -101,9 +104,9 @@ fn at_work(t: &mut Table, works: &mut [u8], p: Play, r: Turn, i: usize) -> u64
 {
     let n = p.n;
     let l = p.l;
-    let o = crate::table::least(plan::out_len(n, l, r.k), OUT_LEN);
+    let o = plan::out_len(n, l, r.k).min(OUT_LEN);
     let a = WORK_LEN * i;
-    let e = a + crate::table::least(area::work_len(n, l), WORK_LEN);
+    let e = a + area::work_len(n, l).min(WORK_LEN);
     if works.len() < e {
         return WORK_AREA;
     }
@@ -141,11 +144,8 @@ fn take_turn(
     p: Play,
     r: Turn,
 ) -> io::Result<()> {
-    let n = crate::table::least(p.n, 8);
-    let mut i = 0;
-    while i < n {
+    for i in 0..p.n.min(8) {
         one(rt, t, works, p, r, i)?;
-        i += 1;
     }
     Ok(())
 }
@@ -156,7 +156,7 @@ fn following(p: Play, r: Turn) -> Turn {
     let k = r.next;
     let len = plan::out_len(n, p.l, r.k);
     Turn {
-        k: k,
+        k,
         next: plan::next_round(n, k),
         len: if n < 2 { 0 } else { len / (n - 1) },
         from: r.to,
@@ -175,13 +175,11 @@ pub(crate) fn all(rt: &impl Print, t: &mut Table, works: &mut Works, p: Play) ->
         to: OUT,
         hashes: p.hashes,
     };
-    let mut q: usize = 0;
-    while q < 23 {
+    for _ in 0..23 {
         if r.hashes < p.ends {
             take_turn(rt, t, works, p, r)?;
             r = following(p, r);
         }
-        q += 1;
     }
     let good = (r.k == 0) & (r.hashes == p.ends);
     crate::report::note(rt, t, 0, 0, crate::report::unless(good, ROUNDS_LEFT, 0))

@@ -1,9 +1,6 @@
 -- `vectors::combinings` is safe and ends.
-use Rattle.std.proofs.Common.{◌-◌, ◌≤◌}
+use Rattle.std.proofs.Common.{◌≤◌}
 use Rattle.vectors.proofs.combinings.Given as goal
 
 abbrev pub invariant-loop-q : goal.invariant-loop-q
-invariant-loop-q g l = (l.q ≤ l.count) × (l.at ≤ 2000000000)
-
-abbrev pub decreases-loop-q : goal.decreases-loop-q
-decreases-loop-q g l = l.count - l.q
+invariant-loop-q g l = l.at ≤ 2000000000

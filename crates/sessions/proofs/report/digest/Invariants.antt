@@ -1,9 +1,0 @@
--- `sessions::report::digest` is safe and ends.
-use Rattle.std.proofs.Common.{◌-◌, ◌≤◌}
-use Rattle.sessions.proofs.report.digest.Given as goal
-
-abbrev pub invariant-loop-q : goal.invariant-loop-q
-invariant-loop-q g l = l.q ≤ 8
-
-abbrev pub decreases-loop-q : goal.decreases-loop-q
-decreases-loop-q g l = 8 - l.q
