@@ -35,11 +35,7 @@ fn e_sum(es: &[u8], ts: &[usize], from: usize) -> bool
     requires { (e : ℕ) → e < length ts.now → from + get_or ts.now e 0 < length es.now }
     ensures { result ≡ sum bits (length ts.now) (λ e. odd (get_or es.now (from + get_or ts.now e 0) 0)) }
 {
-    let mut told = false;
-    for e in 0..ts.len() {
-        told = told ^ block::bit(es, from + ts[e]);
-    }
-    told
+    algebra::sum(ts.len(), |e| block::bit(es, from + ts[e]))
 }
 
 // What stands for party k in the records a and c. z has r's MACs, and r's keys, plus delta where k's e is 1: delta is added once, where the

@@ -47,4 +47,4 @@ shape_of-out c = c.loop-k.invariant.same
 
 pub returns : goal.returns
 returns c =
-    entered-head c.loop-k.invariant [] (omega (arith, c.loop-k-test.false, c.loop-k.invariant.0))
+    entered-head c.loop-k.invariant [] (omega (arith, c.loop-k-test.false, c.loop-k.auto.k-end))

@@ -173,10 +173,6 @@ put_entries-requires c =
       omega (arith, within, row-long (goal.at.put_entries-requires c).At-loop-k),
     )
 
-pub overflow_add-k : goal.overflow_add-k
-overflow_add-k c =
-    omega (arith, c.loop-k-test.true, (work (goal.at.overflow_add-k c).After-record_len-len).ranges.range.eight)
-
 pub loop-k-preserved : goal.loop-k-preserved
 loop-k-preserved c = (going-turn (c.args.f) (c.args.delta.0) c.args.work.now (c.args.j) (c.args.row) (work
       (goal.at.loop-k-preserved c).After-record_len-len) c.requires.work.1 c.requires.row_value (going
@@ -241,7 +237,7 @@ left c =
     going_end (c.args.f) (c.args.delta.0) c.args.work.now (c.args.j) (c.args.row) (work-here) c.requires.work.1 c.requires.row_value
     (going-here) ((c.args.row) + 2 * (c.record_len-len.result)) (ends-here)
     (c.record_len-len.result) _ _ c.put_heads.new.row (long-here)
-    (omega (arith, c.loop-k-test.false, c.loop-k.invariant.0))
+    (omega (arith, c.loop-k-test.false, c.loop-k.auto.k-end))
     (t.0 ∙ ap (λ (v : Triple). v.tx.bit) (triple-here)) (t.1 ∙ ap (λ (v : Triple). v.tz.bit) (triple-here))
     c.put_heads.ensures
 
