@@ -4,6 +4,7 @@
 
 ghost use Rattle.interface.specs.Interface as Interface;
 ghost use Rattle.std.specs.Prelude.{◌≡◌, ◌<◌, ◌≤◌, length};
+ghost use Rattle.refusals.specs.Reason.{number};
 ghost use Rattle.plan.specs.Plan.{within};
 ghost use Rattle.engine.specs.Step.{Refused, reply_of, frame};
 ghost use Rattle.engine.specs.Area.{off};
@@ -13,7 +14,8 @@ ghost use Rattle.interface.specs.Interface.{sum_c, due_of, round_after, message_
 ghost use Rattle.interface.specs.Narrow.{Narrow, named};
 
 use batches::Pairs;
-use engine::{Frame, Session, Verdict};
+use engine::{Frame, Refusal, Session, Verdict};
+use refusals::Reason;
 
 // Above every 32-bit number: an answer that names no party.
 pub const NO_PARTY: usize = 0x1_0000_0000;
@@ -24,18 +26,6 @@ pub const NO_PARTY: usize = 0x1_0000_0000;
 pub const SESSION: usize = 20;
 
 const COUNTS: usize = 4;
-
-// x in place of what out holds.
-fn put_numbers(out: &mut [u32], x: &[u32])
-    requires { length out.old ≡ length x.now }
-    ensures { out.new ≡ x.now }
-{
-    let mut j = 0;
-    while j < out.len() {
-        out[j] = x[j];
-        j += 1;
-    }
-}
 
 // The session in its numbers.
 pub fn load(s: &[u32]) -> Session
@@ -49,9 +39,9 @@ pub fn load(s: &[u32]) -> Session
     };
     let counts = batches::kept(&s[COUNTS..]);
     Session {
-        party: party,
+        party,
         due: s[3] as usize,
-        counts: counts,
+        counts,
     }
 }
 
@@ -72,10 +62,8 @@ pub fn store(out: &mut [u32], s: Session)
     requires narrow { Narrow s }
     ensures { out.new ≡ numbers_of s }
 {
-    let party = s.party;
-    let counts = s.counts;
-    put_head(&mut out[0..COUNTS], party, s.due);
-    put_numbers(&mut out[COUNTS..], &counts);
+    put_head(&mut out[0..COUNTS], s.party, s.due);
+    out[COUNTS..].copy_from_slice(&s.counts);
 }
 
 // What is told of the batches stands in the buffer after an accepted call after which no round is due; any other leaves it as it was.
@@ -84,34 +72,34 @@ pub fn tell(out: &mut [u32], v: Verdict, due: usize, told: Pairs)
     ensures { out.new ≡ told_c (reply_of v) due told out.old }
 {
     match v {
-        Verdict::Accepted => {
+        Ok(()) => {
             if due == 0 {
-                put_numbers(out, &told);
+                out.copy_from_slice(&told);
             }
         }
-        Verdict::Refused(_, _) => {}
+        Err(_) => {}
     }
 }
 
 // Why a round call is refused whose buffer for them has another length.
-pub fn told_reason(s: Session, k: usize) -> u8
-    ensures { result ≡ told_reason s k }
+pub fn told_reason(s: Session, k: usize) -> Reason
+    ensures { number result ≡ told_reason s k }
 {
     if !admit::alive(s) {
-        return 20;
+        return Reason::NoSession;
     }
     if k != s.due {
-        return 19;
+        return Reason::WrongRound;
     }
-    17
+    Reason::WrongBuffer
 }
 
-// Number and party in one.
-pub fn packed(code: u8, party: usize) -> u64
+// The number of a reason and a party in one.
+pub fn packed(reason: Reason, party: usize) -> u64
     requires { party ≤ Interface.NO_PARTY }
-    ensures { result ≡ packed_of (Refused code party) }
+    ensures { result ≡ packed_of (Refused (number reason) party) }
 {
-    code as u64 + 256 * party as u64
+    reason.number() as u64 + 256 * party as u64
 }
 
 pub fn answer(v: Verdict) -> u64
@@ -119,8 +107,8 @@ pub fn answer(v: Verdict) -> u64
     ensures { result ≡ packed_of (reply_of v) }
 {
     match v {
-        Verdict::Accepted => 0,
-        Verdict::Refused(code, party) => packed(code, party),
+        Ok(()) => 0,
+        Err(Refusal { reason, party }) => packed(reason, party),
     }
 }
 
@@ -130,11 +118,10 @@ pub fn answer(v: Verdict) -> u64
 pub fn sum(counts: &[u32]) -> u64
     ensures { result ≡ sum_c counts.now }
 {
-    let code = batches::fault(counts);
-    if code != 0 {
-        return packed(code, NO_PARTY);
+    match batches::fault(counts) {
+        Ok(()) => batches::sum(counts) as u64,
+        Err(reason) => packed(reason, NO_PARTY),
     }
-    batches::sum(counts) as u64
 }
 
 // ---- lengths

@@ -13,7 +13,8 @@ ghost use Rattle.admit.specs.Admit.{given};
 ghost use Rattle.interface.specs.Interface.{exported, open_c, turned, round_c, combined, combine_c, sum_c, due_of};
 ghost use Rattle.interface.specs.Interface.{round_after, message_len, name_byte, record_bytes, bucket_of, joint_at, pairwise_at};
 
-use engine::{Frame, Verdict};
+use engine::Frame;
+use refusals::Reason;
 
 // ---- the calls
 
@@ -46,20 +47,20 @@ pub extern "C" fn nuzsdike_open(
             l: batches::sum(counts),
         };
         let refused = batches::fault(counts);
-        let code = inputs::lengths_fault(f, refused, bits.len(), alpha.len(), beta.len(), false);
-        return interface::packed(code, own);
+        return match inputs::check_lengths(f, refused, bits.len(), alpha.len(), beta.len(), false) {
+            Ok(()) => interface::packed(Reason::WrongBuffer, own),
+            Err(reason) => interface::packed(reason, own),
+        };
     }
     let a = opening::open(
         n as usize, own, counts, delta, seed, pairs, bits, alpha, beta, masks, work, out,
     );
-    let verdict = a.verdict;
-    match verdict {
-        Verdict::Accepted => {
-            let opened = a.session;
-            interface::store(session, opened);
+    match a.verdict {
+        Ok(()) => {
+            interface::store(session, a.session);
             0
         }
-        Verdict::Refused(code, _) => interface::packed(code, own),
+        Err(refusal) => interface::packed(refusal.reason, own),
     }
 }
 
@@ -82,12 +83,11 @@ pub extern "C" fn nuzsdike_round(
         work.old told.old }
 {
     if session.len() != interface::SESSION {
-        return interface::packed(20, interface::NO_PARTY);
+        return interface::packed(Reason::NoSession, interface::NO_PARTY);
     }
     let s = interface::load(session);
     if told.len() != batches::TOLD {
-        let party = s.party;
-        return interface::packed(interface::told_reason(s, round as usize), party.i);
+        return interface::packed(interface::told_reason(s, round as usize), s.party.i);
     }
     let step = session::round(
         s,
@@ -100,12 +100,9 @@ pub extern "C" fn nuzsdike_round(
         work,
         out,
     );
-    let after = step.session;
-    let verdict = step.verdict;
-    let pairs = step.told;
-    interface::store(session, after);
-    interface::tell(told, verdict, after.due, pairs);
-    interface::answer(verdict)
+    interface::store(session, step.session);
+    interface::tell(told, step.verdict, step.session.due, step.told);
+    interface::answer(step.verdict)
 }
 
 // Combines triples (crate combine).

@@ -1,5 +1,6 @@
 -- What a round call has made sure of, as each round asks for it; and what the round found and kept, as the table says it.
-use Rattle.std.specs.Prelude.{◌≡◌, ◌≢◌, List, ℕ, ◌+◌, ◌*◌}
+use Rattle.std.specs.Prelude.{◌≡◌, ◌≢◌, ⊤, Result, Ok, List, ℕ, ◌+◌, ◌*◌}
+use Rattle.engine.specs.declared.Refusal.{Refusal}
 use Rattle.std.proofs.Math.Path.{refl}
 use Rattle.std.proofs.Common.{sym, ap, ◌∙◌, subst, arith}
 use borrow.Author.Tests.{ne_eqb}
@@ -47,8 +48,8 @@ module _ (f : Frame) (w : List ℕ) (m : ℕ → List ℕ) (k : ℕ) where
   same-judge : (j : ℕ) → k ≡ j → judge k f w (mask f m) ≡ judge j f w m
   same-judge j e = judge-mask f m k w ∙ ap (λ (k : ℕ). judge k f w m) e
 
-  pub found_at : (j code party : ℕ) → k ≡ j → Finds code party (judge j f w m) → Finds code party (judge k f w (mask f m))
-  found_at j code party e h = subst (Finds code party) (sym (same-judge j e)) h
+  pub found_at : (j : ℕ) (v : Result ⊤ Refusal) → k ≡ j → Finds v (judge j f w m) → Finds v (judge k f w (mask f m))
+  found_at j v e h = subst (Finds v) (sym (same-judge j e)) h
 
   pub clean_at : (j : ℕ) → k ≡ j → (judge k f w (mask f m)).code ≡ 0 → (judge j f w m).code ≡ 0
   clean_at j e z = ap (λ (x : Fault). x.code) (sym (same-judge j e)) ∙ z
@@ -57,12 +58,12 @@ module _ (f : Frame) (w : List ℕ) (m : ℕ → List ℕ) (k : ℕ) where
   kept_at j v e h = h ∙ sym (kept-mask f m k w ∙ ap (λ (k : ℕ). kept k f w m) e)
 
   -- a round that has no content check
-  pub found_none : (party : ℕ) → k ≢ 3 → k ≢ 5 → k ≢ 6 → k ≢ 10 → k ≢ 12 → k ≢ 19 → k ≢ 21 → k ≢ 22
-      → Finds 0 party (judge k f w (mask f m))
+  pub found_none : k ≢ 3 → k ≢ 5 → k ≢ 6 → k ≢ 10 → k ≢ 12 → k ≢ 19 → k ≢ 21 → k ≢ 22
+      → Finds (Ok tt) (judge k f w (mask f m))
   unfolding judge
-  found_none party h3 h5 h6 h10 h12 h19 h21 h22 =
+  found_none h3 h5 h6 h10 h12 h19 h21 h22 =
       rw (ne_eqb k 3 h3, ne_eqb k 5 h5, ne_eqb k 6 h6, ne_eqb k 10 h10, ne_eqb k 12 h12, ne_eqb k 19 h19, ne_eqb k 21 h21, ne_eqb k 22 h22)
-      (record { code_is = refl; party-is = λ ne. absurd (ne refl) })
+      refl
 
   -- a round of which nothing is kept
   pub kept-none : k ≢ 1 → k ≢ 3 → k ≢ 4 → k ≢ 5 → k ≢ 8 → k ≢ 10 → k ≢ 14 → k ≢ 15 → k ≢ 17 → k ≢ 21 → w ≡ kept k f w (mask f m)

@@ -15,14 +15,14 @@ ghost use Rattle.area.specs.Given.{Work};
 ghost use Rattle.plain.specs.Plain.{plain};
 ghost use Rattle.plain.specs.Held.{Held};
 
-use engine::Frame;
-use rounds::{Fault, Mail};
+use engine::{Frame, Verdict};
+use rounds::Mail;
 
-// The content of the messages of round k: the number and the party of the first fault, or 0. Echoes have none of their own.
-pub fn judge(work: &[u8], incoming: &[u8], mail: Mail, f: Frame, k: usize) -> Fault
+// The content of the messages of round k: the first fault. Echoes have none of their own.
+pub fn judge(work: &[u8], incoming: &[u8], mail: Mail, f: Frame, k: usize) -> Verdict
     requires work { Work f work.now }
     requires received { Received (kind_of f.l k) (count_due f.n f.l k) f incoming.now mail }
-    ensures { Finds result.code result.party (Table.judge k f work.now (mask f (letter incoming.now mail))) }
+    ensures { Finds result (Table.judge k f work.now (mask f (letter incoming.now mail))) }
 {
     match k {
         plan::RNG_VER => toss_recv::judge(work, area::COMMS, incoming, mail, f),
@@ -33,7 +33,7 @@ pub fn judge(work: &[u8], incoming: &[u8], mail: Mail, f: Frame, k: usize) -> Fa
         plan::FLAAND_HASH => flaand_hash::judge(work, incoming, mail, f),
         plan::DVALUE => dvalue_recv::judge(work, incoming, mail, f),
         plan::FAAND => faand_recv::judge(work, incoming, mail, f),
-        _ => Fault { code: 0, party: 0 },
+        _ => Ok(()),
     }
 }
 

@@ -1,5 +1,7 @@
 -- The three ways that a round call ends, against `round_spec`.
-use Rattle.std.specs.Prelude.{◌≡◌, ◌≢◌, length, replicate, eqb}
+use Rattle.refusals.specs.Reason.{number, number-some}
+use Rattle.engine.specs.declared.Refusal.{Refusal}
+use Rattle.std.specs.Prelude.{◌≡◌, ◌≢◌, Err, length, replicate, eqb}
 use Rattle.std.proofs.Math.Path.{refl, sym, ap, ap₂}
 use Rattle.std.proofs.Common.{◌∙◌, eq-eqb, ne_eqb}
 use mathlib.Core.List.{List}
@@ -35,14 +37,14 @@ module _ (s : Session) (k : ℕ) (q : Lent) (w : List ℕ) where
 
   module _ (z : reason_of (protocol_of table) s k q w ≡ 0) where
     -- a received fault
-    pub call-faulted : (code party : ℕ) (t : Session) (v : List ℕ) → Finds code party (fault_of (rule_of table k) s.party q w) → code ≢ 0
+    pub call-faulted : (r : Refusal) (t : Session) (v : List ℕ) → Finds (Err r) (fault_of (rule_of table k) s.party q w)
         → t ≡ ended s → v ≡ replicate (length w) 0
-        → outcome t (Refused code party) v q.out ≡ round_spec (protocol_of table) s k q w
+        → outcome t (Refused (number r.reason) r.party) v q.out ≡ round_spec (protocol_of table) s k q w
     unfolding faulted
-    call-faulted code party t v h ne et ev =
-        let bad : (fault_of (rule_of table k) s.party q w).code ≢ 0 = λ x. ne (h.code_is ∙ x) in
-        ap₂ (λ (a : Session) (b : List ℕ). outcome a (Refused code party) b q.out) et ev
-        ∙ ap₂ (λ c p. outcome (ended s) (Refused c p) (replicate (length w) 0) q.out) h.code_is (h.party-is bad)
+    call-faulted r t v h et ev =
+        let bad : (fault_of (rule_of table k) s.party q w).code ≢ 0 = λ x. number-some r.reason (h.0 ∙ x) in
+        ap₂ (λ (a : Session) (b : List ℕ). outcome a (Refused (number r.reason) r.party) b q.out) et ev
+        ∙ ap₂ (λ c p. outcome (ended s) (Refused c p) (replicate (length w) 0) q.out) h.0 h.1
         ∙ sym (round-faults (protocol_of table) s k q w z bad)
 
     -- accepted

@@ -12,6 +12,8 @@ use Rattle.engine.specs.Area.{put_sec, length-put_sec, sec-same, sec-other}
 use Rattle.rounds.specs.Area.{PENDING, HASHES, SECTIONS, sizes, size_of, work_len, keep}
 use Rattle.rounds.specs.Echo.{hash_vec}
 use Rattle.rounds.specs.EchoLaws.{length-hash_vec}
+use Rattle.refusals.specs.Reason.{number-some}
+use Rattle.engine.specs.declared.Refusal.{Refusal}
 use Rattle.rounds.specs.FaultLaws.{Finds}
 use Rattle.rounds.specs.JudgeLaws.{Found, judge-found}
 use Rattle.rounds.specs.Table.{table}
@@ -26,13 +28,12 @@ length-waits x = go (eqb x.code 0)
     go false = refl
 
 -- what `note` asks for: a fault names a party of the session
-pub names-party : (f : Frame) → f.i < f.n → (k : ℕ) (w : List ℕ) (m : ℕ → List ℕ) (code party : ℕ)
-    → Finds code party (Table.judge k f w m) → code ≢ 0
-    → party < f.n
+pub names-party : (f : Frame) → f.i < f.n → (k : ℕ) (w : List ℕ) (m : ℕ → List ℕ) (r : Refusal)
+    → Finds (Err r) (Table.judge k f w m) → r.party < f.n
 unfolding Found
-names-party f own k w m code party h ne =
-    let bad : (Table.judge k f w m).code ≢ 0 = λ z. ne (h.code_is ∙ z) in
-    omega (arith, h.party-is bad, (judge-found f own k w m bad).1)
+names-party f own k w m r h =
+    let bad : (Table.judge k f w m).code ≢ 0 = λ z. number-some r.reason (h.0 ∙ z) in
+    omega (arith, h.1, (judge-found f own k w m bad).1)
 
 module _ (f : Frame) (k : ℕ) (m : ℕ → List ℕ) where
   pub length-digests : length (digests table k f m) ≡ f.n * 16

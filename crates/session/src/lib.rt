@@ -15,11 +15,12 @@ ghost use Rattle.rounds.specs.FaultLaws.{Finds};
 ghost use Rattle.rounds.specs.Table as Table;
 ghost use Rattle.rounds.specs.Table.{table};
 ghost use Rattle.admit.specs.Admit.{loan, given, posted};
+ghost use Rattle.broadcast.specs.Told.{told};
 ghost use Rattle.session.specs.Given.{Let, Admitted};
 
 use batches::{Counts, Pairs};
-use engine::{Answer, Frame, Session, Verdict};
-use rounds::{Fault, Mail};
+use engine::{Answer, Frame, Refusal, Session, Verdict};
+use rounds::Mail;
 
 // The last round.
 const LAST: usize = plan::FAAND;
@@ -33,28 +34,27 @@ fn to_echo(n: usize, k: usize) -> bool
 }
 
 // The content of the messages of round k. Where they are echoed, their faults wait for the echo.
-fn content(work: &[u8], incoming: &[u8], mail: Mail, f: Frame, k: usize) -> Fault
+fn content(work: &[u8], incoming: &[u8], mail: Mail, f: Frame, k: usize) -> Verdict
     requires { Let f k work.now incoming.now mail }
-    ensures { Finds result.code result.party (check_of table k f work.now (mask f (letter incoming.now mail))) }
+    ensures { Finds result (check_of table k f work.now (mask f (letter incoming.now mail))) }
 {
-    let n = f.n;
     if plan::is_echo(k) {
         return broadcast::check(work, incoming, mail, f, k);
     }
-    if to_echo(n, k) {
-        return Fault { code: 0, party: 0 };
+    if to_echo(f.n, k) {
+        return Ok(());
     }
     plain::judge(work, incoming, mail, f, k)
 }
 
 // What is received for round k is kept, unless its content has a fault.
-fn keep_clean(work: &mut [u8], code: u8, incoming: &[u8], mail: Mail, f: Frame, k: usize)
+fn keep_clean(work: &mut [u8], found: Verdict, incoming: &[u8], mail: Mail, f: Frame, k: usize)
     requires fact { Let f k work.old incoming.now mail }
-    requires code_value { code ≡ (Table.judge k f work.old (mask f (letter incoming.now mail))).code }
-    ensures { work.new ≡ pick (eqb code 0) (Table.kept k f work.old (mask f (letter incoming.now mail)))
+    requires found_value { Finds found (Table.judge k f work.old (mask f (letter incoming.now mail))) }
+    ensures { work.new ≡ pick (eqb (told found).code 0) (Table.kept k f work.old (mask f (letter incoming.now mail)))
         work.old }
 {
-    if code == 0 {
+    if found.is_ok() {
         plain::keep(work, incoming, mail, f, k);
     }
 }
@@ -65,9 +65,9 @@ fn hold_echo(work: &mut [u8], incoming: &[u8], mail: Mail, f: Frame, k: usize)
     ensures { (work.new ≡ for_echo table k f work.old (mask f (letter incoming.now mail)))
         × (hashes table f work.new ≡ digests table k f (mask f (letter incoming.now mail))) }
 {
-    let e = plain::judge(work, incoming, mail, f, k);
-    keep_clean(work, e.code, incoming, mail, f, k);
-    broadcast::note(work, e.code, e.party, incoming, mail, f, k);
+    let found = plain::judge(work, incoming, mail, f, k);
+    keep_clean(work, found, incoming, mail, f, k);
+    broadcast::note(work, found, incoming, mail, f, k);
 }
 
 // What is received for round k is kept; an echo is only compared.
@@ -77,10 +77,9 @@ fn keep_received(work: &mut [u8], incoming: &[u8], mail: Mail, f: Frame, k: usiz
     ensures { work.new ≡ pick (echo? k) work.old
         (Table.kept k f work.old (mask f (letter incoming.now mail))) }
 {
-    if plan::is_echo(k) {
-        return;
+    if !plan::is_echo(k) {
+        plain::keep(work, incoming, mail, f, k);
     }
-    plain::keep(work, incoming, mail, f, k);
 }
 
 // The last call: the results are written, and the work area is zeroed.
@@ -104,28 +103,23 @@ fn step(work: &mut [u8], out: &mut [u8], incoming: &[u8], mail: Mail, r: &[u8], 
         × (out.new ≡ write_of table k f (loan r.now) work.old
         (mask f (letter incoming.now mail))) }
 {
-    let n = f.n;
     if k == LAST {
         finish(work, out, incoming, mail, f);
-    } else if to_echo(n, k) {
+    } else if to_echo(f.n, k) {
         hold_echo(work, incoming, mail, f, k);
         broadcast::write(out, work, f);
     } else {
         keep_received(work, incoming, mail, f, k);
-        plain::make(work, out, r, f, plan::next_round(n, k));
+        plain::make(work, out, r, f, plan::next_round(f.n, k));
     }
 }
 
 // A received fault: of form, party by party, then of content.
-fn fault(work: &[u8], incoming: &[u8], mail: Mail, missing: &[u8], f: Frame, k: usize) -> Fault
+fn fault(work: &[u8], incoming: &[u8], mail: Mail, missing: &[u8], f: Frame, k: usize) -> Verdict
     requires { Admitted f k work.now incoming.now mail missing.now }
-    ensures { Finds result.code result.party
-        (fault_of (rule_of table k) f (posted incoming.now mail missing.now) work.now) }
+    ensures { Finds result (fault_of (rule_of table k) f (posted incoming.now mail missing.now) work.now) }
 {
-    let first = form::form(incoming, mail, missing, f, k);
-    if first.code != 0 {
-        return first;
-    }
+    form::form(incoming, mail, missing, f, k)?;
     content(work, incoming, mail, f, k)
 }
 
@@ -135,10 +129,10 @@ fn told_after(due: usize, counts: Counts) -> Pairs
     ensures { result ≡ told_after due counts }
 {
     if due == 0 {
-        return batches::pairs(counts);
+        batches::pairs(counts)
+    } else {
+        [0; batches::TOLD]
     }
-    let none: Pairs = [0; batches::TOLD];
-    none
 }
 
 // The call for round k of the session s, with the messages of the other parties: each in the incoming buffer from its start on, as long as
@@ -159,29 +153,19 @@ pub fn round(
         work.old }
 {
     let f = s.party;
-    let code = admit::reason(s, k, incoming, starts, lens, missing, r, work, out);
-    if code != 0 {
-        return engine::silent(s, Verdict::Refused(code, f.i));
+    if let Err(reason) = admit::check(s, k, incoming, starts, lens, missing, r, work, out) {
+        return engine::silent(s, Err(Refusal { reason, party: f.i }));
     }
-    let n = f.n;
-    let mail = form::mail_of(starts, lens, n);
-    let e = fault(work, incoming, mail, missing, f, k);
-    if e.code != 0 {
+    let mail = form::mail_of(starts, lens, f.n);
+    if let Err(refusal) = fault(work, incoming, mail, missing, f, k) {
         fill::clear(work);
-        return engine::silent(engine::ended(s), Verdict::Refused(e.code, e.party));
+        return engine::silent(engine::ended(s), Err(refusal));
     }
     step(work, out, incoming, mail, r, f, k);
-    let due = plan::next_round(n, k);
-    let counts = s.counts;
-    let told = told_after(due, counts);
-    let after = Session {
-        party: f,
-        due: due,
-        counts: counts,
-    };
+    let due = plan::next_round(f.n, k);
     Answer {
-        session: after,
-        verdict: Verdict::Accepted,
-        told: told,
+        session: Session { due, ..s },
+        verdict: Ok(()),
+        told: told_after(due, s.counts),
     }
 }

@@ -5,12 +5,12 @@ use Rattle.interface.proofs.answer.Goals as goal
 
 pub packed-requires : goal.packed-requires
 unfolding reply_of
-packed-requires c = rw c.in-Refused.is at c.requires
+packed-requires c = rw c.in-Err.is at c.requires
 
-pub returns-in-Accepted : goal.returns-in-Accepted
+pub returns-in-Ok : goal.returns-in-Ok
 unfolding packed_of reply_of
-returns-in-Accepted c = ap (λ v. packed_of (reply_of v)) (sym c.in-Accepted.is)
+returns-in-Ok c = ap (λ v. packed_of (reply_of v)) (sym c.in-Ok.is)
 
-pub returns-in-Refused : goal.returns-in-Refused
+pub returns-in-Err : goal.returns-in-Err
 unfolding reply_of
-returns-in-Refused c = c.packed.ensures ∙ ap (λ v. packed_of (reply_of v)) (sym c.in-Refused.is)
+returns-in-Err c = c.packed.ensures ∙ ap (λ v. packed_of (reply_of v)) (sym c.in-Err.is)

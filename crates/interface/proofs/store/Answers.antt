@@ -13,5 +13,5 @@ returns c =
     let head = head_of c.args.s.party c.args.s.due in
     let w : List ℕ = put_mid 0 COUNTS o c.put_head.new.out in
     let long : length w ≡ 20 = length-put 0 COUNTS c.put_head.new.out o (ap length c.put_head.ensures) (omega (arith, c.requires.out_len)) ∙ c.requires.out_len in
-    ap (λ m. put_mid COUNTS m w c.put_numbers.new.out) (let e : length w - COUNTS ≡ 16 = omega (arith, long) in e)
-    ∙ two-parts COUNTS 16 head c.args.s.counts c.put_head.new.out c.put_numbers.new.out o c.requires.out_len refl c.put_head.ensures c.put_numbers.ensures
+    ap (λ m. put_mid COUNTS m w c.copy_from_slice.new.self) (let e : length w - COUNTS ≡ 16 = omega (arith, long) in e)
+    ∙ two-parts COUNTS 16 head c.args.s.counts c.put_head.new.out c.copy_from_slice.new.self o c.requires.out_len refl c.put_head.ensures c.copy_from_slice.ensures.after

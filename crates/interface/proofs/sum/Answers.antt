@@ -1,11 +1,13 @@
+use Rattle.lists.specs.Kit.{sym, ap, ◌∙◌}
+use Rattle.refusals.specs.Reason.{code_of, number, number-some}
 use Rattle.interface.specs.InterfaceLaws.{sum-refused, sum_is}
 use Rattle.interface.proofs.sum.Goals as goal
 
-pub returns-then-code-ne0 : goal.returns-then-code-ne0
-returns-then-code-ne0 c =
-    sum-refused c.args.counts.now c.fault-code.result c.packed.result c.fault-code.ensures c.if-code-ne0.true
-    c.packed.ensures
+pub returns-in-Err : goal.returns-in-Err
+returns-in-Err c =
+    sum-refused c.args.counts.now (number c.in-Err.reason) c.packed.result (sym (ap code_of c.in-Err.is) ∙ c.fault.ensures)
+    (number-some c.in-Err.reason) c.packed.ensures
 
-pub returns : goal.returns
-returns c =
-    sum_is c.args.counts.now c.fault-code.result c.sum.result c.fault-code.ensures c.if-code-ne0.false c.sum.ensures
+pub returns-in-Ok : goal.returns-in-Ok
+returns-in-Ok c =
+    sum_is c.args.counts.now (code_of c.fault.result) c.sum.result c.fault.ensures (ap code_of c.in-Ok.is) c.sum.ensures

@@ -7,17 +7,17 @@ use Rattle.interface.proofs.tell.Goals as goal
 pub returns-then-due-eq0 : goal.returns-then-due-eq0
 unfolding reply_of
 returns-then-due-eq0 c =
-    c.put_numbers.ensures ∙ tells-last c.args.due c.args.told c.args.out.now c.if-due-eq0.true
-    ∙ ap (λ (v : Reply). told_c v c.args.due c.args.told c.args.out.now) (sym (ap reply_of c.in-Accepted.is))
+    c.copy_from_slice.ensures.after ∙ tells-last c.args.due c.args.told c.args.out.now c.if-due-eq0.true
+    ∙ ap (λ (v : Reply). told_c v c.args.due c.args.told c.args.out.now) (sym (ap reply_of c.in-Ok.is))
 
 pub returns-else-due-eq0 : goal.returns-else-due-eq0
 unfolding reply_of
 returns-else-due-eq0 c =
     tells-other c.args.due c.args.told c.args.out.now c.if-due-eq0.false
-    ∙ ap (λ (v : Reply). told_c v c.args.due c.args.told c.args.out.now) (sym (ap reply_of c.in-Accepted.is))
+    ∙ ap (λ (v : Reply). told_c v c.args.due c.args.told c.args.out.now) (sym (ap reply_of c.in-Ok.is))
 
-pub returns-in-Refused : goal.returns-in-Refused
+pub returns-in-Err : goal.returns-in-Err
 unfolding reply_of
-returns-in-Refused c =
+returns-in-Err c =
     tells-refused c.args.due c.args.told c.args.out.now _ _
-    ∙ ap (λ (v : Reply). told_c v c.args.due c.args.told c.args.out.now) (sym (ap reply_of c.in-Refused.is))
+    ∙ ap (λ (v : Reply). told_c v c.args.due c.args.told c.args.out.now) (sym (ap reply_of c.in-Err.is))

@@ -5,23 +5,12 @@ use Rattle.inputs.specs.OpeningLaws.{counted, lengths-as}
 use Rattle.interface.specs.InterfaceLaws.{opens_not, opens, opens-refused, opened-narrow}
 use Rattle.nuzsdike.proofs.nuzsdike_open.Goals as goal
 
-pub lengths_fault-code-requires : goal.lengths_fault-code-requires
-lengths_fault-code-requires c =
+pub check_lengths-requires : goal.check_lengths-requires
+check_lengths-requires c =
     let a = (args c.args.n c.args.i c.args.counts.now c.args.delta.now c.args.seed.now c.args.pairs.now c.args.bits.now c.args.alpha.now
     c.args.beta.now c.args.masks.now
     c.args.work.now c.args.out.now) in
-    counted a.n a.i a.counts c.sum.result c.fault-refused.result c.sum.ensures c.fault-refused.ensures
-
-pub returns-then-session-ne-SESSION : goal.returns-then-session-ne-SESSION
-returns-then-session-ne-SESSION c =
-    let a = (args c.args.n c.args.i c.args.counts.now c.args.delta.now c.args.seed.now c.args.pairs.now c.args.bits.now c.args.alpha.now
-    c.args.beta.now c.args.masks.now
-    c.args.work.now c.args.out.now) in
-    opens_not c.args.session.now a c.if-session-ne-SESSION.true c.packed.result c.lengths_fault-code.result
-    (c.lengths_fault-code.ensures
-    ∙ lengths-as a.n a.i a.counts c.sum.result c.fault-refused.result (length a.bits) (length a.alpha) (length a.beta) false
-    c.sum.ensures c.fault-refused.ensures)
-    c.packed.ensures
+    counted a.n a.i a.counts c.sum.result (code_of c.fault-refused.result) c.sum.ensures c.fault-refused.ensures
 
 pub store-requires : goal.store-requires
 unfolding reply_of
@@ -32,26 +21,26 @@ store-requires c =
           c.args.alpha.now c.args.beta.now c.args.masks.now
           c.args.work.now c.args.out.now) c.open-a.result.session (reply_of c.open-a.result.verdict) c.open-a.result.told
           c.open-a.new.work c.open-a.new.out c.open-a.ensures
-          (ap reply_of c.in-Accepted.is) c.ranges.n.fits c.ranges.i.fits;
+          (ap reply_of c.in-Ok.is) c.ranges.n.fits c.ranges.i.fits;
     }
 
-pub packed-requires-in-Refused : goal.packed-requires-in-Refused
-packed-requires-in-Refused c = omega (arith, c.ranges.i.fits)
+pub packed-requires-in-Err : goal.packed-requires-in-Err
+packed-requires-in-Err c = omega (arith, c.ranges.i.fits)
 
-pub returns-in-Accepted : goal.returns-in-Accepted
+pub returns-in-Ok : goal.returns-in-Ok
 unfolding reply_of
-returns-in-Accepted c =
+returns-in-Ok c =
     opens c.args.session.now (args c.args.n c.args.i c.args.counts.now c.args.delta.now c.args.seed.now c.args.pairs.now c.args.bits.now
     c.args.alpha.now c.args.beta.now c.args.masks.now
     c.args.work.now c.args.out.now) c.if-session-ne-SESSION.false c.open-a.result.session (reply_of c.open-a.result.verdict)
     c.open-a.result.told c.open-a.new.work c.open-a.new.out c.open-a.ensures
-    (ap reply_of c.in-Accepted.is) c.store.new.out c.store.ensures
+    (ap reply_of c.in-Ok.is) c.store.new.out c.store.ensures
 
-pub returns-in-Refused : goal.returns-in-Refused
+pub returns-in-Err : goal.returns-in-Err
 unfolding reply_of
-returns-in-Refused c =
+returns-in-Err c =
     opens-refused c.args.session.now (args c.args.n c.args.i c.args.counts.now c.args.delta.now c.args.seed.now c.args.pairs.now
     c.args.bits.now c.args.alpha.now c.args.beta.now c.args.masks.now
     c.args.work.now c.args.out.now) c.if-session-ne-SESSION.false c.open-a.result.session (reply_of c.open-a.result.verdict)
     c.open-a.result.told c.open-a.new.work c.open-a.new.out c.open-a.ensures
-    _ _ (ap reply_of c.in-Refused.is) c.packed-in-Refused.result c.packed-in-Refused.ensures
+    _ _ (ap reply_of c.in-Err.is) c.packed-in-Err.result c.packed-in-Err.ensures

@@ -1,3 +1,4 @@
+use Rattle.std.specs.Prelude.{Ok}
 use Rattle.lists.specs.Kit.{refl, sym, subst, ◌∙◌}
 use Rattle.engine.specs.Step.{mask}
 use Rattle.rounds.specs.Mail.{letter}
@@ -17,7 +18,7 @@ check-requires c =
 
 pub returns-then-is_echo : goal.returns-then-is_echo
 returns-then-is_echo c =
-    subst (Finds c.check.result.code c.check.result.party)
+    subst (Finds c.check.result)
     (sym (check-echo c.args.f c.args.work.now (mask c.args.f (letter c.args.incoming.now c.args.mail)) c.args.k (sym c.is_echo.ensures
     ∙ c.if-is_echo.true)))
     c.check.ensures
@@ -28,15 +29,15 @@ to_echo-requires c =
 
 pub returns-then-to_echo : goal.returns-then-to_echo
 returns-then-to_echo c =
-    subst (Finds 0 0)
+    subst (Finds (Ok tt))
     (sym (check-held c.args.f c.args.work.now (mask c.args.f (letter c.args.incoming.now c.args.mail)) c.args.k (sym c.is_echo.ensures
     ∙ c.if-is_echo.false)
     (sym c.to_echo.ensures ∙ c.if-to_echo.true)))
-    (record { code_is = refl; party-is = λ _. refl })
+    refl
 
 pub returns : goal.returns
 returns c =
-    subst (Finds c.judge.result.code c.judge.result.party)
+    subst (Finds c.judge.result)
     (sym (check-plain c.args.f c.args.work.now (mask c.args.f (letter c.args.incoming.now c.args.mail)) c.args.k (sym c.is_echo.ensures
     ∙ c.if-is_echo.false)
     (sym c.to_echo.ensures ∙ c.if-to_echo.false)))
