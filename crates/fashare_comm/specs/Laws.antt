@@ -4,16 +4,18 @@ use Rattle.std.specs.Prelude.{◌≡◌, refl, List, [], ◌∷◌, ◌++◌, �
 use Rattle.std.proofs.Common.{ap, ap₂, ◌∙◌, append_assoc, mul-le-mul, length-append, length-set}
 use native.Mathlib.Omega.{arith}
 use borrow.Rule.Slice.PartMut.{put_mid}
-use Rattle.lists.specs.Over.{cat, length-cat, in-chunks, over-set, over-next, over-full}
+use Rattle.lists.specs.Over.{cat, length-cat, in-chunks, over-set, over-next, over-full, two-parts}
+use Rattle.lists.specs.Sect.{length-put}
 use Rattle.algebra.specs.Group.{num}
 use Rattle.block.specs.declared.Block.{Block}
-use Rattle.block.specs.Block.{bytes_of}
-use Rattle.block.specs.Trip.{length-bytes_of}
+use Rattle.block.specs.Block.{bytes_of, le8}
+use Rattle.block.specs.Trip.{length-bytes_of, length-le8}
 use Rattle.blake3.specs.Tree.{hash}
 use Rattle.blake3.specs.ByteLaws.{length-hash}
 use Rattle.share.specs.Layout.{RECORD_MOST, record_len, record-within}
 use Rattle.share.specs.Record.{bit_at, mac_at}
 use Rattle.share.specs.Share.{share_at}
+use Rattle.encode.specs.Encode.{encode}
 use Rattle.plan.specs.Plan.{leaky, bits_count, dm_len}
 use Rattle.plan.specs.PlanLaws.{leaky-most}
 use Rattle.engine.specs.declared.Frame.{Frame}
@@ -100,3 +102,12 @@ three-written a b c l x y z k m e he ha hb h h' ex ey ez =
     let e2 : put_mid k (m - k) (put_mid 0 (k - 0) l x) y ≡ (a ++ b) ++ drop m l = over-next a b y l _ k (m - k) m e1 ha ey (omega arith) in
     over-next (a ++ b) c z l _ m (e - m) e e2 (length-append a b ∙ (let q : length a + length b ≡ m = omega arith in q)) ez (omega arith)
     ∙ over-full ((a ++ b) ++ c) l e (omega arith) ∙ append_assoc a b c
+
+-- a count, and behind it as many items of the same length
+pub counted : (c size : ℕ) (g : ℕ → List ℕ) (l x y : List ℕ) → length l ≡ 8 + c * size → x ≡ le8 c → y ≡ cat c g
+    → put_mid 8 (length (put_mid 0 8 l x) - 8) (put_mid 0 8 l x) y ≡ encode c g
+unfolding encode
+counted c size g l x y h ex ey =
+    let long : length (put_mid 0 8 l x) ≡ 8 + c * size = length-put 0 8 x l (ap length ex ∙ length-le8 c) (omega (arith, h)) ∙ h in
+    ap (λ m. put_mid 8 m (put_mid 0 8 l x) y) (let e : length (put_mid 0 8 l x) - 8 ≡ c * size = omega (arith, long) in e)
+    ∙ two-parts 8 (c * size) (le8 c) (cat c g) x y l h (length-le8 c) ex ey
