@@ -1,21 +1,21 @@
--- What the code of `fashare` makes: the records of the strings where they lie, d0 key by key, dm part by part, and the three commitments
--- to a string.
-use Rattle.std.specs.Prelude.{◌≡◌, refl, List, [], ◌∷◌, ◌++◌, ℕ, zero, suc, ◌+◌, ◌-◌, ◌*◌, ◌<◌, ◌≤◌, length, drop, set}
-use Rattle.std.proofs.Common.{sym, ap, ap₂, ◌∙◌, append_assoc, mul-le-mul, add-one, length-append, length-set, drop_at}
+-- What the code of `fashare` makes: the records of the strings where they lie, dm behind its bit byte, and the three commitments to a
+-- string.
+use Rattle.std.specs.Prelude.{◌≡◌, refl, List, [], ◌∷◌, ◌++◌, ℕ, ◌+◌, ◌-◌, ◌*◌, ◌<◌, ◌≤◌, length, drop, set}
+use Rattle.std.proofs.Common.{ap, ap₂, ◌∙◌, append_assoc, mul-le-mul, length-append, length-set}
 use native.Mathlib.Omega.{arith}
 use borrow.Rule.Slice.PartMut.{put_mid}
-use Rattle.lists.specs.Over.{cat, length-cat, in-chunks, over-set, over-next, over-full, Written}
+use Rattle.lists.specs.Over.{cat, length-cat, in-chunks, over-set, over-next, over-full, two-parts}
+use Rattle.lists.specs.Sect.{length-put}
 use Rattle.algebra.specs.Group.{num}
-use Rattle.algebra.specs.Sum.{others}
 use Rattle.block.specs.declared.Block.{Block}
-use Rattle.block.specs.Block.{bytes_of}
-use Rattle.block.specs.Group.{blocks}
-use Rattle.block.specs.Trip.{length-bytes_of}
+use Rattle.block.specs.Block.{bytes_of, le8}
+use Rattle.block.specs.Trip.{length-bytes_of, length-le8}
 use Rattle.blake3.specs.Tree.{hash}
 use Rattle.blake3.specs.ByteLaws.{length-hash}
 use Rattle.share.specs.Layout.{RECORD_MOST, record_len, record-within}
-use Rattle.share.specs.Record.{bit_at, mac_at, key_at}
+use Rattle.share.specs.Record.{bit_at, mac_at}
 use Rattle.share.specs.Share.{share_at}
+use Rattle.encode.specs.Encode.{encode}
 use Rattle.plan.specs.Plan.{leaky, bits_count, dm_len}
 use Rattle.plan.specs.PlanLaws.{leaky-most}
 use Rattle.engine.specs.declared.Frame.{Frame}
@@ -49,33 +49,7 @@ module _ {f : Frame} {recs : List ℕ} (g : AllRecords f recs) (q at : ℕ) (hq 
   pub entry_in : (k : ℕ) → k < f.n → at + record_len (k + 1) ≤ length recs
   entry_in k h = omega (arith, record-in, record-within f.n k h)
 
--- ---- d0, after k of n keys
-pub d0-is : (f : Frame) (recs : List ℕ) (q at k : ℕ) (s : Block) → at ≡ record_at f q → k ≡ f.n
-    → s ≡ others blocks f.i k (key_at recs at) → s ≡ d0 f recs q
-unfolding d0 own share_at
-d0-is f recs q at k s ea ek h = h ∙ ap₂ (λ n a. others blocks f.i n (key_at recs a)) ek ea
-
--- ---- dm: the bit byte, then the MACs
-abbrev pub dm_part : List ℕ → ℕ → ℕ → ℕ → List ℕ
-dm_part recs at i zero = num (bit_at recs at) ∷ []
-dm_part recs at i (suc p) = bytes_of (mac_at recs at (nth i p))
-
-pub part-next : (recs : List ℕ) (at i p : ℕ) → dm_part recs at i (p + 1) ≡ bytes_of (mac_at recs at (nth i p))
-part-next recs at i p = rw (add-one p)
-
-dm-parts : (recs : List ℕ) (at i c : ℕ)
-    → cat (suc c) (dm_part recs at i) ≡ num (bit_at recs at) ∷ cat c (λ p. bytes_of (mac_at recs at (nth i p)))
-unfolding cat
-dm-parts recs at i zero = refl
-dm-parts recs at i (suc c) = ap (λ (x : List ℕ). x ++ bytes_of (mac_at recs at (nth i c))) (dm-parts recs at i c)
-
-pub dm-is : (f : Frame) (recs : List ℕ) (q at : ℕ) (d : List ℕ) → at ≡ record_at f q
-    → d ≡ cat (f.n - 1 + 1) (dm_part recs at f.i) → d ≡ dm f recs q
-unfolding dm own share_at
-dm-is f recs q at d ea h =
-    h ∙ ap (λ n. cat n (dm_part recs at f.i)) (add-one (f.n - 1)) ∙ dm-parts recs at f.i (f.n - 1)
-    ∙ ap (λ a. num (bit_at recs a) ∷ cat (f.n - 1) (λ p. bytes_of (mac_at recs a (nth f.i p)))) ea
-
+-- ---- dm
 pub length-dm : (f : Frame) (recs : List ℕ) (q : ℕ) → length (dm f recs q) ≡ dm_len f.n
 unfolding dm dm_len
 length-dm f recs q =
@@ -83,18 +57,15 @@ length-dm f recs q =
     length-cat (f.n - 1) 16 _ (λ p h. length-bytes_of _) in
     omega (arith, e)
 
--- the bit byte is written
-pub dm-first : (g : ℕ → List ℕ) (v : ℕ) (l : List ℕ) → 0 < length l → g 0 ≡ v ∷ [] → Written g 1 1 (set l 0 v) (set l 0 v)
-unfolding cat
-dm-first g v l h e =
-    let w : set l 0 v ≡ cat 1 g ++ drop 1 l = over-set [] l 0 v refl h ∙ ap (λ (x : List ℕ). x ++ drop 1 l) (sym e) in
-    let n : length (cat 1 g) ≡ 1 = ap length e in
-    record {
-      here = w ∙ ap (λ (x : List ℕ). cat 1 g ++ x) (sym (ap (drop 1) w ∙ drop_at (cat 1 g) (drop 1 l) 1 n));
-      at = n;
-      fits = omega (arith, length-set l 0 v);
-      same = refl;
-    }
+-- the bit byte is written, then the MACs
+pub dm-written : (f : Frame) (recs : List ℕ) (q at v : ℕ) (l x : List ℕ) → length l ≡ dm_len f.n → at ≡ record_at f q → v ≡ num (bit_at recs at)
+    → x ≡ cat (f.n - 1) (λ p. bytes_of (mac_at recs at (nth f.i p))) → put_mid 1 (length (set l 0 v) - 1) (set l 0 v) x ≡ dm f recs q
+unfolding dm own share_at dm_len
+dm-written f recs q at v l x h ea ev ex =
+    let w : set l 0 v ≡ (v ∷ []) ++ drop 1 l = over-set [] l 0 v refl (omega arith) in
+    over-next (v ∷ []) x x l (set l 0 v) 1 (length (set l 0 v) - 1) (length l) w refl refl (omega (arith, length-set l 0 v))
+    ∙ over-full (v ∷ x) l (length l) (omega arith)
+    ∙ ap₂ ◌∷◌ (ev ∙ ap (λ a. num (bit_at recs a)) ea) (ex ∙ ap (λ a. cat (f.n - 1) (λ p. bytes_of (mac_at recs a (nth f.i p)))) ea)
 
 -- the longest one, of eight parties
 abbrev pub DM_MOST : ℕ
@@ -131,3 +102,12 @@ three-written a b c l x y z k m e he ha hb h h' ex ey ez =
     let e2 : put_mid k (m - k) (put_mid 0 (k - 0) l x) y ≡ (a ++ b) ++ drop m l = over-next a b y l _ k (m - k) m e1 ha ey (omega arith) in
     over-next (a ++ b) c z l _ m (e - m) e e2 (length-append a b ∙ (let q : length a + length b ≡ m = omega arith in q)) ez (omega arith)
     ∙ over-full ((a ++ b) ++ c) l e (omega arith) ∙ append_assoc a b c
+
+-- a count, and behind it as many items of the same length
+pub counted : (c size : ℕ) (g : ℕ → List ℕ) (l x y : List ℕ) → length l ≡ 8 + c * size → x ≡ le8 c → y ≡ cat c g
+    → put_mid 8 (length (put_mid 0 8 l x) - 8) (put_mid 0 8 l x) y ≡ encode c g
+unfolding encode
+counted c size g l x y h ex ey =
+    let long : length (put_mid 0 8 l x) ≡ 8 + c * size = length-put 0 8 x l (ap length ex ∙ length-le8 c) (omega (arith, h)) ∙ h in
+    ap (λ m. put_mid 8 m (put_mid 0 8 l x) y) (let e : length (put_mid 0 8 l x) - 8 ≡ c * size = omega (arith, long) in e)
+    ∙ two-parts 8 (c * size) (le8 c) (cat c g) x y l h (length-le8 c) ex ey

@@ -3,14 +3,13 @@
 // specs/Fashare.antt. Bits, MACs, keys and delta are secret, and decide no branch and no index.
 #![tactic(auto)]
 
-ghost use Rattle.std.specs.Prelude.{◌≡◌, ◌-◌, ◌*◌, ◌<◌, length};
+ghost use Rattle.std.specs.Prelude.{◌≡◌, ◌≢◌, ◌-◌, ◌*◌, ◌<◌, length};
 ghost use Rattle.lists.specs.Over.{cat};
 ghost use Rattle.blake3.specs.Tree as T;
 ghost use Rattle.plan.specs.Plan.{FASHARE_COMM, InRange, dm_len, msg_len};
 ghost use Rattle.engine.specs.Area.{to_others};
 ghost use Rattle.rounds.specs.Area as Area;
 ghost use Rattle.rounds.specs.Mail.{letter, Arrived};
-ghost use Rattle.rounds.specs.Loops.{row_of};
 ghost use Rattle.rounds.specs.Fashare as Fashare;
 ghost use Rattle.rounds.specs.Table as Table;
 ghost use Rattle.area.specs.Given.{Work};
@@ -48,9 +47,7 @@ pub fn record_at(f: Frame, q: usize) -> usize
     requires { InRange f.n f.l × (q < Fashare.STRINGS) }
     ensures { result ≡ Fashare.record_at f q }
 {
-    let n = f.n;
-    let l = f.l;
-    (3 * plan::leaky(l) + q) * share::record_len(n)
+    (3 * plan::leaky(f.l) + q) * share::record_len(f.n)
 }
 
 // "d0 is the XOR of own keys".
@@ -58,17 +55,8 @@ pub fn d0(recs: &[u8], f: Frame, q: usize) -> Block
     requires { (q < Fashare.STRINGS) × AllRecords f recs.now }
     ensures { result ≡ Fashare.d0 f recs.now q }
 {
-    let n = f.n;
-    let i = f.i;
     let at = record_at(f, q);
-    let mut sum = Block::zero();
-    let mut k = 0;
-    while k < n {
-        let key = share::key_at(recs, at, k);
-        sum = sum.xor(key.0.const_mul(i != k));
-        k += 1;
-    }
-    sum
+    algebra::sum_others(f.i, f.n, |k| share::key_at(recs, at, k).0)
 }
 
 // "dm = own bit byte, then MACs by party, own left out".
@@ -77,19 +65,14 @@ pub fn write_dm(out: &mut [u8], recs: &[u8], f: Frame, q: usize)
     requires q_bound { (q < Fashare.STRINGS) × AllRecords f recs.now }
     ensures { out.new ≡ Fashare.dm f recs.now q }
 {
-    let n = f.n;
-    let i = f.i;
     let at = record_at(f, q);
     out[0] = block::bit_byte(share::bit_at(recs, at));
-    let last = n - 1;
-    let mut p = 0;
-    while p < last {
-        let a = 1 + p * 16;
-        let e = a + 16;
-        let mac = share::mac_at(recs, at, plan::other(i, p));
-        block::store(&mut out[a..e], mac.0);
-        p += 1;
-    }
+    lists::write_rows(
+        &mut out[1..],
+        f.n - 1,
+        16,
+        |row, p| block::store(row, share::mac_at(recs, at, plan::other(f.i, p)).0),
+    );
 }
 
 // BLAKE3 of dm.
@@ -97,9 +80,8 @@ fn dm_digest(recs: &[u8], f: Frame, q: usize) -> Digest
     requires { (q < Fashare.STRINGS) × AllRecords f recs.now }
     ensures { result.0 ≡ T.digest (Fashare.dm f recs.now q) }
 {
-    let n = f.n;
     let mut dm = [0u8; DM_MOST];
-    let len = plan::dm_len(n);
+    let len = plan::dm_len(f.n);
     write_dm(&mut dm[..len], recs, f, q);
     blake3::digest_of(&dm[..len])
 }
@@ -123,13 +105,12 @@ fn comms(recs: &[u8], delta: Delta, f: Frame) -> [u8; ROW]
     ensures { result ≡ cat Fashare.STRINGS (comm_item f delta.0 recs.now) }
 {
     let mut all = [0u8; ROW];
-    let mut q = 0;
-    while q < STRINGS {
-        let a = q * COMM;
-        let e = a + COMM;
-        write_comm(&mut all[a..e], recs, delta, f, q);
-        q += 1;
-    }
+    lists::write_rows(
+        &mut all,
+        STRINGS,
+        COMM,
+        |row, q| write_comm(row, recs, delta, f, q),
+    );
     all
 }
 
@@ -140,27 +121,20 @@ pub fn write(out: &mut [u8], work: &[u8], f: Frame)
     ensures { out.new ≡ to_others f.n f.i
         (λ _. Fashare.comm_msg f (Table.delta f work.now) (Area.at f Area.BITS work.now)) }
 {
-    let n = f.n;
     let delta = area::delta(work, f);
     let all = comms(area::section(work, f, area::BITS), delta, f);
-    rounds::write_same(out, STRINGS, &all, n);
+    rounds::write_same(out, STRINGS, &all, f.n);
 }
 
 // ---- what is kept
 
-// Row k of the commitments: what party k sent, behind the count; zero for the own number.
-fn keep_row(row: &mut [u8], incoming: &[u8], mail: Mail, f: Frame, k: usize)
-    requires row_len { (length row.old ≡ Fashare.COMM_ROW) × (k < f.n) }
+// The commitments that party k sent, behind the count.
+fn comms_of(incoming: &[u8], mail: Mail, f: Frame, k: usize) -> &[u8]
+    requires k_lt_n { (k < f.n) × (f.i ≢ k) }
     requires arrived { Arrived f Fashare.COMM_MSG incoming.now mail }
-    ensures { row.new ≡ row_of f.i Fashare.COMM_ROW (Fashare.comms_in (letter incoming.now mail)) k }
+    ensures { (result.now ≡ Fashare.comms_in (letter incoming.now mail) k) × (length result.now ≡ Fashare.COMM_ROW) }
 {
-    let i = f.i;
-    if i == k {
-        fill::clear(row);
-    } else {
-        let m = rounds::letter(incoming, mail, k);
-        fill::copy(row, &m[8..MSG]);
-    }
+    &rounds::letter(incoming, mail, k)[8..MSG]
 }
 
 // The commitments of all others.
@@ -170,13 +144,11 @@ pub fn keep(work: &mut [u8], incoming: &[u8], mail: Mail, f: Frame)
     ensures { work.new ≡ Area.keep f Area.SHARE_COMMS
         (Fashare.comm_rows f (letter incoming.now mail)) work.old }
 {
-    let n = f.n;
-    let rows = area::section_at(f, area::SHARE_COMMS);
-    let mut k = 0;
-    while k < n {
-        let a = rows + k * ROW;
-        let e = a + ROW;
-        keep_row(&mut work[a..e], incoming, mail, f, k);
-        k += 1;
-    }
+    let p = area::place(f, area::SHARE_COMMS);
+    rounds::put_rows(
+        &mut work[p.0..p.1],
+        f,
+        ROW,
+        |row, k| row.copy_from_slice(comms_of(incoming, mail, f, k)),
+    );
 }

@@ -1,22 +1,14 @@
--- Round 12 of `fashare` as the code goes: where dms and commitments lie, the sums over them, and what a check says.
-use Rattle.std.specs.Prelude.{◌≡◌, Bool, true, false, not, ◌&&◌, ◌||◌, ◌≢◌, ℕ, ◌+◌, ◌-◌, ◌*◌, ◌<◌, ◌≤◌, length, get_or, take, drop, ltb}
-use Rattle.std.proofs.Math.Path.{refl, sym, ap, ap₂}
+-- Round 12 of `fashare` as the code goes: where dms and commitments lie, and what a check says.
+use Rattle.std.specs.Prelude.{◌≡◌, Bool, true, false, ◌||◌, ◌≢◌, ℕ, ◌+◌, ◌-◌, ◌*◌, ◌<◌, ◌≤◌, length, take, drop, ltb}
+use Rattle.std.proofs.Math.Path.{refl, sym, ap}
 use Rattle.std.proofs.Common.{◌∙◌, mul_assoc, mul-le-mul, arith, drop-drop, ltb-true, ltb-false}
-use Rattle.std.specs.Bool.{beq}
 use mathlib.Core.List.{List}
 use Rattle.lists.specs.Pick.{pick}
 use Rattle.lists.specs.Over.{in-chunks}
 use Rattle.lists.specs.Same.{same?, same-comm}
-use Rattle.algebra.specs.Group.{bits, addb, sel, odd}
-use Rattle.algebra.specs.Sum.{neq, others}
 use Rattle.block.specs.declared.Block.{Block}
 use Rattle.block.specs.Block.{block_at, bytes_of, eq_block}
-use Rattle.block.specs.Group.{blocks}
-use Rattle.block.specs.Trip.{length-bytes_of}
 use Rattle.blake3.specs.Tree.{hash}
-use Rattle.share.specs.Record.{mac_at}
-use Rattle.share.specs.Share.{share_at}
-use Rattle.encode.specs.Coded.{length-encode}
 use Rattle.plan.specs.Plan.{dm_len}
 use Rattle.engine.specs.declared.Frame.{Frame}
 use Rattle.rounds.specs.Area.{BITS, DMS, sizes, size_of, at}
@@ -54,43 +46,6 @@ mac-place n j k hj hk ne = go (ltb j k) refl
     go : (b : Bool) → ltb j k ≡ b → 1 + 16 * pick b (k - 1) k + 16 ≤ 1 + 16 * (n - 1)
     go true e = omega (arith, ltb-true j k e)
     go false e = omega (arith, ltb-false j k e)
-
--- ---- sums over the others
--- the code's sum of two bits, the second times d
-pub xor-sel : (a b d : Bool) → not (beq a (b && d)) ≡ addb a (sel bits d b)
-xor-sel false false false = refl
-xor-sel false false true = refl
-xor-sel false true false = refl
-xor-sel false true true = refl
-xor-sel true false false = refl
-xor-sel true false true = refl
-xor-sel true true false = refl
-xor-sel true true true = refl
-
-module _ (f : Frame) (recs dms : List ℕ) (q : ℕ) where
-  -- bit q of party k
-  abbrev pub bit_in : ℕ → Bool
-  bit_in k = odd (get_or dms ((k * STRINGS + q) * dm_len f.n) 0)
-
-  -- those of the first k parties, of which there are n
-  pub others1-is : (k : ℕ) (s : Bool) → k ≡ f.n → s ≡ others bits f.i k bit_in → s ≡ Fashare.others1 f dms q
-  unfolding Fashare.others1 Fashare.dm_row
-  others1-is k s e h = h ∙ ap (λ n. others bits f.i n bit_in) e
-
-  -- party j's MAC for k, but for k's own
-  abbrev pub mac_in : ℕ → ℕ → Block
-  mac_in k j = sel blocks (neq k j) (block_at dms (Fashare.dm_row f j q + Fashare.dm_mac j k))
-
-  -- the own one and those of the first j parties, of which there are n
-  pub macs-is : (k j : ℕ) (own sum : Block) → own ≡ mac_at recs (record_at f q) k → sum ≡ others blocks f.i j (mac_in k) → j ≡ f.n
-      → blocks.op own sum ≡ Fashare.macs_for f recs dms q k
-  unfolding Fashare.macs_for Fashare.own share_at
-  macs-is k j own sum eo es e = ap₂ blocks.op eo (es ∙ ap (λ n. others blocks f.i n (mac_in k)) e)
-
--- ---- the message
-pub length-dibi : (f : Frame) (delta : Block) (recs dms : List ℕ) → length (Fashare.dibi_msg f delta recs dms) ≡ DIBI_MSG
-unfolding Fashare.dibi_msg
-length-dibi f delta recs dms = length-encode 16 STRINGS _ (λ t h. length-bytes_of _)
 
 -- ---- commitments
 -- what the check says, with its three tests at hand

@@ -3,8 +3,9 @@
 // rounds, specs/Fashare.antt. Bits, MACs, keys and delta are secret, and decide no branch and no index; what a check found is public.
 #![tactic(auto)]
 
-ghost use Rattle.std.specs.Prelude.{◌≡◌, ◌+◌, ◌-◌, ◌*◌, ◌<◌, ◌≤◌, length};
-ghost use Rattle.algebra.specs.Group.{sel};
+ghost use Rattle.std.specs.Prelude.{◌≡◌, ◌≢◌, ◌+◌, ◌-◌, ◌*◌, ◌<◌, ◌≤◌, length, get_or};
+ghost use Rattle.refusals.specs.Reason.{code_of};
+ghost use Rattle.algebra.specs.Group.{sel, odd};
 ghost use Rattle.algebra.specs.Sum.{neq};
 ghost use Rattle.block.specs.Block.{block_at};
 ghost use Rattle.block.specs.Group.{blocks};
@@ -13,16 +14,17 @@ ghost use Rattle.engine.specs.Step.{by_party};
 ghost use Rattle.engine.specs.Area.{to_others};
 ghost use Rattle.rounds.specs.Area as Area;
 ghost use Rattle.rounds.specs.Mail.{letter, Arrived};
-ghost use Rattle.rounds.specs.FaultLaws.{Finds, fault_at};
+ghost use Rattle.rounds.specs.FaultLaws.{Finds};
 ghost use Rattle.rounds.specs.Fashare as Fashare;
 ghost use Rattle.rounds.specs.Table as Table;
 ghost use Rattle.area.specs.Given.{Work};
 ghost use Rattle.fashare_dibi.specs.Given.{DmsKept};
 
 use block::Block;
-use engine::Frame;
+use engine::{Frame, Verdict};
 use fashare_comm::{COMM, D1_AT, STRINGS};
-use rounds::{Fault, Mail};
+use refusals::Reason;
+use rounds::Mail;
 use share::{Delta, Key, Mac};
 
 // A message: a count, and a Block for each string.
@@ -39,22 +41,22 @@ fn dm_row(n: usize, k: usize, q: usize) -> usize
     (k * STRINGS + q) * plan::dm_len(n)
 }
 
+// Party k's bit of string q.
+fn bit_of(dms: &[u8], f: Frame, q: usize, k: usize) -> bool
+    requires k_lt_n { (k < f.n) × (f.n ≤ 8) }
+    requires q_bound { (q < Fashare.STRINGS) × (length dms.now ≡ f.n * (Fashare.STRINGS * dm_len f.n)) }
+    ensures { result ≡ odd (get_or dms.now (Fashare.dm_row f k q) 0) }
+{
+    block::bit(dms, dm_row(f.n, k, q))
+}
+
 // The XOR of the others' bits of string q.
 fn others_bit(dms: &[u8], f: Frame, q: usize) -> bool
     requires le_n { (1 ≤ f.n) × (f.n ≤ 8) }
     requires q_bound { (q < Fashare.STRINGS) × (length dms.now ≡ f.n * (Fashare.STRINGS * dm_len f.n)) }
     ensures { result ≡ Fashare.others1 f dms.now q }
 {
-    let n = f.n;
-    let i = f.i;
-    let mut sum = false;
-    let mut k = 0;
-    while k < n {
-        let bit = block::bit(dms, dm_row(n, k, q));
-        sum = sum ^ (bit & (i != k));
-        k += 1;
-    }
-    sum
+    algebra::sum_others(f.i, f.n, |k| bit_of(dms, f, q, k))
 }
 
 // d0 where the others' bits add to 0, else d1: delta is added by a product, so that no bit decides a branch.
@@ -76,13 +78,12 @@ fn write_msg(out: &mut [u8], recs: &[u8], dms: &[u8], delta: Delta, f: Frame)
     ensures { out.new ≡ Fashare.dibi_msg f delta.0 recs.now dms.now }
 {
     encode::put_count(&mut out[0..8], STRINGS);
-    let mut q = 0;
-    while q < STRINGS {
-        let a = 8 + q * 16;
-        let e = a + 16;
-        block::store(&mut out[a..e], opened(recs, dms, delta, f, q));
-        q += 1;
-    }
+    lists::write_rows(
+        &mut out[8..],
+        STRINGS,
+        16,
+        |row, q| block::store(row, opened(recs, dms, delta, f, q)),
+    );
 }
 
 // "then d0 or d1 by the XOR of the others' bits": to every other party.
@@ -92,18 +93,10 @@ pub fn write(out: &mut [u8], work: &[u8], f: Frame)
     ensures { out.new ≡ to_others f.n f.i (λ _. Fashare.dibi_msg f (Table.delta f work.now)
         (Area.at f Area.BITS work.now) (Area.at f Area.DMS work.now)) }
 {
-    let n = f.n;
     let delta = area::delta(work, f);
     let recs = area::section(work, f, area::BITS);
     let dms = area::section(work, f, area::DMS);
-    let last = n - 1;
-    let mut t = 0;
-    while t < last {
-        let a = t * MSG;
-        let e = a + MSG;
-        write_msg(&mut out[a..e], recs, dms, delta, f);
-        t += 1;
-    }
+    rounds::to_others(out, f, MSG, |row, _k| write_msg(row, recs, dms, delta, f));
 }
 
 // ---- the check
@@ -116,23 +109,17 @@ fn dm_mac_off(j: usize, k: usize) -> usize
     if j < k { 1 + 16 * (k - 1) } else { 1 + 16 * k }
 }
 
-// Party j's MAC for k in its dm of string q; zero for the own number and for k.
+// Party j's MAC for k in its dm of string q; zero for k's own.
 fn dm_mac(dms: &[u8], f: Frame, q: usize, k: usize, j: usize) -> Mac
     requires k_lt_n { (k < f.n) × (j < f.n) }
     requires n_bound { (f.n ≤ 8) × (q < Fashare.STRINGS) }
     requires dms_len { length dms.now ≡ f.n * (Fashare.STRINGS * dm_len f.n) }
-    ensures { result.0 ≡ sel blocks (neq f.i j) (sel blocks (neq k j)
-        (block_at dms.now (Fashare.dm_row f j q + Fashare.dm_mac j k))) }
+    ensures { result.0 ≡ sel blocks (neq k j) (block_at dms.now (Fashare.dm_row f j q + Fashare.dm_mac j k)) }
 {
-    let n = f.n;
-    let i = f.i;
-    if i == j {
-        return Mac(Block::zero());
-    }
     if k == j {
         return Mac(Block::zero());
     }
-    Mac(block::load(dms, dm_row(n, j, q) + dm_mac_off(j, k)))
+    Mac(block::load(dms, dm_row(f.n, j, q) + dm_mac_off(j, k)))
 }
 
 // The XOR of all MACs for k: the own one, and those in the dms of the others.
@@ -141,25 +128,26 @@ fn macs_for(recs: &[u8], dms: &[u8], f: Frame, q: usize, k: usize) -> Block
     requires dms_kept { DmsKept f recs.now dms.now }
     ensures { result ≡ Fashare.macs_for f recs.now dms.now q k }
 {
-    let n = f.n;
     let own = share::mac_at(recs, fashare_comm::record_at(f, q), k);
-    let mut sum = Mac(Block::zero());
-    let mut j = 0;
-    while j < n {
-        sum = sum.xor(dm_mac(dms, f, q, k, j));
-        j += 1;
-    }
-    let all = own.xor(sum);
-    all.0
+    let sum = algebra::sum_others(f.i, f.n, |j| dm_mac(dms, f, q, k, j).0);
+    own.xor(Mac(sum)).0
 }
 
-// 2 where what k sent for string q, in its message m, opens neither of its first two commitments, then 9 where it isn't the XOR of the MACs
-// for k.
-fn dibi_fault(recs: &[u8], comms: &[u8], dms: &[u8], m: &[u8], f: Frame, q: usize, k: usize) -> u8
+// Refused where what k sent for string q, in its message m, opens neither of its first two commitments, then where it isn't the XOR of the
+// MACs for k.
+fn check_opened(
+    recs: &[u8],
+    comms: &[u8],
+    dms: &[u8],
+    m: &[u8],
+    f: Frame,
+    q: usize,
+    k: usize,
+) -> Result<(), Reason>
     requires q_bound { (q < Fashare.STRINGS) × (k < f.n) }
     requires dms_kept { DmsKept f recs.now dms.now }
     requires comms_len { (length comms.now ≡ f.n * Fashare.COMM_ROW) × (Fashare.DIBI_MSG ≤ length m.now) }
-    ensures { result ≡ Fashare.dibi_fault f recs.now comms.now dms.now (λ _. m.now) q k }
+    ensures { code_of result ≡ Fashare.dibi_fault f recs.now comms.now dms.now (λ _. m.now) q k }
 {
     let d = block::load(m, 8 + q * 16);
     let digest = blake3::hash_block(d);
@@ -167,13 +155,17 @@ fn dibi_fault(recs: &[u8], comms: &[u8], dms: &[u8], m: &[u8], f: Frame, q: usiz
     let opens = digest.is(comms, at) | digest.is(comms, at + D1_AT);
     let due = macs_for(recs, dms, f, q, k).equals(d);
     if !opens {
-        return 2;
+        return Err(Reason::CommitmentCouldNotBeOpened);
     }
-    if due { 0 } else { 9 }
+    if due {
+        Ok(())
+    } else {
+        Err(Reason::AShareWrongMAC)
+    }
 }
 
-// The fault of party k at string q; the own number has none.
-fn party_fault(
+// What party k sent for string q.
+fn check_party(
     recs: &[u8],
     comms: &[u8],
     dms: &[u8],
@@ -182,19 +174,13 @@ fn party_fault(
     f: Frame,
     q: usize,
     k: usize,
-) -> u8
-    requires q_bound { (q < Fashare.STRINGS) × (k < f.n) }
+) -> Result<(), Reason>
+    requires q_bound { (q < Fashare.STRINGS) × ((k < f.n) × (f.i ≢ k)) }
     requires dms_kept { DmsKept f recs.now dms.now }
     requires comms_len { (length comms.now ≡ f.n * Fashare.COMM_ROW) × Arrived f Fashare.DIBI_MSG incoming.now mail }
-    ensures { result ≡ fault_at f.i (Fashare.dibi_fault f recs.now comms.now dms.now
-        (letter incoming.now mail) q) k }
+    ensures { code_of result ≡ Fashare.dibi_fault f recs.now comms.now dms.now (letter incoming.now mail) q k }
 {
-    let i = f.i;
-    if k == i {
-        return 0;
-    }
-    let m = rounds::letter(incoming, mail, k);
-    dibi_fault(recs, comms, dms, m, f, q, k)
+    check_opened(recs, comms, dms, rounds::letter(incoming, mail, k), f, q, k)
 }
 
 // The first fault of string q, party by party.
@@ -206,46 +192,32 @@ fn check_string(
     mail: Mail,
     f: Frame,
     q: usize,
-) -> Fault
+) -> Verdict
     requires q_bound { q < Fashare.STRINGS }
     requires dms_kept { DmsKept f recs.now dms.now }
     requires comms_len { (length comms.now ≡ f.n * Fashare.COMM_ROW) × Arrived f Fashare.DIBI_MSG incoming.now mail }
-    ensures { Finds result.code result.party (by_party f (Fashare.dibi_fault f recs.now comms.now
-        dms.now (letter incoming.now mail) q)) }
+    ensures { Finds result (by_party f (Fashare.dibi_fault f recs.now comms.now dms.now
+        (letter incoming.now mail) q)) }
 {
-    let n = f.n;
-    let mut k = 0;
-    while k < n {
-        let code = party_fault(recs, comms, dms, incoming, mail, f, q, k);
-        if code != 0 {
-            return Fault {
-                code: code,
-                party: k,
-            };
-        }
-        k += 1;
-    }
-    Fault { code: 0, party: 0 }
+    rounds::by_party(
+        f,
+        |k| check_party(recs, comms, dms, incoming, mail, f, q, k),
+    )
 }
 
-// What was opened against the commitments, and against the MACs in the dms, string by string: 2, then 9.
-pub fn judge(work: &[u8], incoming: &[u8], mail: Mail, f: Frame) -> Fault
+// What was opened against the commitments, and against the MACs in the dms, string by string.
+pub fn judge(work: &[u8], incoming: &[u8], mail: Mail, f: Frame) -> Verdict
     requires work { Work f work.now }
     requires arrived { Arrived f Fashare.DIBI_MSG incoming.now mail }
-    ensures { Finds result.code result.party (Fashare.dibi_faults f (Area.at f Area.BITS work.now)
+    ensures { Finds result (Fashare.dibi_faults f (Area.at f Area.BITS work.now)
         (Area.at f Area.SHARE_COMMS work.now) (Area.at f Area.DMS work.now)
         (letter incoming.now mail)) }
 {
     let recs = area::section(work, f, area::BITS);
     let comms = area::section(work, f, area::SHARE_COMMS);
     let dms = area::section(work, f, area::DMS);
-    let mut q = 0;
-    while q < STRINGS {
-        let e = check_string(recs, comms, dms, incoming, mail, f, q);
-        if e.code != 0 {
-            return e;
-        }
-        q += 1;
+    for q in 0..STRINGS {
+        check_string(recs, comms, dms, incoming, mail, f, q)?;
     }
-    Fault { code: 0, party: 0 }
+    Ok(())
 }

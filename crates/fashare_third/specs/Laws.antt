@@ -1,7 +1,7 @@
 -- The third commitments, message by message: the lowest string, and in it the lowest party, is what the definition finds string by string.
 use Rattle.std.proofs.Math.Path.{◌≡◌, refl, sym, ap, ap₂}
 use Rattle.std.proofs.Common.{◌∙◌, arith, drop-drop}
-use Rattle.std.specs.Prelude.{Bool, not, ◌≢◌, ℕ, ◌+◌, ◌-◌, ◌*◌, ◌<◌, ◌≤◌, length, drop}
+use Rattle.std.specs.Prelude.{Bool, not, ◌≢◌, ⊤, ℕ, ◌+◌, ◌-◌, ◌*◌, ◌<◌, ◌≤◌, length, drop, Option, None, Some, Result, Ok, Err}
 use Rattle.std.proofs.Math.Bool.{true, false}
 use mathlib.Core.List.{List}
 use Rattle.std.proofs.Math.ListN.{take}
@@ -15,7 +15,11 @@ use Rattle.blake3.specs.Tree.{hash}
 use Rattle.message.specs.declared.Kind.TheVariants.{Dms}
 use Rattle.message.specs.Format.{item_at, form_of}
 use Rattle.message.specs.FormatLaws.{at_zero, at_next}
+use Rattle.refusals.specs.declared.Reason.{Reason}
+use Rattle.refusals.specs.declared.Reason.TheVariants.{CommitmentCouldNotBeOpened}
+use Rattle.refusals.specs.Reason.{number}
 use Rattle.engine.specs.declared.Frame.{Frame}
+use Rattle.engine.specs.declared.Refusal.{Refusal}
 use Rattle.engine.specs.Step.{by_party}
 use Rattle.engine.specs.StepLaws.{scan-none, last_or}
 use Rattle.rounds.specs.Area.{first_of}
@@ -23,11 +27,16 @@ use Rattle.rounds.specs.Fashare.{STRINGS, COMM, COMM_ROW, comms_to, dm_at, whole
 use Rattle.rounds.specs.FaultLaws.{Finds, fault_at, fault-own, fault-other, finds-first, finds-none, item-first, item-none, first-none}
 use Rattle.rounds.specs.DmLaws.{dm-in}
 
--- r is the first number below `most` at which c isn't 0, or `most`
-pub record First (c : ℕ → ℕ) (most r : ℕ) : Type 0 where
-  pub below : r ≤ most
+-- r is the first number below `most` at which c isn't 0
+pub record Shut (c : ℕ → ℕ) (most r : ℕ) : Type 0 where
+  pub below : r < most
   pub clean : (q : ℕ) → q < r → c q ≡ 0
-  pub shut : r < most → c r ≢ 0
+  pub shut : c r ≢ 0
+
+-- so it is, or there is none
+abbrev pub First : (ℕ → ℕ) → ℕ → Option ℕ → Type 0
+First c most None = (q : ℕ) → q < most → c q ≡ 0
+First c most (Some r) = Shut c most r
 
 -- ---- one dm
 -- where the third commitment lies
@@ -77,55 +86,63 @@ module _ (comms m : List ℕ) (k : ℕ) where
     }
 
     -- it doesn't
-    pub opened-stop : (most : ℕ) (b : Bool) → q ≤ most → fault q ≡ pick b 0 2 → not b ≡ true → First fault most q
+    pub opened-stop : (most : ℕ) (b : Bool) → q < most → fault q ≡ pick b 0 2 → not b ≡ true → First fault most (Some q)
     opened-stop most b l f nb = record {
       below = l;
       clean = w.clean;
-      shut = λ _ z. let two : fault q ≡ 2 = f ∙ ap (λ t. pick t 0 2) (not-true b nb) in omega (arith, two, z);
+      shut = λ z. let two : fault q ≡ 2 = f ∙ ap (λ t. pick t 0 2) (not-true b nb) in omega (arith, two, z);
     }
 
     -- all do
-    pub opened-end : (most : ℕ) → q ≡ most → First fault most most
-    opened-end most e = record { below = omega arith; clean = λ j l. w.clean j (omega arith); shut = λ l. absurd (omega arith) }
+    pub opened-end : (most : ℕ) → q ≡ most → First fault most None
+    opened-end most e = λ j l. w.clean j (omega arith)
 
 -- ---- all messages: the lowest string in which one of the first k parties has a fault, and the lowest of them there
-pub record Lowest (c : ℕ → ℕ → ℕ) (k first party : ℕ) : Type 0 where
-  pub below : first ≤ STRINGS
-  pub clean : (j : ℕ) → j < k → (q : ℕ) → q < first → c q j ≡ 0
-  pub party-in : first < STRINGS → party < k
-  pub shut : first < STRINGS → c first party ≢ 0
-  pub lower : first < STRINGS → (j : ℕ) → j < party → c first j ≡ 0
+pub record Named (c : ℕ → ℕ → ℕ) (k most : ℕ) (r : Refusal) : Type 0 where
+  pub below : most < STRINGS
+  pub party-in : r.party < k
+  pub is : number r.reason ≡ c most r.party
+  pub lower : (j : ℕ) → j < r.party → c most j ≡ 0
+
+abbrev pub Says : (ℕ → ℕ → ℕ) → ℕ → ℕ → Result ⊤ Refusal → Type 0
+Says c k most (Ok _) = most ≡ STRINGS
+Says c k most (Err r) = Named c k most r
+
+pub record Lowest (c : ℕ → ℕ → ℕ) (k most : ℕ) (v : Result ⊤ Refusal) : Type 0 where
+  pub below : most ≤ STRINGS
+  pub clean : (j : ℕ) → j < k → (q : ℕ) → q < most → c q j ≡ 0
+  pub says : Says c k most v
 
 module _ (c : ℕ → ℕ → ℕ) where
-  pub lowest-none : Lowest c 0 STRINGS 0
-  lowest-none = record {
-    below = omega arith;
-    clean = λ j l. absurd (omega arith);
-    party-in = λ l. absurd (omega arith);
-    shut = λ l. absurd (omega arith);
-    lower = λ l. absurd (omega arith);
-  }
+  pub lowest-none : Lowest c 0 STRINGS (Ok tt)
+  lowest-none = record { below = omega arith; clean = λ j l. absurd (omega arith); says = refl }
 
-  module _ (k first party q : ℕ) (h : Lowest c k first party) (f : First (λ q. c q k) first q) where
+  says-more : (k most : ℕ) (v : Result ⊤ Refusal) → Says c k most v → Says c (k + 1) most v
+  says-more k most (Ok _) h = h
+  says-more k most (Err r) h = record { below = h.below; party-in = omega (arith, h.party-in); is = h.is; lower = h.lower }
+
+  module _ (k most : ℕ) (v : Result ⊤ Refusal) (h : Lowest c k most v) where
     -- party k has a lower string
-    pub lowest-new : q < first → Lowest c (k + 1) q k
-    lowest-new l = record {
-      below = omega (arith, h.below);
+    lowest-new : (r : Reason) (q : ℕ) → Shut (λ q. c q k) most q → number r ≡ c q k
+        → Lowest c (k + 1) q (Err (record { reason = r; party = k }))
+    lowest-new r q f e = record {
+      below = omega (arith, h.below, f.below);
       clean = λ j lj p lp.
-          last_or j k (λ j. c p j ≡ 0) (omega arith) (λ lk. h.clean j lk p (omega arith)) (f.clean p lp);
-      party-in = λ _. omega arith;
-      shut = λ _. f.shut l;
-      lower = λ _ j lj. h.clean j lj q l;
+          last_or j k (λ j. c p j ≡ 0) (omega arith) (λ lk. h.clean j lk p (omega (arith, f.below))) (f.clean p lp);
+      says = record {
+        below = omega (arith, h.below, f.below);
+        party-in = omega arith;
+        is = e;
+        lower = λ j lj. h.clean j lj q f.below;
+      };
     }
 
-    pub lowest-old : first ≤ q → Lowest c (k + 1) first party
-    lowest-old l = record {
+    -- it has none
+    lowest-old : ((q : ℕ) → q < most → c q k ≡ 0) → Lowest c (k + 1) most v
+    lowest-old f = record {
       below = h.below;
-      clean = λ j lj p lp.
-          last_or j k (λ j. c p j ≡ 0) (omega arith) (λ lk. h.clean j lk p lp) (f.clean p (omega arith));
-      party-in = λ s. omega (arith, h.party-in s);
-      shut = h.shut;
-      lower = h.lower;
+      clean = λ j lj p lp. last_or j k (λ j. c p j ≡ 0) (omega arith) (λ lk. h.clean j lk p lp) (f p lp);
+      says = says-more k most v h.says;
     }
 
 -- ---- the definition
@@ -135,21 +152,18 @@ module _ (f : Frame) (comms : List ℕ) (m : ℕ → List ℕ) where
   third_at q k = fault_at f.i (third_fault comms m q) k
 
   -- the own number has none
-  pub first-own : (k most : ℕ) → k ≡ f.i → First (λ q. third_at q k) most most
-  first-own k most e = record {
-    below = omega arith;
-    clean = λ q l. sym (fault-own f.i k (third_fault comms m q) e);
-    shut = λ l. absurd (omega arith);
-  }
+  third-own : (q k : ℕ) → k ≡ f.i → third_at q k ≡ 0
+  third-own q k e = sym (fault-own f.i k (third_fault comms m q) e)
 
-  -- another one has those of its message x
-  pub first-other : (k most r : ℕ) (x : List ℕ) → k ≢ f.i → x ≡ m k → First (λ q. third_fault comms (λ _. x) q k) most r
-      → First (λ q. third_at q k) most r
-  unfolding third_fault
-  first-other k most r x ne e h =
-      let is : (q : ℕ) → third_fault comms (λ _. x) q k ≡ third_at q k =
-      λ q. fault-other f.i k _ (third_fault comms m q) ne (ap (λ (y : List ℕ). third_fault comms (λ _. y) q k) e) in
-      record { below = h.below; clean = λ q l. sym (is q) ∙ h.clean q l; shut = λ l z. h.shut l (is r ∙ z) }
+  third-other : (q k : ℕ) → k ≢ f.i → third_fault comms m q k ≡ third_at q k
+  third-other q k ne = fault-other f.i k _ (third_fault comms m q) ne refl
+
+  shut-other : (k most q : ℕ) → k ≢ f.i → Shut (λ q. third_fault comms m q k) most q → Shut (λ q. third_at q k) most q
+  shut-other k most q ne h = record {
+    below = h.below;
+    clean = λ p l. sym (third-other p k ne) ∙ h.clean p l;
+    shut = λ z. h.shut (third-other q k ne ∙ z);
+  }
 
   -- it is 2 where there is one
   two : (q k : ℕ) → third_at q k ≢ 0 → 2 ≡ third_at q k
@@ -161,23 +175,32 @@ module _ (f : Frame) (comms : List ℕ) (m : ℕ → List ℕ) where
       go true false ne = refl
       go false t ne = absurd (ne refl)
 
-  module _ (k first party : ℕ) (e : k ≡ f.n) (h : Lowest third_at k first party) where
-    clean-string : (q : ℕ) → q < first → (by_party f (third_fault comms m q)).code ≡ 0
-    clean-string q l =
-        sym (finds-none f.n f.i (third_fault comms m q) f.l f.n 0 (scan-none f.n _ (λ j lj. h.clean j (omega arith) q l)) refl).code_is
+  -- a turn: party k has a lower string, has none, or is the own number
+  module _ (k most : ℕ) (v : Result ⊤ Refusal) (h : Lowest third_at k most v) where
+    pub turn-some : (q : ℕ) → k ≢ f.i → Shut (λ q. third_fault comms m q k) most q
+        → Lowest third_at (k + 1) q (Err (record { reason = CommitmentCouldNotBeOpened; party = k }))
+    turn-some q ne s =
+        let t = shut-other k most q ne s in
+        lowest-new third_at k most v h CommitmentCouldNotBeOpened q t (two q k t.shut)
 
-    clean-strings : (first_of first (λ q. by_party f (third_fault comms m q))).code ≡ 0
-    clean-strings = first-none first _ clean-string
+    pub turn-none : k ≢ f.i → ((q : ℕ) → q < most → third_fault comms m q k ≡ 0) → Lowest third_at (k + 1) most v
+    turn-none ne s = lowest-old third_at k most v h (λ q l. sym (third-other q k ne) ∙ s q l)
 
-    pub lowest-found : first < STRINGS → Finds 2 party (third_faults f comms m)
+    pub turn-own : k ≡ f.i → Lowest third_at (k + 1) most v
+    turn-own e = lowest-old third_at k most v h (λ q l. third-own q k e)
+
+  module _ (k most : ℕ) (e : k ≡ f.n) where
+    clean-string : (v : Result ⊤ Refusal) → Lowest third_at k most v → (q : ℕ) → q < most → (by_party f (third_fault comms m q)).code ≡ 0
+    clean-string v h q l =
+        finds-none f.n f.i (third_fault comms m q) f.l f.n (scan-none f.n _ (λ j lj. h.clean j (omega arith) q l)) refl
+
+    clean-strings : (v : Result ⊤ Refusal) → Lowest third_at k most v → (first_of most (λ q. by_party f (third_fault comms m q))).code ≡ 0
+    clean-strings v h = first-none most _ (clean-string v h)
+
+    pub lowest-found : (v : Result ⊤ Refusal) → Lowest third_at k most v → Finds v (third_faults f comms m)
     unfolding third_faults
-    lowest-found l =
-        let p : party < f.n = omega (arith, h.party-in l) in
-        item-first _ STRINGS first 2 party l clean-strings
-        (finds-first f.n f.i (third_fault comms m first) f.l party 2 p (scan-none party _ (h.lower l)) (two first party (h.shut l))
-        (λ z. omega arith))
-        (λ z. omega arith)
-
-    pub lowest-clean : STRINGS ≤ first → Finds 0 0 (third_faults f comms m)
-    unfolding third_faults
-    lowest-clean l = item-none _ STRINGS first 0 (omega (arith, h.below)) clean-strings
+    lowest-found (Ok u) h = item-none _ STRINGS most h.says (clean-strings (Ok u) h)
+    lowest-found (Err r) h =
+        item-first _ STRINGS most r h.says.below (clean-strings (Err r) h)
+        (finds-first f.n f.i (third_fault comms m most) f.l r.party r.reason (omega (arith, h.says.party-in))
+        (scan-none r.party _ h.says.lower) h.says.is)

@@ -6,23 +6,14 @@ use Rattle.lists.specs.Over.{over-next, over-full}
 use Rattle.block.specs.Block.{le8}
 use Rattle.block.specs.Trip.{length-le8}
 use Rattle.encode.specs.Encode.{dm_item}
-use Rattle.encode.specs.Coded.{length-encode}
-use Rattle.encode.specs.Coded as Coded
 use Rattle.plan.specs.Plan.{FASHARE_VER, dm_len, msg_len, list_len, kind_of, count_due}
 use Rattle.engine.specs.declared.Frame.{Frame}
-use Rattle.rounds.specs.Fashare.{STRINGS, dm, ver_msg}
+use Rattle.rounds.specs.Fashare.{STRINGS, dm}
 use Rattle.fashare_comm.specs.Laws.{length-dm}
-
-pub length-dm_item : (f : Frame) (recs : List ℕ) (q : ℕ) → length (dm_item (dm f recs q)) ≡ 8 + dm_len f.n
-length-dm_item f recs q = Coded.length-dm (dm f recs q) ∙ ap (λ n. 8 + n) (length-dm f recs q)
 
 -- the bytes of a message: a count, and dms each behind its length
 abbrev pub ver_len : ℕ → ℕ
 ver_len n = 8 + STRINGS * (8 + dm_len n)
-
-pub length-ver_msg : (f : Frame) (recs : List ℕ) → length (ver_msg f recs) ≡ ver_len f.n
-unfolding ver_msg
-length-ver_msg f recs = length-encode (8 + dm_len f.n) STRINGS _ (λ q h. length-dm_item f recs q)
 
 pub ver_len_lem : (n l : ℕ) → msg_len n l FASHARE_VER ≡ ver_len n
 unfolding msg_len list_len kind_of count_due

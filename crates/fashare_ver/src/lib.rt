@@ -21,8 +21,7 @@ fn put_dm(out: &mut [u8], recs: &[u8], f: Frame, q: usize)
     requires q_bound { (q < Fashare.STRINGS) × AllRecords f recs.now }
     ensures { out.new ≡ dm_item (Fashare.dm f recs.now q) }
 {
-    let n = f.n;
-    let len = plan::dm_len(n);
+    let len = plan::dm_len(f.n);
     let e = 8 + len;
     encode::put_count(&mut out[0..8], len);
     fashare_comm::write_dm(&mut out[8..e], recs, f, q);
@@ -34,16 +33,13 @@ fn write_msg(out: &mut [u8], recs: &[u8], f: Frame)
     requires all_records { AllRecords f recs.now }
     ensures { out.new ≡ Fashare.ver_msg f recs.now }
 {
-    let n = f.n;
-    let size = 8 + plan::dm_len(n);
     encode::put_count(&mut out[0..8], STRINGS);
-    let mut q = 0;
-    while q < STRINGS {
-        let a = 8 + q * size;
-        let e = a + size;
-        put_dm(&mut out[a..e], recs, f, q);
-        q += 1;
-    }
+    lists::write_rows(
+        &mut out[8..],
+        STRINGS,
+        8 + plan::dm_len(f.n),
+        |row, q| put_dm(row, recs, f, q),
+    );
 }
 
 // "then dm": to every other party.
@@ -52,15 +48,7 @@ pub fn write(out: &mut [u8], work: &[u8], f: Frame)
     requires out_len { length out.old ≡ (f.n - 1) * msg_len f.n f.l FASHARE_VER }
     ensures { out.new ≡ to_others f.n f.i (λ _. Fashare.ver_msg f (Area.at f Area.BITS work.now)) }
 {
-    let n = f.n;
     let recs = area::section(work, f, area::BITS);
-    let len = 8 + STRINGS * (8 + plan::dm_len(n));
-    let last = n - 1;
-    let mut t = 0;
-    while t < last {
-        let a = t * len;
-        let e = a + len;
-        write_msg(&mut out[a..e], recs, f);
-        t += 1;
-    }
+    let len = 8 + STRINGS * (8 + plan::dm_len(f.n));
+    rounds::to_others(out, f, len, |row, _k| write_msg(row, recs, f));
 }

@@ -1,16 +1,17 @@
 -- The dms of a message, as the code of round 10 checks and copies them.
 use Rattle.std.specs.Prelude.{◌≡◌, ◌≢◌, List, ℕ, ◌+◌, ◌-◌, ◌*◌, ◌<◌, ◌≤◌, length, get_or, take, drop, leb, eqb}
-use Rattle.std.proofs.Common.{sym, ap₂, ◌∙◌, arith, length-take, take_all}
+use Rattle.std.proofs.Common.{sym, ap₂, ◌∙◌, arith}
 use Rattle.std.proofs.Math.Path.{ap}
 use borrow.Author.Tests.{eq-eqb, ne_eqb, le-leb, lt-leb}
 use Rattle.lists.specs.Pick.{pick}
+use Rattle.lists.specs.Sect.{length-get}
 use Rattle.block.specs.Block.{word_at}
 use Rattle.message.specs.declared.Kind.TheVariants.{Dms}
 use Rattle.message.specs.Format.{item_at}
 use Rattle.plan.specs.Plan.{dm_len}
 use Rattle.engine.specs.declared.Frame.{Frame}
 use Rattle.rounds.specs.Fashare.{STRINGS, dm_at, dm_fault}
-use Rattle.rounds.specs.DmLaws.{Dues, dues-place}
+use Rattle.rounds.specs.DmLaws.{Dues, dues-place, dues_in}
 
 -- ---- the fault of one dm, which begins at a
 module _ (f : Frame) (m : List ℕ) (q k a : ℕ) (at : a ≡ item_at Dms m q) where
@@ -33,12 +34,12 @@ module _ (f : Frame) (m : List ℕ) (q k a : ℕ) (at : a ≡ item_at Dms m q) w
   pub dm-clean : word_at m a ≡ dm_len f.n → get_or m (a + 8) 0 ≤ 1 → 0 ≡ dm_fault f (λ _. m) q k
   dm-clean e h = dm-bit 0 e (ap (λ b. pick b 0 1) (sym (le-leb (get_or m (a + 8) 0) 1 h)))
 
--- ---- dm q, of the length that is due, copied: the bytes from `from` to `to`
-pub dues-copy : (n : ℕ) (m : List ℕ) → Dues n STRINGS m → (q from to c : ℕ) (x : List ℕ) → q < STRINGS → from ≡ 16 + q * (8 + dm_len n)
-    → to ≡ from + dm_len n → c ≡ dm_len n → x ≡ take c (take (to - from) (drop from m)) → x ≡ take (dm_len n) (drop (dm_at m q) m)
-dues-copy n m d q from to c x h e ht hc hx =
-    let k : to - from ≡ dm_len n = omega arith in
-    let t : List ℕ = take (dm_len n) (drop from m) in
-    hx ∙ ap₂ (λ a b. take a (take b (drop from m))) hc k
-    ∙ take_all (dm_len n) t (let w : length t ≤ dm_len n = omega (arith, length-take (dm_len n) (drop from m)) in w)
-    ∙ ap (λ p. take (dm_len n) (drop p m)) (dues-place n STRINGS m d q from h e)
+-- ---- dm q, of the length that is due: the bytes from `from` to `to`
+module _ (n : ℕ) (m : List ℕ) (d : Dues n STRINGS m) (q from to : ℕ) (h : q < STRINGS) (e : from ≡ 16 + q * (8 + dm_len n)) (t : to ≡ from + dm_len n) where
+  pub dues-part : take (to - from) (drop from m) ≡ take (dm_len n) (drop (dm_at m q) m)
+  dues-part = ap₂ (λ a b. take a (drop b m)) (let k : to - from ≡ dm_len n = omega arith in k) (dues-place n STRINGS m d q from h e)
+
+  pub length-dues : length (take (to - from) (drop from m)) ≡ dm_len n
+  length-dues =
+      let k : to - from ≡ dm_len n = omega arith in
+      rw k (length-get from (dm_len n) m (dues_in n STRINGS m d q from h e))

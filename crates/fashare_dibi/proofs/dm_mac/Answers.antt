@@ -1,7 +1,5 @@
 use Rattle.std.specs.Prelude.{◌+◌, ◌≤◌}
-use Rattle.lists.specs.Kit.{refl, sym, ap, ap₂, ◌∙◌, arith, length}
-use Rattle.algebra.specs.Group.{sel, sel-nil}
-use Rattle.algebra.specs.Sum.{neq}
+use Rattle.lists.specs.Kit.{refl, ap₂, ◌∙◌, arith, length}
 use Rattle.block.specs.Block.{block_at}
 use Rattle.block.specs.Group.{blocks}
 use Rattle.rounds.specs.Fashare as Fashare
@@ -10,13 +8,8 @@ use Rattle.fashare_dibi.specs.Laws.{dm-in, mac-place}
 use Rattle.fashare_dibi.proofs.dm_mac.Goals as goal
 use Rattle.fashare_dibi.proofs.dm_mac.Goals.{After-dm_mac_off}
 
-pub returns-then-i-j : goal.returns-then-i-j
-returns-then-i-j c = c.zero.ensures ∙ sel-own blocks _ _ _ c.if-i-j.true
-
 pub returns-then-k-j : goal.returns-then-k-j
-returns-then-k-j c =
-    c.zero-then-k-j.ensures ∙ sym (sel-nil blocks (neq c.args.f.i c.args.j))
-    ∙ ap (sel blocks (neq c.args.f.i c.args.j)) (sel-own blocks c.args.k c.args.j _ c.if-k-j.true)
+returns-then-k-j c = c.zero.ensures ∙ sel-own blocks c.args.k c.args.j _ c.if-k-j.true
 
 -- the MAC lies within
 within : (c : After-dm_mac_off) → c.dm_row.result + c.dm_mac_off.result + 16 ≤ length c.args.dms.now
@@ -40,4 +33,3 @@ returns c =
     c.load.ensures
     ∙ ap₂ (λ x y. block_at c.args.dms.now (x + y)) c.dm_row.ensures c.dm_mac_off.ensures
     ∙ sel-other blocks c.args.k c.args.j _ _ c.if-k-j.false refl
-    ∙ sel-other blocks c.args.f.i c.args.j _ _ c.if-i-j.false refl

@@ -1,5 +1,5 @@
-use Rattle.std.specs.Prelude.{◌≡◌, ◌+◌, ◌-◌, ◌*◌, ◌<◌, ◌≤◌}
-use Rattle.lists.specs.Kit.{not, refl, ap, ◌∙◌, arith, length, drop, take, rules}
+use Rattle.std.specs.Prelude.{◌≡◌, ◌+◌, ◌*◌, ◌<◌, ◌≤◌}
+use Rattle.lists.specs.Kit.{not, refl, ap, ◌∙◌, arith, length, drop, take}
 use Rattle.lists.specs.Pick.{pick}
 use Rattle.lists.specs.Same.{same?}
 use Rattle.block.specs.Block.{word_at}
@@ -10,7 +10,7 @@ use Rattle.fashare_third.proofs.first_shut.Goals as goal
 use Rattle.fashare_third.proofs.first_shut.Goals.{After-digest_of-digest, After-is, In-loop-q}
 
 pub loop-q-init : goal.loop-q-init
-loop-q-init c = (search rules, opened-start c.args.comms.now c.args.m.now c.args.k)
+loop-q-init c = opened-start c.args.comms.now c.args.m.now c.args.k
 
 -- ---- in a turn
 
@@ -19,7 +19,7 @@ string c = omega (arith, c.loop-q-test.true, c.requires.most_bound)
 
 inside : (c : In-loop-q) → (c.loop-q.at) + 8 + word_at c.args.m.now (c.loop-q.at) ≤ length c.args.m.now
 inside c =
-    opened_in c.args.comms.now c.args.m.now c.args.k c.loop-q.q (c.loop-q.at) c.loop-q.invariant.1 c.requires.m_value (string c)
+    opened_in c.args.comms.now c.args.m.now c.args.k c.loop-q.q (c.loop-q.at) c.loop-q.invariant c.requires.m_value (string c)
 
 pub overflow_add-from : goal.overflow_add-from
 overflow_add-from c = omega (arith, inside (goal.at.overflow_add-from c).In-loop-q)
@@ -57,22 +57,20 @@ is-requires c = omega (arith, placed (goal.at.is-requires c).After-digest_of-dig
 said : (c : After-is) → third_fault c.args.comms.now (λ _. c.args.m.now) c.loop-q.q c.args.k ≡ pick c.is.result 0 2
 unfolding hash
 said c =
-    third-is c.args.comms.now c.args.m.now c.loop-q.q c.args.k (c.loop-q.at) c.loop-q.invariant.1.at-is ((c.loop-q.at) + 8) ((c.loop-q.at) + 8 + c.load64.result) c.is.result refl
+    third-is c.args.comms.now c.args.m.now c.loop-q.q c.args.k (c.loop-q.at) c.loop-q.invariant.at-is ((c.loop-q.at) + 8) ((c.loop-q.at) + 8 + c.load64.result) c.is.result refl
     (ap (λ w. (c.loop-q.at) + 8 + w) c.load64.ensures)
     (c.is.ensures ∙ ap (λ d. same? (take 32 (drop ((c.args.k * STRINGS + c.loop-q.q) * COMM + 64) c.args.comms.now)) (bytes d)) c.digest_of-digest.ensures)
 
 pub returns-then-not-is : goal.returns-then-not-is
 returns-then-not-is c =
-    opened-stop c.args.comms.now c.args.m.now c.args.k c.loop-q.q (c.loop-q.at) c.loop-q.invariant.1 c.args.most c.is.result
-    c.loop-q.invariant.0 (said (goal.at.returns-then-not-is c).After-is) (ap not c.if-not-is.true)
+    opened-stop c.args.comms.now c.args.m.now c.args.k c.loop-q.q (c.loop-q.at) c.loop-q.invariant c.args.most c.is.result
+    c.loop-q-test.true (said (goal.at.returns-then-not-is c).After-is) (ap not c.if-not-is.true)
 
 pub loop-q-preserved : goal.loop-q-preserved
-loop-q-preserved c = (
-  omega (arith, c.loop-q-test.true),
-  opened-turn c.args.comms.now c.args.m.now c.args.k c.loop-q.q (c.loop-q.at) c.loop-q.invariant.1 c.requires.m_value (string (goal.at.loop-q-preserved c).In-loop-q) _ c.is.result
-      (ap (λ w. (c.loop-q.at) + 8 + w) c.load64.ensures) (said (goal.at.loop-q-preserved c).After-is) (ap not c.if-not-is.false),
-)
+loop-q-preserved c =
+    opened-turn c.args.comms.now c.args.m.now c.args.k c.loop-q.q (c.loop-q.at) c.loop-q.invariant c.requires.m_value (string (goal.at.loop-q-preserved c).In-loop-q) _ c.is.result
+    (ap (λ w. (c.loop-q.at) + 8 + w) c.load64.ensures) (said (goal.at.loop-q-preserved c).After-is) (ap not c.if-not-is.false)
 
 pub returns : goal.returns
 returns c =
-    opened-end c.args.comms.now c.args.m.now c.args.k c.loop-q.q c.loop-q.at c.loop-q.invariant.1 c.args.most (omega arith)
+    opened-end c.args.comms.now c.args.m.now c.args.k c.loop-q.q c.loop-q.at c.loop-q.invariant c.args.most (omega arith)

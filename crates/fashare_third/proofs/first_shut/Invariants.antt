@@ -1,10 +1,6 @@
 -- The loop's invariant: the walk stands before dm q, and those before open their commitments.
-use Rattle.std.specs.Prelude.{◌-◌, ◌≤◌}
 use Rattle.fashare_third.specs.Laws.{Opened}
 use Rattle.fashare_third.proofs.first_shut.Given as goal
 
 abbrev pub invariant-loop-q : goal.invariant-loop-q
-invariant-loop-q l = (l.q ≤ l.most) × Opened l.comms l.m l.k l.q l.at
-
-abbrev pub decreases-loop-q : goal.decreases-loop-q
-decreases-loop-q l = l.most - l.q
+invariant-loop-q l = Opened l.comms l.m l.k l.q l.at

@@ -1,31 +1,37 @@
-use Rattle.std.specs.Prelude.{◌-◌}
-use Rattle.lists.specs.Kit.{arith, rules}
+use Rattle.lists.specs.Kit.{sym, arith}
 use Rattle.rounds.specs.Area.{SHARE_COMMS}
+use Rattle.rounds.specs.Mail.{letter}
 use Rattle.area.specs.GivenLaws.{lent_length}
 use Rattle.area.specs.Sizes.{size-share-comms}
-use Rattle.fashare_third.specs.Laws.{lowest-none, lowest-new, lowest-old, lowest-found, lowest-clean}
+use Rattle.fashare_third.specs.Laws.{lowest-none, turn-some, turn-none, turn-own, lowest-found}
 use Rattle.fashare_third.proofs.judge.Goals as goal
+use Rattle.fashare_third.proofs.judge.Goals.{then-k-f+in-Some, then-k-f+in_default, else-k-f}
 
 pub loop-k-init : goal.loop-k-init
-loop-k-init c = (search rules, lowest-none _)
+loop-k-init c = lowest-none _
 
-pub shut_of-q-requires : goal.shut_of-q-requires
-shut_of-q-requires c =
-    record { comms_len = lent_length c.requires.work SHARE_COMMS _ _ (omega arith) (size-share-comms c.args.f) c.section-comms.ensures; k_lt_n = (c.loop-k-test.true, c.loop-k.invariant.1.below); received = c.requires.received }
+pub shut_of-requires-clause-comms_len : goal.shut_of-requires-clause-comms_len
+shut_of-requires-clause-comms_len c = lent_length c.requires.work SHARE_COMMS _ _ (omega arith) (size-share-comms c.args.f) c.section-comms.ensures
+
+pub shut_of-requires-clause-k_lt_n : goal.shut_of-requires-clause-k_lt_n
+shut_of-requires-clause-k_lt_n c = (c.loop-k-test.true, ((λ e. c.if-k-f.true (sym e)), c.loop-k.invariant.below))
 
 -- the walk found an earlier string, or none
 pub loop-k-preserved : goal.loop-k-preserved
 loop-k-preserved c =
-    let found = lowest-new _ c.loop-k.k c.loop-k.first c.loop-k.party c.shut_of-q.result c.loop-k.invariant.1 c.shut_of-q.ensures in
-    let none = lowest-old _ c.loop-k.k c.loop-k.first c.loop-k.party c.shut_of-q.result c.loop-k.invariant.1 c.shut_of-q.ensures in
-    (omega (arith, c.loop-k-test.true), grind arith)
-
-pub returns-then-first-lt-STRINGS : goal.returns-then-first-lt-STRINGS
-returns-then-first-lt-STRINGS c =
-    rw (← c.section-comms.ensures)
-    (lowest-found c.args.f _ _ c.loop-k.k c.loop-k.first c.loop-k.party (omega (arith, c.loop-k-test.false)) c.loop-k.invariant.1 c.if-first-lt-STRINGS.true)
+    let f = c.args.f in
+    let comms = c.section-comms.result.now in
+    let m = letter c.args.incoming.now c.args.mail in
+    let k = c.loop-k.k in
+    let most = c.loop-k.most in
+    let v = c.loop-k.verdict in
+    elim c.if-k-f.branch [
+      | then-k-f+in-Some w ↦ rw (w.most-is, w.verdict-is) (turn-some f comms m k most v c.loop-k.invariant w.in-Some.q w.if-k-f.true w.in-Some.ensures)
+      | then-k-f+in_default w ↦ rw (w.most-is, w.verdict-is) (turn-none f comms m k most v c.loop-k.invariant w.if-k-f.true w.in_default.ensures)
+      | else-k-f w ↦ rw (w.most-is, w.verdict-is) (turn-own f comms m k most v c.loop-k.invariant w.if-k-f.false)
+    ]
 
 pub returns : goal.returns
 returns c =
     rw (← c.section-comms.ensures)
-    (lowest-clean c.args.f _ _ c.loop-k.k c.loop-k.first c.loop-k.party (omega (arith, c.loop-k-test.false)) c.loop-k.invariant.1 c.if-first-lt-STRINGS.false)
+    (lowest-found c.args.f _ _ c.loop-k.k c.loop-k.most (omega arith) c.loop-k.verdict c.loop-k.invariant)

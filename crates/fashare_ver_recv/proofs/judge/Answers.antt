@@ -1,13 +1,15 @@
-use Rattle.lists.specs.Kit.{sym, ◌∙◌}
+use Rattle.std.specs.Prelude.{◌≡◌, Err}
+use Rattle.lists.specs.Kit.{rules}
 use Rattle.rounds.specs.Fashare.{ver_faults}
 use Rattle.rounds.specs.FaultLaws.{finds-one, finds-two}
 use Rattle.fashare_ver_recv.proofs.judge.Goals as goal
 
-pub returns-then-shut-ne0 : goal.returns-then-shut-ne0
+pub returns-in_err-judge : goal.returns-in_err-judge
 unfolding ver_faults
-returns-then-shut-ne0 c = finds-one _ _ _ _ c.judge-shut.ensures c.if-shut-ne0.true
+returns-in_err-judge c =
+    let r : c.from_residual.result ≡ Err c.in_err-judge.field-0.0 = search rules in
+    rw r (finds-one c.in_err-judge.field-0.0 _ _ c.in_err-judge.ensures)
 
 pub returns : goal.returns
 unfolding ver_faults
-returns c =
-    finds-two _ _ _ _ (sym c.judge-shut.ensures.code_is ∙ c.if-shut-ne0.false) c.check_strings-odd.ensures
+returns c = finds-two _ _ _ c.in_ok-judge.ensures c.check_strings.ensures

@@ -8,8 +8,8 @@ use Rattle.block.specs.Block.{bytes_of, eq_block}
 use Rattle.blake3.specs.Tree.{bytes, hash}
 use Rattle.rounds.specs.Fashare as Fashare
 use Rattle.fashare_dibi.specs.Laws.{fault-is}
-use Rattle.fashare_dibi.proofs.dibi_fault.Goals as goal
-use Rattle.fashare_dibi.proofs.dibi_fault.Goals.{After-equals-due, Else-not-opens}
+use Rattle.fashare_dibi.proofs.check_opened.Goals as goal
+use Rattle.fashare_dibi.proofs.check_opened.Goals.{After-equals-due, Else-not-opens}
 
 -- what the tests say, in the definition's words
 said : (c : After-equals-due) → Fashare.dibi_fault c.args.f c.args.recs.now c.args.comms.now c.args.dms.now (λ _. c.args.m.now) c.args.q c.args.k

@@ -8,8 +8,8 @@ use Rattle.plan.specs.Plan.{dm_len}
 use Rattle.rounds.specs.DmLaws.{dm-in, dues-at}
 use Rattle.fashare_comm.specs.Laws.{dm-most, place-most}
 use Rattle.fashare_ver_recv.specs.Laws.{dm-length, dm-bit-over, dm-clean}
-use Rattle.fashare_ver_recv.proofs.dm_fault.Goals as goal
-use Rattle.fashare_ver_recv.proofs.dm_fault.Goals.{After-dm_len-due, Else-len-due}
+use Rattle.fashare_ver_recv.proofs.check_dm.Goals as goal
+use Rattle.fashare_ver_recv.proofs.check_dm.Goals.{After-dm_len-due, Else-len-due}
 
 -- ---- where the dm lies
 
