@@ -60,6 +60,14 @@ pub fn hash_of(s: &[u8], i: usize, k: usize) -> Hashes
     Hashes(block::load(s, at), block::bit(s, at + 31))
 }
 
+// The same, where a hash of every party but the own is there.
+pub fn hash_by(s: &[u8], f: Frame, k: usize) -> Hashes
+    requires { (f.i < f.n) × (k < f.n) × (f.i ≢ k) × (length s.now ≡ (f.n - 1) * 32) }
+    ensures { (result.0 ≡ g_at f.i s.now k) × (result.1 ≡ h_at f.i s.now k) }
+{
+    hash_of(s, f.i, k)
+}
+
 // The key of party k in the record at `at`, or the MAC for it.
 fn part_of(recs: &[u8], at: usize, n: usize, k: usize, keys: bool) -> Block
     requires { (n ≤ 8) × (k < n) × (at + record_len n ≤ length recs.now) }
