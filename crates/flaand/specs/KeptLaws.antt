@@ -1,9 +1,12 @@
 -- Where what was kept of a position lies.
-use Rattle.std.specs.Prelude.{◌≡◌, List, ℕ, suc, ◌+◌, ◌*◌, ◌<◌, ◌≤◌, length}
+use Rattle.std.specs.Prelude.{◌≡◌, List, ℕ, ◌+◌, ◌-◌, ◌*◌, ◌<◌, ◌≤◌, length}
 use Rattle.std.proofs.Common.{ap, ap₂, ◌∙◌, arith}
-use Rattle.lists.specs.Over.{in-record, in-chunks}
-use Rattle.block.specs.Trip.{length-bytes_of}
-use Rattle.encode.specs.Encode.{bit_block}
+use borrow.Rule.Slice.PartMut.{put_mid}
+use Rattle.lists.specs.Over.{cat, in-record, in-chunks, two-parts}
+use Rattle.lists.specs.Sect.{length-put}
+use Rattle.block.specs.Block.{le8}
+use Rattle.block.specs.Trip.{length-le8}
+use Rattle.encode.specs.Encode.{encode, bit_block}
 use Rattle.share.specs.Record.{record_len}
 use Rattle.plan.specs.Plan.{leaky}
 use Rattle.engine.specs.declared.Frame.{Frame}
@@ -51,6 +54,11 @@ three-lent g {x} {x'} {y} {y'} {z} {z'} p q r = ap₂ (λ (a b : List ℕ). g a 
 unfoldable pub item : Frame → List ℕ → List ℕ → List ℕ → ℕ → ℕ → List ℕ
 item f recs rows zs k t = bit_block (e f recs zs t) (u_at f rows k t)
 
-pub length-item : (f : Frame) (recs rows zs : List ℕ) (k t : ℕ) → length (item f recs rows zs k t) ≡ 17
-unfolding item bit_block
-length-item f recs rows zs k t = ap suc (length-bytes_of (u_at f rows k t))
+-- a count, and `size` bytes for each item behind it
+pub list_written : (c size : ℕ) (g : ℕ → List ℕ) (l x y : List ℕ) → length l ≡ 8 + c * size → x ≡ le8 c → y ≡ cat c g
+    → put_mid 8 (length (put_mid 0 8 l x) - 8) (put_mid 0 8 l x) y ≡ encode c g
+unfolding encode
+list_written c size g l x y h ex ey =
+    let long : length (put_mid 0 8 l x) ≡ 8 + c * size = length-put 0 8 x l (ap length ex ∙ length-le8 c) (omega arith) ∙ h in
+    ap (λ m. put_mid 8 m (put_mid 0 8 l x) y) (let e : length (put_mid 0 8 l x) - 8 ≡ c * size = omega (arith, long) in e)
+    ∙ two-parts 8 (c * size) (le8 c) (cat c g) x y l h (length-le8 c) ex ey

@@ -3,10 +3,10 @@
 // specs/Flaand.antt. Bits, MACs, keys, delta, z and h are secret: they decide no branch and no index. An e that was received is public.
 #![tactic(auto)]
 
-ghost use Rattle.std.specs.Prelude.{◌≡◌, ◌+◌, ◌-◌, ◌*◌, ◌<◌, ◌≤◌, length, get_or};
+ghost use Rattle.std.specs.Prelude.{◌≡◌, ◌≢◌, ◌+◌, ◌-◌, ◌*◌, ◌<◌, ◌≤◌, length, get_or};
 ghost use Rattle.lists.specs.Over.{tab};
 ghost use Rattle.algebra.specs.Group.{XorGroup, sel, odd, num};
-ghost use Rattle.algebra.specs.Sum.{neq, others};
+ghost use Rattle.algebra.specs.Sum.{others};
 ghost use Rattle.block.specs.Group.{blocks};
 ghost use Rattle.share.specs.Record.{record_len, mac_at, key_at};
 ghost use Rattle.encode.specs.Encode.{bit_block};
@@ -14,7 +14,6 @@ ghost use Rattle.plan.specs.Plan as Plan;
 ghost use Rattle.plan.specs.Plan.{FLAAND, InRange, msg_len};
 ghost use Rattle.engine.specs.Area.{to_others};
 ghost use Rattle.rounds.specs.Area.{BITS, LEAKY, ZS, ES, HS, leaky_len, at, keep};
-ghost use Rattle.rounds.specs.Loops.{row_of};
 ghost use Rattle.rounds.specs.Mail.{letter, Arrived};
 ghost use Rattle.rounds.specs.Haand as R;
 ghost use Rattle.rounds.specs.Flaand as F;
@@ -62,16 +61,14 @@ fn put_message(out: &mut [u8], recs: &[u8], rows: &[u8], zs: &[u8], f: Frame, k:
     requires half_ands { HalfAnds f recs.now rows.now zs.now }
     ensures { out.new ≡ F.flaand_msg f recs.now rows.now zs.now k }
 {
-    let l = f.l;
-    let count = plan::leaky(l);
-    encode::put_count(&mut out[0..COUNT], count);
-    let mut t = 0;
-    while t < count {
-        let a = COUNT + t * ITEM;
-        let e = a + ITEM;
-        put_item(&mut out[a..e], recs, rows, zs, f, k, t);
-        t += 1;
-    }
+    let count = plan::leaky(f.l);
+    encode::put_count(&mut out[..COUNT], count);
+    lists::write_rows(
+        &mut out[COUNT..],
+        count,
+        ITEM,
+        |row, t| put_item(row, recs, rows, zs, f, k, t),
+    );
 }
 
 // The messages to all others.
@@ -81,18 +78,8 @@ fn write_all(out: &mut [u8], recs: &[u8], rows: &[u8], zs: &[u8], f: Frame)
     ensures { out.new ≡ to_others f.n f.i
         (F.flaand_msg f recs.now rows.now zs.now) }
 {
-    let n = f.n;
-    let i = f.i;
-    let l = f.l;
-    let len = COUNT + plan::leaky(l) * ITEM;
-    let last = n - 1;
-    let mut q = 0;
-    while q < last {
-        let a = q * len;
-        let e = a + len;
-        put_message(&mut out[a..e], recs, rows, zs, f, plan::other(i, q));
-        q += 1;
-    }
+    let len = COUNT + plan::leaky(f.l) * ITEM;
+    rounds::to_others(out, f, len, |row, k| put_message(row, recs, rows, zs, f, k));
 }
 
 // The bits e of the message m, as many as the row has bytes.
@@ -100,27 +87,18 @@ fn put_es(row: &mut [u8], m: &[u8])
     requires { 8 + length row.old * 17 ≤ length m.now }
     ensures { row.new ≡ tab (length row.old) (λ t. num (odd (get_or m.now (8 + t * 17) 0))) }
 {
-    let mut t = 0;
-    while t < row.len() {
+    for t in 0..row.len() {
         row[t] = block::bit_byte(block::bit(m, COUNT + t * ITEM));
-        t += 1;
     }
 }
 
-// The bits e of party k; zero for the own number.
+// The bits e of party k.
 fn keep_e_row(row: &mut [u8], incoming: &[u8], mail: Mail, f: Frame, k: usize)
-    requires k_lt_n { k < f.n }
+    requires k_lt_n { (k < f.n) × (f.i ≢ k) }
     requires arrived { Arrived f (8 + length row.old * 17) incoming.now mail }
-    ensures { row.new ≡ row_of f.i (length row.old) (λ k. tab (length row.old)
-        (λ t. num (F.e_told (letter incoming.now mail) k t))) k }
+    ensures { row.new ≡ tab (length row.old) (λ t. num (F.e_told (letter incoming.now mail) k t)) }
 {
-    let i = f.i;
-    if i == k {
-        fill::clear(row);
-        return;
-    }
-    let m = rounds::letter(incoming, mail, k);
-    put_es(row, m);
+    put_es(row, rounds::letter(incoming, mail, k));
 }
 
 // The bits e of all others.
@@ -130,16 +108,12 @@ fn keep_es(section: &mut [u8], incoming: &[u8], mail: Mail, f: Frame)
     ensures { section.new ≡ F.e_rows f
         (letter incoming.now mail) }
 {
-    let n = f.n;
-    let l = f.l;
-    let len = plan::leaky(l);
-    let mut k = 0;
-    while k < n {
-        let a = k * len;
-        let e = a + len;
-        keep_e_row(&mut section[a..e], incoming, mail, f, k);
-        k += 1;
-    }
+    rounds::put_rows(
+        section,
+        f,
+        plan::leaky(f.l),
+        |row, k| keep_e_row(row, incoming, mail, f, k),
+    );
 }
 
 // ---- h
@@ -154,7 +128,7 @@ fn term(recs: &[u8], at: usize, k: usize, delta: Delta, e: bool) -> Block
     share::mac_at(recs, at, k).0.xor(key.0)
 }
 
-// The same of party k at position t; zero for the own number. The r record is at `at`.
+// The same of party k at position t. The r record is at `at`.
 fn z_term(
     recs: &[u8],
     at: usize,
@@ -165,18 +139,12 @@ fn z_term(
     t: usize,
     k: usize,
 ) -> Block
-    requires n_bound { (f.n ≤ 8) × ((k < f.n) × (t < Plan.leaky f.l)) }
+    requires n_bound { (f.n ≤ 8) × (k < f.n) × (f.i ≢ k) × (t < Plan.leaky f.l) }
     requires n_in_bounds { at + record_len f.n ≤ length recs.now }
     requires arrived { Arrived f (8 + Plan.leaky f.l * 17) incoming.now mail }
-    ensures { result ≡ sel blocks (neq f.i k) (z_term recs.now at delta.0
-        (letter incoming.now mail) t k) }
+    ensures { result ≡ z_term recs.now at delta.0 (letter incoming.now mail) t k }
 {
-    let i = f.i;
-    if k == i {
-        return Block::zero();
-    }
-    let m = rounds::letter(incoming, mail, k);
-    let e = block::bit(m, COUNT + t * ITEM);
+    let e = block::bit(rounds::letter(incoming, mail, k), COUNT + t * ITEM);
     term(recs, at, k, delta, e)
 }
 
@@ -196,46 +164,30 @@ fn z_terms(
     ensures { result ≡ others blocks f.i f.n (z_term recs.now at delta.0
         (letter incoming.now mail) t) }
 {
-    let n = f.n;
-    let mut sum = Block::zero();
-    let mut k = 0;
-    while k < n {
-        sum = sum.xor(z_term(recs, at, delta, incoming, mail, f, t, k));
-        k += 1;
-    }
-    sum
+    algebra::sum_others(
+        f.i,
+        f.n,
+        |k| z_term(recs, at, delta, incoming, mail, f, t, k),
+    )
 }
 
-// The u that party k sent at position t; zero for the own number.
+// The u that party k sent at position t.
 fn u_told(incoming: &[u8], mail: Mail, f: Frame, k: usize, t: usize) -> Block
-    requires k_lt_n { (k < f.n) × (t < Plan.leaky f.l) }
+    requires k_lt_n { (k < f.n) × (f.i ≢ k) × (t < Plan.leaky f.l) }
     requires arrived { Arrived f (8 + Plan.leaky f.l * 17) incoming.now mail }
-    ensures { result ≡ sel blocks (neq f.i k)
-        (F.u_told (letter incoming.now mail) k t) }
+    ensures { result ≡ F.u_told (letter incoming.now mail) k t }
 {
-    let i = f.i;
-    if k == i {
-        return Block::zero();
-    }
-    let m = rounds::letter(incoming, mail, k);
-    block::load(m, COUNT + t * ITEM + 1)
+    block::load(rounds::letter(incoming, mail, k), COUNT + t * ITEM + 1)
 }
 
-// The sum of the others' u.
+// The sum of the others' u at position t.
 fn u_sum(incoming: &[u8], mail: Mail, f: Frame, t: usize) -> Block
     requires t_bound { t < Plan.leaky f.l }
     requires arrived { Arrived f (8 + Plan.leaky f.l * 17) incoming.now mail }
     ensures { result ≡ others blocks f.i f.n
         (λ k. F.u_told (letter incoming.now mail) k t) }
 {
-    let n = f.n;
-    let mut sum = Block::zero();
-    let mut k = 0;
-    while k < n {
-        sum = sum.xor(u_told(incoming, mail, f, k, t));
-        k += 1;
-    }
-    sum
+    algebra::sum_others(f.i, f.n, |k| u_told(incoming, mail, f, k, t))
 }
 
 // The sums of G over the x keys and over the x MACs.
@@ -311,16 +263,10 @@ fn h_at(
     ensures { result ≡ F.h f delta.0 (at f BITS work.now) (at f LEAKY work.now) (at f ZS work.now)
         (letter incoming.now mail) t }
 {
-    let a = recs.0;
-    let e = recs.1;
-    let b = rows.0;
-    let g = rows.1;
-    let c = zs.0;
-    let z = zs.1;
     h(
-        &work[a..e],
-        &work[b..g],
-        &work[c..z],
+        &work[recs.0..recs.1],
+        &work[rows.0..rows.1],
+        &work[zs.0..zs.1],
         delta,
         incoming,
         mail,
@@ -341,14 +287,11 @@ fn keep_hs(work: &mut [u8], incoming: &[u8], mail: Mail, f: Frame)
     let rows = area::place(f, area::LEAKY);
     let zs = area::place(f, area::ZS);
     let hs = area::section_at(f, area::HS);
-    let count = plan::leaky(f.l);
-    let mut t = 0;
-    while t < count {
+    for t in 0..plan::leaky(f.l) {
         let b = h_at(work, recs, rows, zs, delta, incoming, mail, f, t);
         let a = hs + t * 16;
         let e = a + 16;
         block::store(&mut work[a..e], b);
-        t += 1;
     }
 }
 
@@ -361,9 +304,7 @@ fn hold_es(work: &mut [u8], incoming: &[u8], mail: Mail, f: Frame)
     ensures { work.new ≡ keep f ES (F.e_rows f (letter incoming.now mail)) work.old }
 {
     let p = area::place(f, area::ES);
-    let a = p.0;
-    let e = p.1;
-    keep_es(&mut work[a..e], incoming, mail, f);
+    keep_es(&mut work[p.0..p.1], incoming, mail, f);
 }
 
 // What is received: the bits e, and own h. Neither is made from the other's section.

@@ -3,17 +3,15 @@
 // branch and no index.
 #![tactic(auto)]
 
-ghost use Rattle.std.specs.Prelude.{◌≡◌, ◌+◌, ◌-◌, ◌*◌, ◌<◌, length, take, drop};
+ghost use Rattle.std.specs.Prelude.{◌≡◌, ◌≢◌, ◌+◌, ◌-◌, ◌*◌, ◌<◌, length, take, drop};
 ghost use Rattle.plan.specs.Plan.{FLAAND_COMM, leaky, msg_len};
 ghost use Rattle.engine.specs.Area.{to_others};
 ghost use Rattle.rounds.specs.Area.{HS, H_COMMS, at, keep};
-ghost use Rattle.rounds.specs.Loops.{row_of};
 ghost use Rattle.rounds.specs.Mail.{letter, Arrived};
 ghost use Rattle.rounds.specs.Flaand as F;
 ghost use Rattle.area.specs.Given.{Work};
 ghost use Rattle.flaand_comm.specs.Given.{CommsKept};
 
-use blake3_lanes::LANES;
 use engine::Frame;
 use rounds::Mail;
 
@@ -22,30 +20,19 @@ const COMM: usize = 32;
 
 const COUNT: usize = 8;
 
-// The own commitments: each h is hashed once, a window of them at a time. They stand in the own row of H_COMMS.
+// The own commitments: each h is hashed once. They stand in the own row of H_COMMS, which comes right behind HS.
 pub fn hold(work: &mut [u8], f: Frame)
     requires { Work f work.old }
     ensures { work.new ≡ keep f H_COMMS (F.own_comms f (at f HS work.old) (at f H_COMMS work.old))
         work.old }
 {
-    let i = f.i;
     let hs = area::section_at(f, area::HS);
     let comms = area::section_at(f, area::H_COMMS);
     let count = plan::leaky(f.l);
-    let row = comms + i * (count * COMM);
-    let mut blocks = [0u8; LANES * 16];
-    let mut t = 0;
-    while t < count {
-        let k = blake3_lanes::at_once(count - t);
-        let len = k * 16;
-        let from = hs + t * 16;
-        let to = from + len;
-        fill::copy(&mut blocks[0..len], &work[from..to]);
-        let a = row + t * COMM;
-        let e = a + k * COMM;
-        blake3_lanes::hash_blocks(&mut work[a..e], &blocks[0..len], k);
-        t += k;
-    }
+    let (front, back) = work.split_at_mut(comms);
+    let a = f.i * (count * COMM);
+    let e = a + count * COMM;
+    blake3_lanes::hash_blocks(&mut back[a..e], &front[hs..], count);
 }
 
 // The same message to all others, from the own row that `hold` kept.
@@ -55,30 +42,22 @@ pub fn write(out: &mut [u8], work: &[u8], f: Frame)
     requires comms_kept { CommsKept f work.now }
     ensures { out.new ≡ to_others f.n f.i (λ _. F.comm_msg f (at f HS work.now)) }
 {
-    let n = f.n;
-    let i = f.i;
     let rows = area::section(work, f, area::H_COMMS);
     let count = plan::leaky(f.l);
     let len = count * COMM;
-    let a = i * len;
+    let a = f.i * len;
     let e = a + len;
-    rounds::write_same(out, count, &rows[a..e], n);
+    rounds::write_same(out, count, &rows[a..e], f.n);
 }
 
-// What party k told behind the count, as many bytes as the row has; zero for the own number.
+// What party k told behind the count, as many bytes as the row has.
 fn keep_row(row: &mut [u8], incoming: &[u8], mail: Mail, f: Frame, k: usize)
-    requires k_lt_n { k < f.n }
+    requires k_lt_n { (k < f.n) × (f.i ≢ k) }
     requires arrived { Arrived f (8 + length row.old) incoming.now mail }
-    ensures { row.new ≡ row_of f.i (length row.old)
-        (λ k. take (length row.old) (drop 8 (letter incoming.now mail k))) k }
+    ensures { row.new ≡ take (length row.old) (drop 8 (letter incoming.now mail k)) }
 {
-    let i = f.i;
-    if i == k {
-        fill::clear(row);
-        return;
-    }
-    let m = rounds::letter(incoming, mail, k);
-    fill::copy(row, &m[COUNT..]);
+    let e = COUNT + row.len();
+    row.copy_from_slice(&rounds::letter(incoming, mail, k)[COUNT..e]);
 }
 
 // The commitments of all others.
@@ -87,14 +66,11 @@ pub fn keep(work: &mut [u8], incoming: &[u8], mail: Mail, f: Frame)
     requires arrived { Arrived f (8 + leaky f.l * 32) incoming.now mail }
     ensures { work.new ≡ keep f H_COMMS (F.comm_rows f (letter incoming.now mail)) work.old }
 {
-    let n = f.n;
-    let rows = area::section_at(f, area::H_COMMS);
-    let len = plan::leaky(f.l) * COMM;
-    let mut k = 0;
-    while k < n {
-        let a = rows + k * len;
-        let e = a + len;
-        keep_row(&mut work[a..e], incoming, mail, f, k);
-        k += 1;
-    }
+    let p = area::place(f, area::H_COMMS);
+    rounds::put_rows(
+        &mut work[p.0..p.1],
+        f,
+        plan::leaky(f.l) * COMM,
+        |row, k| keep_row(row, incoming, mail, f, k),
+    );
 }

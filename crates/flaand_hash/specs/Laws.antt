@@ -1,5 +1,5 @@
 -- Round 19: the checks of h, item by item and window by window.
-use Rattle.std.specs.Prelude.{◌≡◌, ◌≢◌, Bool, ◌&&◌, ℕ, ◌+◌, ◌*◌, ◌/◌, ◌%◌, ◌≤◌, length, drop}
+use Rattle.std.specs.Prelude.{◌≡◌, Err, Bool, true, false, ◌&&◌, ℕ, ◌+◌, ◌*◌, ◌/◌, ◌%◌, ◌≤◌, length, drop}
 use Rattle.std.proofs.Math.Path.{refl, ap, ap₂}
 use Rattle.std.proofs.Common.{sym, ◌∙◌, take-add, drop-drop, length-take-le}
 use mathlib.Core.List.{List}
@@ -21,10 +21,12 @@ use Rattle.blake3.specs.Tree.{hash}
 use Rattle.blake3_lanes.specs.Lanes.{hash_at}
 use Rattle.plan.specs.Plan.{leaky}
 use Rattle.engine.specs.declared.Frame.{Frame}
-use Rattle.engine.specs.Step.{by_party}
+use Rattle.engine.specs.declared.Refusal.{Refusal}
+use Rattle.engine.specs.Step.{Fault, by_party}
+use Rattle.engine.specs.StepLaws.{or-none}
 use Rattle.rounds.specs.EchoLaws.{same_block}
 use Rattle.blake3.specs.ByteLaws.{length-hash}
-use Rattle.rounds.specs.FaultLaws.{Finds, finds-one, finds-two}
+use Rattle.rounds.specs.FaultLaws.{Finds, finds-one}
 use Rattle.rounds.specs.Flaand.{h_told, opening, zero_sum, h_faults}
 
 -- ---- the checks of round 19
@@ -43,21 +45,31 @@ pub opening-by : (f : Frame) (comms : List ℕ) (m : ℕ → List ℕ) → openi
 unfolding opening open_fault opens opens_at h_told
 opening-by f comms m = refl
 
--- all h sum to zero
+-- all h sum to zero: at position t, and at each
+unfoldable pub zero_at : Frame → List ℕ → (ℕ → List ℕ) → ℕ → Bool
+zero_at f own m t = eq_block (blocks.op (block_at own (t * 16)) (others blocks f.i f.n (λ k. h_told m k t))) blocks.nil
+
 unfoldable pub summed : Frame → List ℕ → (ℕ → List ℕ) → Bool
-summed f own m =
-    all_of (leaky f.l) (λ t. eq_block (blocks.op (block_at own (t * 16)) (others blocks f.i f.n (λ k. h_told m k t))) blocks.nil)
+summed f own m = all_of (leaky f.l) (zero_at f own m)
 
 -- the answer is the first of the two
-module _ (f : Frame) (own comms : List ℕ) (m : ℕ → List ℕ) (code party : ℕ) (e : Finds code party (opening f comms m)) where
-  pub faults-open : code ≢ 0 → Finds code party (h_faults f own comms m)
+module _ (f : Frame) (own comms : List ℕ) (m : ℕ → List ℕ) where
+  pub faults-open : (r : Refusal) → Finds (Err r) (opening f comms m) → Finds (Err r) (h_faults f own comms m)
   unfolding h_faults
-  faults-open ne = finds-one code party (opening f comms m) (zero_sum f own m) e ne
+  faults-open r e = finds-one r (opening f comms m) (zero_sum f own m) e
 
-  pub faults-sum : (x : ℕ) → code ≡ 0 → x ≡ pick (summed f own m) 0 10 → Finds x f.i (h_faults f own comms m)
-  unfolding h_faults zero_sum summed
-  faults-sum x z h =
-      finds-two x f.i (opening f comms m) (zero_sum f own m) (sym e.code_is ∙ z) (record { code_is = h; party-is = λ q. refl })
+  -- no opening fails: by whether all h sum to zero
+  pub faults-none : (opening f comms m).code ≡ 0 → summed f own m ≡ true → (h_faults f own comms m).code ≡ 0
+  unfolding h_faults zero_sum summed zero_at
+  faults-none z e =
+      ap (λ (x : Fault). x.code) (or-none (opening f comms m) (zero_sum f own m) z) ∙ ap (λ (b : Bool). pick {A = ℕ} b 0 10) e
+
+  pub faults-sum : (opening f comms m).code ≡ 0 → summed f own m ≡ false
+      → (10 ≡ (h_faults f own comms m).code) × (f.i ≡ (h_faults f own comms m).party)
+  unfolding h_faults zero_sum summed zero_at
+  faults-sum z e =
+      let q = sym (or-none (opening f comms m) (zero_sum f own m) z) in
+      (ap (λ (b : Bool). pick {A = ℕ} b 0 10) (sym e) ∙ ap (λ (x : Fault). x.code) q, ap (λ (x : Fault). x.party) q)
 
 -- ---- windows
 -- one Block more

@@ -3,11 +3,11 @@
 #![tactic(auto)]
 
 ghost use Rattle.blake3_lanes.specs.Lanes as Lanes;
-ghost use Rattle.std.specs.Prelude.{◌≡◌, ◌+◌, ◌-◌, ◌*◌, ◌%◌, ◌<◌, ◌≤◌, length};
+ghost use Rattle.std.specs.Prelude.{◌≡◌, ◌≢◌, ◌+◌, ◌-◌, ◌*◌, ◌%◌, ◌<◌, ◌≤◌, length};
 ghost use Rattle.lists.specs.Over.{cat};
 ghost use Rattle.lists.specs.Same.{same?};
-ghost use Rattle.algebra.specs.Group.{sel};
-ghost use Rattle.algebra.specs.Sum.{neq, others};
+ghost use Rattle.refusals.specs.Reason.{code_of};
+ghost use Rattle.algebra.specs.Sum.{others};
 ghost use Rattle.block.specs.Group.{blocks};
 ghost use Rattle.blake3_lanes.specs.Lanes.{hash_at};
 ghost use Rattle.plan.specs.Plan.{FLAAND_HASH, InRange, leaky, msg_len};
@@ -15,14 +15,15 @@ ghost use Rattle.engine.specs.Area.{to_others};
 ghost use Rattle.rounds.specs.Area.{HS, H_COMMS, at};
 ghost use Rattle.rounds.specs.Mail.{letter, Arrived};
 ghost use Rattle.rounds.specs.Flaand as F;
-ghost use Rattle.rounds.specs.FaultLaws.{Finds, fault_at};
+ghost use Rattle.rounds.specs.FaultLaws.{Finds};
 ghost use Rattle.area.specs.Given.{Work};
-ghost use Rattle.flaand_hash.specs.Laws.{opens, open_fault, summed};
+ghost use Rattle.flaand_hash.specs.Laws.{opens, open_fault, zero_at, summed};
 
 use blake3_lanes::LANES;
 use block::Block;
-use engine::Frame;
-use rounds::{Fault, Mail};
+use engine::{Frame, Refusal, Verdict};
+use refusals::Reason;
+use rounds::Mail;
 
 // The same message to all others, from HS.
 pub fn write(out: &mut [u8], work: &[u8], f: Frame)
@@ -30,9 +31,8 @@ pub fn write(out: &mut [u8], work: &[u8], f: Frame)
     requires out_len { length out.old ≡ (f.n - 1) * msg_len f.n f.l FLAAND_HASH }
     ensures { out.new ≡ to_others f.n f.i (λ _. F.hash_msg f (at f HS work.now)) }
 {
-    let n = f.n;
     let hs = area::section(work, f, area::HS);
-    rounds::write_same(out, plan::leaky(f.l), hs, n);
+    rounds::write_same(out, plan::leaky(f.l), hs, f.n);
 }
 
 // Whether a and b are the same, Block by Block. All are compared.
@@ -82,53 +82,35 @@ fn opens(m: &[u8], comms: &[u8], f: Frame, k: usize) -> bool
     ok
 }
 
-// 2 if an h of party k doesn't open its commitment; none of the own number.
-fn open_fault(comms: &[u8], incoming: &[u8], mail: Mail, f: Frame, k: usize) -> u8
-    requires in_range { (InRange f.n f.l) × (k < f.n) × (length comms.now ≡ f.n * (leaky f.l * 32)) }
+// Refused if an h of party k doesn't open its commitment.
+fn check_opens(comms: &[u8], incoming: &[u8], mail: Mail, f: Frame, k: usize) -> Result<(), Reason>
+    requires in_range { (InRange f.n f.l) × (k < f.n) × (f.i ≢ k) × (length comms.now ≡ f.n * (leaky f.l * 32)) }
     requires arrived { Arrived f (8 + leaky f.l * 16) incoming.now mail }
-    ensures { result ≡ fault_at f.i (open_fault f.l comms.now (letter incoming.now mail)) k }
+    ensures { code_of result ≡ open_fault f.l comms.now (letter incoming.now mail) k }
 {
-    let i = f.i;
-    if k == i {
-        return 0;
+    if opens(rounds::letter(incoming, mail, k), comms, f, k) {
+        Ok(())
+    } else {
+        Err(Reason::CommitmentCouldNotBeOpened)
     }
-    let m = rounds::letter(incoming, mail, k);
-    if opens(m, comms, f, k) { 0 } else { 2 }
 }
 
 // The first party of which an h doesn't open its commitment.
-fn open(comms: &[u8], incoming: &[u8], mail: Mail, f: Frame) -> Fault
+fn open(comms: &[u8], incoming: &[u8], mail: Mail, f: Frame) -> Verdict
     requires in_range { (InRange f.n f.l) × (length comms.now ≡ f.n * (leaky f.l * 32)) }
     requires arrived { Arrived f (8 + leaky f.l * 16) incoming.now mail }
-    ensures { Finds result.code result.party (F.opening f comms.now (letter incoming.now mail)) }
+    ensures { Finds result (F.opening f comms.now (letter incoming.now mail)) }
 {
-    let n = f.n;
-    let mut k = 0;
-    while k < n {
-        let code = open_fault(comms, incoming, mail, f, k);
-        if code != 0 {
-            return Fault {
-                code: code,
-                party: k,
-            };
-        }
-        k += 1;
-    }
-    Fault { code: 0, party: 0 }
+    rounds::by_party(f, |k| check_opens(comms, incoming, mail, f, k))
 }
 
-// The h of party k at position t; zero for the own number.
+// The h of party k at position t.
 fn h_told(incoming: &[u8], mail: Mail, f: Frame, k: usize, t: usize) -> Block
-    requires k_lt_n { (k < f.n) × (t < leaky f.l) }
+    requires k_lt_n { (k < f.n) × (f.i ≢ k) × (t < leaky f.l) }
     requires arrived { Arrived f (8 + leaky f.l * 16) incoming.now mail }
-    ensures { result ≡ sel blocks (neq f.i k) (F.h_told (letter incoming.now mail) k t) }
+    ensures { result ≡ F.h_told (letter incoming.now mail) k t }
 {
-    let i = f.i;
-    if k == i {
-        return Block::zero();
-    }
-    let m = rounds::letter(incoming, mail, k);
-    block::load(m, 8 + t * 16)
+    block::load(rounds::letter(incoming, mail, k), 8 + t * 16)
 }
 
 // The sum of the others' h at position t.
@@ -137,49 +119,42 @@ fn h_sum(incoming: &[u8], mail: Mail, f: Frame, t: usize) -> Block
     requires arrived { Arrived f (8 + leaky f.l * 16) incoming.now mail }
     ensures { result ≡ others blocks f.i f.n (λ k. F.h_told (letter incoming.now mail) k t) }
 {
-    let n = f.n;
-    let mut sum = Block::zero();
-    let mut k = 0;
-    while k < n {
-        sum = sum.xor(h_told(incoming, mail, f, k, t));
-        k += 1;
-    }
-    sum
+    algebra::sum_others(f.i, f.n, |k| h_told(incoming, mail, f, k, t))
 }
 
-// Whether all h sum to zero at every position.
+// Whether all h sum to zero at position t.
+fn zero_at(hs: &[u8], incoming: &[u8], mail: Mail, f: Frame, t: usize) -> bool
+    requires t_bound { (t < leaky f.l) × (length hs.now ≡ leaky f.l * 16) }
+    requires arrived { Arrived f (8 + leaky f.l * 16) incoming.now mail }
+    ensures { result ≡ zero_at f hs.now (letter incoming.now mail) t }
+{
+    let sum = block::load(hs, t * 16).xor(h_sum(incoming, mail, f, t));
+    sum.equals(Block::zero())
+}
+
+// Whether they do at every position. All are summed.
 fn zero_sum(hs: &[u8], incoming: &[u8], mail: Mail, f: Frame) -> bool
     requires l_bound { (f.l ≤ 300000) × (length hs.now ≡ leaky f.l * 16) }
     requires arrived { Arrived f (8 + leaky f.l * 16) incoming.now mail }
     ensures { result ≡ summed f hs.now (letter incoming.now mail) }
 {
-    let count = plan::leaky(f.l);
-    let mut ok = true;
-    let mut t = 0;
-    while t < count {
-        let sum = block::load(hs, t * 16).xor(h_sum(incoming, mail, f, t));
-        ok = ok & sum.equals(Block::zero());
-        t += 1;
-    }
-    ok
+    lists::all_of(plan::leaky(f.l), |t| zero_at(hs, incoming, mail, f, t))
 }
 
-// 2 with the first party of which an h doesn't open its commitment, else 10 with the own number where the h don't sum to zero.
-pub fn judge(work: &[u8], incoming: &[u8], mail: Mail, f: Frame) -> Fault
+// The first party of which an h doesn't open its commitment, else the own number where the h don't sum to zero.
+pub fn judge(work: &[u8], incoming: &[u8], mail: Mail, f: Frame) -> Verdict
     requires work { Work f work.now }
     requires arrived { Arrived f (8 + leaky f.l * 16) incoming.now mail }
-    ensures { Finds result.code result.party (F.h_faults f (at f HS work.now) (at f H_COMMS work.now)
+    ensures { Finds result (F.h_faults f (at f HS work.now) (at f H_COMMS work.now)
         (letter incoming.now mail)) }
 {
-    let i = f.i;
-    let hs = area::section(work, f, area::HS);
-    let comms = area::section(work, f, area::H_COMMS);
-    let e = open(comms, incoming, mail, f);
-    if e.code != 0 {
-        return e;
+    open(area::section(work, f, area::H_COMMS), incoming, mail, f)?;
+    if zero_sum(area::section(work, f, area::HS), incoming, mail, f) {
+        Ok(())
+    } else {
+        Err(Refusal {
+            reason: Reason::LaANDXorNotZero,
+            party: f.i,
+        })
     }
-    if zero_sum(hs, incoming, mail, f) {
-        return Fault { code: 0, party: i };
-    }
-    Fault { code: 10, party: i }
 }

@@ -1,16 +1,19 @@
 -- The messages of round 14, made from the rows of LEAKY instead of hashing again.
-use Rattle.std.specs.Prelude.{◌≡◌, refl, Bool, ◌≢◌, ℕ, ◌+◌, ◌*◌, ◌<◌, length}
+use Rattle.std.specs.Prelude.{◌≡◌, refl, Bool, ◌≢◌, ℕ, ◌+◌, ◌-◌, ◌*◌, ◌<◌, length}
 use Rattle.std.proofs.Math.Path.{ap, ap₂}
-use Rattle.std.proofs.Common.{◌∙◌}
+use Rattle.std.proofs.Common.{◌∙◌, arith}
+use borrow.Rule.Slice.PartMut.{put_mid}
 use mathlib.Core.List.{List, ◌++◌}
 use Rattle.std.proofs.Math.ListN.{get_or}
+use Rattle.lists.specs.Over.{cat, two-parts}
 use Rattle.lists.specs.Rows.{cat-ext}
+use Rattle.lists.specs.Sect.{length-put}
 use Rattle.algebra.specs.Group.{addb, odd, odd-num}
 use Rattle.block.specs.declared.Block.{Block}
 use Rattle.block.specs.Block.{le8}
+use Rattle.block.specs.Trip.{length-le8}
 use Rattle.block.specs.Group.{blocks}
 use Rattle.encode.specs.Encode.{encode, two_bits}
-use Rattle.encode.specs.Coded.{length-encode}
 use Rattle.plan.specs.Plan.{leaky}
 use Rattle.engine.specs.declared.Frame.{Frame}
 use Rattle.engine.specs.Area.{to_others, to_others-ext}
@@ -34,14 +37,14 @@ item f rows masks recs j t =
 unfoldable pub message : Frame → List ℕ → List ℕ → List ℕ → ℕ → List ℕ
 message f rows masks recs j = encode (leaky f.l) (item f rows masks recs j)
 
-pub length-item : (f : Frame) (rows masks recs : List ℕ) (j t : ℕ) → length (item f rows masks recs j t) ≡ 2
-unfolding item two_bits
-length-item f rows masks recs j t = refl
-
-pub length-message : (f : Frame) (rows masks recs : List ℕ) (j : ℕ)
-    → length (message f rows masks recs j) ≡ 8 + leaky f.l * 2
-unfolding message
-length-message f rows masks recs j = length-encode 2 (leaky f.l) (item f rows masks recs j) (λ t h. length-item f rows masks recs j t)
+-- a count, and `size` bytes for each item behind it
+pub list_written : (c size : ℕ) (g : ℕ → List ℕ) (l x y : List ℕ) → length l ≡ 8 + c * size → x ≡ le8 c → y ≡ cat c g
+    → put_mid 8 (length (put_mid 0 8 l x) - 8) (put_mid 0 8 l x) y ≡ encode c g
+unfolding encode
+list_written c size g l x y h ex ey =
+    let long : length (put_mid 0 8 l x) ≡ 8 + c * size = length-put 0 8 x l (ap length ex ∙ length-le8 c) (omega arith) ∙ h in
+    ap (λ m. put_mid 8 m (put_mid 0 8 l x) y) (let e : length (put_mid 0 8 l x) - 8 ≡ c * size = omega (arith, long) in e)
+    ∙ two-parts 8 (c * size) (le8 c) (cat c g) x y l h (length-le8 c) ex ey
 
 module _ (f : Frame) (delta : Block) (rows masks recs : List ℕ) (e : rows ≡ leaky_rows f delta recs) where
   item-is : (j t : ℕ) → j < f.n → f.i ≢ j → t < leaky f.l → item f rows masks recs j t ≡ two_bits (h0 f masks recs j t)

@@ -11,7 +11,6 @@ ghost use Rattle.rounds.specs.Area.{MASKS, BITS, LEAKY, at};
 ghost use Rattle.rounds.specs.Table as Table;
 ghost use Rattle.rounds.specs.Haand as R;
 ghost use Rattle.area.specs.Given.{Ranged, Work};
-ghost use Rattle.haand_hash.specs.Window.{Asked};
 ghost use Rattle.haand.specs.Given.{RowsAndMasks, LeakyKept};
 ghost use Rattle.haand.specs.Sent as S;
 
@@ -34,7 +33,7 @@ const ITEM: usize = 2;
 // The item for party k at position t. Its bits H stand in the rows of LEAKY.
 fn put_item(out: &mut [u8], rows: &[u8], masks: &[u8], recs: &[u8], f: Frame, k: usize, t: usize)
     requires out_len { (length out.old ≡ 2) × (k < f.n) }
-    requires asked { Asked f t recs.now }
+    requires asked { (Ranged f) × (length recs.now ≡ Plan.bits_count f.l * record_len f.n) × (t < Plan.leaky f.l) }
     requires rows_and_masks { RowsAndMasks f rows.now masks.now }
     ensures { out.new ≡ S.item f rows.now masks.now recs.now k t }
 {
@@ -56,14 +55,29 @@ fn put_message(out: &mut [u8], rows: &[u8], masks: &[u8], recs: &[u8], f: Frame,
     ensures { out.new ≡ S.message f rows.now masks.now recs.now k }
 {
     let count = plan::leaky(f.l);
-    encode::put_count(&mut out[0..COUNT], count);
-    let mut t = 0;
-    while t < count {
-        let a = COUNT + t * ITEM;
-        let e = a + ITEM;
-        put_item(&mut out[a..e], rows, masks, recs, f, k, t);
-        t += 1;
-    }
+    encode::put_count(&mut out[..COUNT], count);
+    lists::write_rows(
+        &mut out[COUNT..],
+        count,
+        ITEM,
+        |row, t| put_item(row, rows, masks, recs, f, k, t),
+    );
+}
+
+// The messages to all others.
+fn write_all(out: &mut [u8], rows: &[u8], masks: &[u8], recs: &[u8], f: Frame)
+    requires out_len { length out.old ≡ (f.n - 1) * (8 + Plan.leaky f.l * 2) }
+    requires ranged { (Ranged f) × (length recs.now ≡ Plan.bits_count f.l * record_len f.n) }
+    requires rows_and_masks { RowsAndMasks f rows.now masks.now }
+    ensures { out.new ≡ to_others f.n f.i (S.message f rows.now masks.now recs.now) }
+{
+    let len = COUNT + plan::leaky(f.l) * ITEM;
+    rounds::to_others(
+        out,
+        f,
+        len,
+        |row, k| put_message(row, rows, masks, recs, f, k),
+    );
 }
 
 // The messages, from the rows that `hold` kept.
@@ -74,19 +88,8 @@ pub fn write(out: &mut [u8], work: &[u8], f: Frame)
     ensures { out.new ≡ to_others f.n f.i
         (R.haand_msg f (Table.delta f work.now) (at f MASKS work.now) (at f BITS work.now)) }
 {
-    let n = f.n;
-    let i = f.i;
     let rows = area::section(work, f, area::LEAKY);
     let masks = area::section(work, f, area::MASKS);
     let recs = area::section(work, f, area::BITS);
-    let len = COUNT + plan::leaky(f.l) * ITEM;
-    let last = n - 1;
-    let mut q = 0;
-    while q < last {
-        let a = q * len;
-        let e = a + len;
-        let k = plan::other(i, q);
-        put_message(&mut out[a..e], rows, masks, recs, f, k);
-        q += 1;
-    }
+    write_all(out, rows, masks, recs, f);
 }

@@ -1,7 +1,7 @@
 -- Which Block stands in which lane of a window, and what is read from the hashes.
 use Rattle.std.specs.Prelude.{◌≡◌, refl, Bool, true, false, ◌≢◌, get_or, drop, ltb}
 use Rattle.std.proofs.Math.Path.{sym, ap}
-use Rattle.std.proofs.Common.{ap₂, ◌∙◌, zero-add, add-zero, mul_assoc, mul_comm, add-mul, zero-mul, take_at, take_all, get_or-take, ltb-true, ltb-false}
+use Rattle.std.proofs.Common.{ap₂, ◌∙◌, zero-add, add-zero, mul_assoc, mul_comm, add-mul, zero-mul, take_at, get_or-take, ltb-true, ltb-false}
 use mathlib.Core.List.{List, ◌++◌}
 use Prim.Native.Nat.{ℕ, zero, suc, ◌+◌, ◌-◌, ◌*◌, ◌/◌, ◌<◌, ◌≤◌}
 use Rattle.std.proofs.Math.Nat.{lt-div-mul-add}
@@ -200,8 +200,6 @@ module _ (f : Frame) (m : ℕ) (g : ℕ → ℕ → Block) (s : List ℕ) (small
         second (p * (f.n - 1) + q) (in-half p q lp lq) (rw is (small p (nth f.i q))) ∙ ap (λ (b : Block). blocks.op b d) is)
 
 -- the rows of a window that were made in front of a buffer and copied from there
-pub window-copied : (m k size : ℕ) (y x r rows : List ℕ) → y ≡ take m (take k (x ++ r)) → x ≡ rows → length rows ≡ size → m ≡ size → k
-    ≡ size → y ≡ rows
-window-copied m k size y x r rows hy hx hl hm hk =
-    hy ∙ ap₂ (λ a b. take a (take b (x ++ r))) hm hk ∙ ap (λ (z : List ℕ). take size (take size (z ++ r))) hx
-    ∙ ap (take size) (take_at rows r size hl) ∙ take_all size rows (omega arith)
+pub window-copied : (k size : ℕ) (y x r rows : List ℕ) → y ≡ take k (x ++ r) → x ≡ rows → length rows ≡ size → k ≡ size → y ≡ rows
+window-copied k size y x r rows hy hx hl hk =
+    hy ∙ ap₂ (λ a (z : List ℕ). take a (z ++ r)) hk hx ∙ take_at rows r size hl

@@ -36,7 +36,7 @@ pub fn window(lanes: usize, n: usize, left: usize) -> usize
     ensures { (0 < result) × (result ≤ left) × (result * (n - 1) ≤ lanes) }
 {
     let most = lanes / (n - 1);
-    if left < most { left } else { most }
+    left.min(most)
 }
 
 // G and H of a Block.
@@ -60,9 +60,17 @@ pub fn hash_of(s: &[u8], i: usize, k: usize) -> Hashes
     Hashes(block::load(s, at), block::bit(s, at + 31))
 }
 
+// The same, where a hash of every party but the own is there.
+pub fn hash_by(s: &[u8], f: Frame, k: usize) -> Hashes
+    requires { (f.i < f.n) × (k < f.n) × (f.i ≢ k) × (length s.now ≡ (f.n - 1) * 32) }
+    ensures { (result.0 ≡ g_at f.i s.now k) × (result.1 ≡ h_at f.i s.now k) }
+{
+    hash_of(s, f.i, k)
+}
+
 // The key of party k in the record at `at`, or the MAC for it.
-fn part_of(recs: &[u8], at: usize, k: usize, keys: bool) -> Block
-    requires { (k < 8) × (at + record_len (k + 1) ≤ length recs.now) }
+fn part_of(recs: &[u8], at: usize, n: usize, k: usize, keys: bool) -> Block
+    requires { (n ≤ 8) × (k < n) × (at + record_len n ≤ length recs.now) }
     ensures { result ≡ part_of keys recs.now at k }
 {
     if keys {
@@ -78,18 +86,12 @@ fn put_parts(out: &mut [u8], recs: &[u8], at: usize, f: Frame, keys: bool)
     requires n_in_bounds { at + record_len f.n ≤ length recs.now }
     ensures { out.new ≡ to_others f.n f.i (λ k. bytes_of (part_of keys recs.now at k)) }
 {
-    let n = f.n;
-    let i = f.i;
-    let last = n - 1;
-    let mut q = 0;
-    while q < last {
-        let k = plan::other(i, q);
-        let b = part_of(recs, at, k, keys);
-        let a = q * 16;
-        let e = a + 16;
-        block::store(&mut out[a..e], b);
-        q += 1;
-    }
+    rounds::to_others(
+        out,
+        f,
+        16,
+        |row, k| block::store(row, part_of(recs, at, f.n, k, keys)),
+    );
 }
 
 // Those of the m positions from t on.
@@ -99,14 +101,11 @@ fn gather(out: &mut [u8], recs: &[u8], f: Frame, t: usize, m: usize, keys: bool)
     ensures { out.new ≡ cat m (λ p. to_others f.n f.i
         (λ k. bytes_of (part_of keys recs.now ((t + p) * record_len f.n) k))) }
 {
-    let n = f.n;
-    let len = (n - 1) * 16;
-    let mut p = 0;
-    while p < m {
+    let len = (f.n - 1) * 16;
+    for p in 0..m {
         let a = p * len;
         let e = a + len;
         put_parts(&mut out[a..e], recs, area::x_at(f, t + p), f, keys);
-        p += 1;
     }
 }
 
@@ -115,9 +114,8 @@ pub fn hash_macs(out: &mut [u8; HASHES_LEN], recs: &[u8], f: Frame, t: usize, m:
     requires { (Positions f t m recs.now) × (m * (f.n - 1) ≤ 64) }
     ensures { Hashed f m 0 (λ p. mac_at recs.now ((t + p) * record_len f.n)) out.new }
 {
-    let n = f.n;
     let mut blocks = [0u8; BLOCKS_LEN];
-    let len = m * ((n - 1) * 16);
+    let len = m * ((f.n - 1) * 16);
     gather(&mut blocks[..len], recs, f, t, m, false);
     blake3_lanes::hash_window(out, &blocks);
 }
@@ -127,14 +125,12 @@ fn add(out: &mut [u8], s: &[u8], d: Block)
     requires { (length out.old ≡ 512) × (512 ≤ length s.now) }
     ensures { out.new ≡ cat 32 (λ j. bytes_of (blocks.op (block_at s.now (j * 16)) d)) }
 {
-    let mut j: usize = 0;
-    while j < HALF {
-        let a = j * 16;
-        let e = a + 16;
-        let b = block::load(s, a).xor(d);
-        block::store(&mut out[a..e], b);
-        j += 1;
-    }
+    lists::write_rows(
+        out,
+        HALF,
+        16,
+        |row, j| block::store(row, block::load(s, j * 16).xor(d)),
+    );
 }
 
 // The hashes of the x keys of the m positions from t on, and in the second half those of the keys plus delta.
@@ -151,9 +147,8 @@ pub fn hash_keys(
     ensures hashed_2 { Hashed f m 1024
         (λ p k. blocks.op (key_at recs.now ((t + p) * record_len f.n) k) delta.0) out.new }
 {
-    let n = f.n;
     let mut blocks = [0u8; BLOCKS_LEN];
-    let len = m * ((n - 1) * 16);
+    let len = m * ((f.n - 1) * 16);
     gather(&mut blocks[..len], recs, f, t, m, true);
     let keys = blocks;
     add(&mut blocks[HALF_BLOCKS..BLOCKS_LEN], &keys, delta.0);

@@ -5,7 +5,7 @@ use Rattle.std.proofs.Math.Path.{ap₂}
 use mathlib.Core.List.{List, [], ◌∷◌, ◌++◌, append_assoc}
 use borrow.Rule.Slice.PartMut.{put_mid}
 use Rattle.lists.specs.Pick.{pick}
-use Rattle.lists.specs.Over.{cat, over-next}
+use Rattle.lists.specs.Over.{over-next}
 use Rattle.lists.specs.Rows.{cat-ext}
 use Rattle.algebra.specs.Group.{num}
 use Rattle.algebra.specs.Sum.{neq, Same, apart, apart?, others, others-ext}
@@ -43,11 +43,6 @@ entry_of g g' p h h' = bytes_of (blocks.op (blocks.op g g') p) ++ (num h ∷ num
 unfoldable pub entry_at : ℕ → List ℕ → List ℕ → Block → ℕ → List ℕ
 entry_at i keys sums p k = entry_of (g_at i keys k) (g_at i sums k) p (h_at i keys k) (h_at i sums k)
 
-pub length-entry_at : (i : ℕ) (keys sums : List ℕ) (p : Block) (k : ℕ) → length (entry_at i keys sums p k) ≡ 18
-unfolding entry_at entry_of
-length-entry_at i keys sums p k =
-    length-append (bytes_of (blocks.op (blocks.op (g_at i keys k) (g_at i sums k)) p)) _ ∙ ap (λ n. n + 2) (length-bytes_of _)
-
 row-ext : (i m : ℕ) (g h : ℕ → List ℕ) (k : ℕ) → (i ≢ k → g k ≡ h k) → row_of i m g k ≡ row_of i m h k
 unfolding row_of
 row-ext i m g h k e = go (neq i k) (apart? i k)
@@ -73,8 +68,10 @@ module _ (f : Frame) (delta : Block) (recs : List ℕ) (t : ℕ) (keys sums : Li
       (h-is f k key keys ek own l ne) (h-is f k (λ k. blocks.op (key k) delta) sums es own l ne))
 
   -- as the rows of LEAKY have them
-  pub entries-of : cat f.n (row_of f.i 18 (entry_at f.i keys sums (phi f delta recs t))) ≡ rows f 18 (leaky_entry f delta recs t)
-  entries-of = cat-ext f.n _ _ (λ k l. row-ext f.i 18 _ _ k (entry-is k l)) ∙ rows_of f 18 (leaky_entry f delta recs t)
+  pub entries-of : rows f 18 (entry_at f.i keys sums (phi f delta recs t)) ≡ rows f 18 (leaky_entry f delta recs t)
+  entries-of =
+      sym (rows_of f 18 (entry_at f.i keys sums (phi f delta recs t)))
+      ∙ cat-ext f.n _ _ (λ k l. row-ext f.i 18 _ _ k (entry-is k l)) ∙ rows_of f 18 (leaky_entry f delta recs t)
 
   pub sums-of : others blocks f.i f.n (g_at f.i keys) ≡ others blocks f.i f.n (λ k. G ((x f recs t).key k))
   unfolding x share_at

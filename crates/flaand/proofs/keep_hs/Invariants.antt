@@ -17,7 +17,4 @@ abbrev pub h_of : Frame → List ℕ → (ℕ → List ℕ) → ℕ → Block
 h_of f w m t = F.h f (Table.delta f w) (at f BITS w) (at f LEAKY w) (at f ZS w) m t
 
 abbrev pub invariant-loop-t : goal.invariant-loop-t
-invariant-loop-t l = (l.t ≤ leaky l.f.l) × Filled l.f HS 16 (λ t'. bytes_of (h_of l.f l.initial.work (letter l.incoming l.mail) t')) l.t l.initial.work l.work
-
-abbrev pub decreases-loop-t : goal.decreases-loop-t
-decreases-loop-t l = leaky l.f.l - l.t
+invariant-loop-t l = Filled l.f HS 16 (λ t'. bytes_of (h_of l.f l.initial.work (letter l.incoming l.mail) t')) l.t l.initial.work l.work

@@ -8,7 +8,7 @@ use Rattle.flaand.proofs.put_es.Invariants.{bit}
 use Rattle.flaand.proofs.put_es.Goals.{In-loop-t}
 
 pub loop-t-init : goal.loop-t-init
-loop-t-init c = (omega arith, refl, tab-zero _ _)
+loop-t-init c = (refl, tab-zero _ _)
 
 -- the bit lies within the message
 read-in : (c : In-loop-t) → 8 + c.loop-t.t * 17 + 17 ≤ length c.args.m.now
@@ -16,9 +16,9 @@ read-in c =
     omega (
       arith,
       c.loop-t-test.true,
-      c.loop-t.invariant.1,
+      c.loop-t.invariant.0,
       in-chunks c.loop-t.t (length c.args.row.now) 17
-          (omega (arith, c.loop-t-test.true, c.loop-t.invariant.1)),
+          (omega (arith, c.loop-t-test.true, c.loop-t.invariant.0)),
       c.requires,
     )
 
@@ -34,17 +34,16 @@ bit-requires c = omega (arith, read-in (goal.at.bit-requires c).In-loop-t)
 pub loop-t-preserved : goal.loop-t-preserved
 loop-t-preserved c =
     let e : c.bit_byte.result ≡ bit c.args.m.now c.loop-t.t = c.bit_byte.ensures ∙ ap num c.bit.ensures in (
-      omega (arith, c.loop-t-test.true, c.loop-t.invariant.1),
-      length-set c.loop-t.row c.loop-t.t c.bit_byte.result ∙ c.loop-t.invariant.1,
-      ap (λ (x : List ℕ). set x c.loop-t.t c.bit_byte.result) c.loop-t.invariant.2
+      length-set c.loop-t.row c.loop-t.t c.bit_byte.result ∙ c.loop-t.invariant.0,
+      ap (λ (x : List ℕ). set x c.loop-t.t c.bit_byte.result) c.loop-t.invariant.1
           ∙ ap (set (tab c.loop-t.t (bit c.args.m.now) ++ drop c.loop-t.t c.args.row.now) c.loop-t.t) e
-          ∙ tab-step c.loop-t.t (bit c.args.m.now) c.args.row.now (omega (arith, c.loop-t-test.true, c.loop-t.invariant.1)),
+          ∙ tab-step c.loop-t.t (bit c.args.m.now) c.args.row.now (omega (arith, c.loop-t-test.true, c.loop-t.invariant.0)),
     )
 
 pub shape_of-row : goal.shape_of-row
-shape_of-row c = c.loop-t.invariant.1
+shape_of-row c = c.loop-t.invariant.0
 
 pub returns : goal.returns
 returns c =
-    tab-end c.loop-t.t (length c.args.row.now) (bit c.args.m.now) c.args.row.now c.loop-t.row c.loop-t.invariant.2
-    (omega (arith, c.loop-t-test.false, c.loop-t.invariant.1)) refl
+    tab-end c.loop-t.t (length c.args.row.now) (bit c.args.m.now) c.args.row.now c.loop-t.row c.loop-t.invariant.1
+    (omega (arith, c.loop-t-test.false, c.loop-t.invariant.0)) refl

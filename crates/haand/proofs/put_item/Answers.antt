@@ -17,13 +17,13 @@ row_in : (c : After-entry_at-at) → c.entry_at-at.result + 18 ≤ length c.args
 row_in c =
     omega (
       arith,
-      entry_in c.args.f c.args.rows.now c.requires.rows_and_masks.rows c.args.t c.args.k c.requires.asked.below c.requires.out_len.1,
+      entry_in c.args.f c.args.rows.now c.requires.rows_and_masks.rows c.args.t c.args.k c.requires.asked.2 c.requires.out_len.1,
       c.entry_at-at.ensures,
     )
 
 pub bit_at-y-requires : goal.bit_at-y-requires
 bit_at-y-requires c =
-    let e = y-in c.args.f c.args.recs.now c.requires.asked.records c.args.t c.requires.asked.below in
+    let e = y-in c.args.f c.args.recs.now c.requires.asked.1 c.args.t c.requires.asked.2 in
     omega (arith, e, c.y_at.ensures, record-some c.args.f.n)
 
 pub returns : goal.returns

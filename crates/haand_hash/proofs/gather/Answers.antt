@@ -21,11 +21,9 @@ long c p =
     (λ k h ne. length-bytes_of (part_of c.args.keys c.args.recs.now ((c.args.t + p) * record_len c.args.f.n) k))
 
 pub loop-p-init : goal.loop-p-init
-loop-p-init c = (
-  omega arith,
-  even-zero (λ p. to_others c.args.f.n c.args.f.i (λ k. bytes_of (part_of c.args.keys c.args.recs.now
-      ((c.args.t + p) * record_len c.args.f.n) k))) ((c.args.f.n - 1) * 16) c.args.out.now,
-)
+loop-p-init c =
+    even-zero (λ p. to_others c.args.f.n c.args.f.i (λ k. bytes_of (part_of c.args.keys c.args.recs.now
+    ((c.args.t + p) * record_len c.args.f.n) k))) ((c.args.f.n - 1) * 16) c.args.out.now
 
 -- ---- in a turn
 
@@ -33,7 +31,7 @@ part_in : (c : In-loop-p) → (c.loop-p.p) * ((c.args.f.n - 1) * 16) + ((c.args.
 part_in c =
     let e = even-in (λ p. to_others c.args.f.n c.args.f.i (λ k. bytes_of (part_of c.args.keys c.args.recs.now
     ((c.args.t + p) * record_len c.args.f.n) k))) c.args.m ((c.args.f.n - 1) * 16) c.args.out.now c.requires.out_len (c.loop-p.p) c.loop-p-test.true in
-    omega (arith, e, c.loop-p.invariant.1.same)
+    omega (arith, e, c.loop-p.invariant.same)
 
 below : (c : In-loop-p) → c.args.t + (c.loop-p.p) < leaky c.args.f.l
 below c = omega (arith, c.loop-p-test.true, c.requires.positions.below)
@@ -53,23 +51,21 @@ put_parts-requires c =
 
 pub loop-p-preserved : goal.loop-p-preserved
 loop-p-preserved c =
-    let k = c.loop-p in (
-      omega (arith, c.loop-p-test.true),
-      even-put (λ p. to_others c.args.f.n c.args.f.i (λ k. bytes_of (part_of c.args.keys c.args.recs.now
-          ((c.args.t + p) * record_len c.args.f.n) k))) c.args.m ((c.args.f.n - 1) * 16) c.args.out.now c.requires.out_len (c.loop-p.p) ((c.loop-p.p) * ((c.args.f.n - 1) * 16) + ((c.args.f.n - 1) * 16)) k.out c.put_parts.new.out
-          c.loop-p-test.true k.invariant.1 (long (goal.at.loop-p-preserved c).Start (c.loop-p.p))
-          (c.put_parts.ensures ∙ ap (λ at. to_others c.args.f.n c.args.f.i (λ k. bytes_of (part_of c.args.keys c.args.recs.now at k)))
-          c.x_at.ensures)
-          refl,
-    )
+    let k = c.loop-p in
+    even-put (λ p. to_others c.args.f.n c.args.f.i (λ k. bytes_of (part_of c.args.keys c.args.recs.now
+    ((c.args.t + p) * record_len c.args.f.n) k))) c.args.m ((c.args.f.n - 1) * 16) c.args.out.now c.requires.out_len (c.loop-p.p) ((c.loop-p.p) * ((c.args.f.n - 1) * 16) + ((c.args.f.n - 1) * 16)) k.out c.put_parts.new.out
+    c.loop-p-test.true k.invariant (long (goal.at.loop-p-preserved c).Start (c.loop-p.p))
+    (c.put_parts.ensures ∙ ap (λ at. to_others c.args.f.n c.args.f.i (λ k. bytes_of (part_of c.args.keys c.args.recs.now at k)))
+    c.x_at.ensures)
+    refl
 
 pub shape_of-out : goal.shape_of-out
-shape_of-out c = c.loop-p.invariant.1.same
+shape_of-out c = c.loop-p.invariant.same
 
 pub returns : goal.returns
 returns c =
     even-end (λ p. to_others c.args.f.n c.args.f.i (λ k. bytes_of (part_of c.args.keys c.args.recs.now
-    ((c.args.t + p) * record_len c.args.f.n) k))) c.args.m ((c.args.f.n - 1) * 16) c.args.out.now c.requires.out_len c.loop-p.p c.loop-p.out c.loop-p.invariant.1 (omega arith)
+    ((c.args.t + p) * record_len c.args.f.n) k))) c.args.m ((c.args.f.n - 1) * 16) c.args.out.now c.requires.out_len c.loop-p.p c.loop-p.out c.loop-p.invariant (omega arith)
 
 pub overflow_sub-len : goal.overflow_sub-len
 overflow_sub-len c = omega (arith, c.requires.positions.ranges.own)

@@ -8,8 +8,5 @@ use Rattle.haand_hash.specs.Window.{part_of}
 use Rattle.haand_hash.proofs.gather.Given as goal
 
 abbrev pub invariant-loop-p : goal.invariant-loop-p
-invariant-loop-p l = (l.p ≤ l.m) × Written (λ p'. to_others l.f.n l.f.i (λ k. bytes_of (part_of l.keys l.recs ((l.t + p') * record_len l.f.n) k))) l.p
+invariant-loop-p l = Written (λ p'. to_others l.f.n l.f.i (λ k. bytes_of (part_of l.keys l.recs ((l.t + p') * record_len l.f.n) k))) l.p
     (l.p * ((l.f.n - 1) * 16)) l.initial.out l.out
-
-abbrev pub decreases-loop-p : goal.decreases-loop-p
-decreases-loop-p l = l.m - l.p

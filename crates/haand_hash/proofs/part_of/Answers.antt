@@ -1,11 +1,10 @@
-use Rattle.lists.specs.Kit.{sym, ap, ◌∙◌, Bool}
-use Rattle.haand_hash.specs.Window.{part_of}
+use Rattle.std.specs.Prelude.{◌+◌}
+use Rattle.lists.specs.Kit.{◌∙◌, arith, refl}
+use Rattle.share.specs.Layout.{record-within}
 use Rattle.haand_hash.proofs.part_of.Goals as goal
 
-pub returns-then-keys : goal.returns-then-keys
-returns-then-keys c =
-    c.key_at.ensures ∙ ap (λ (b : Bool). part_of b c.args.recs.now c.args.at c.args.k) (sym c.if-keys.true)
+pub key_at-requires : goal.key_at-requires
+key_at-requires c = omega (arith, record-within c.args.n c.args.k c.requires.1)
 
-pub returns-else-keys : goal.returns-else-keys
-returns-else-keys c =
-    c.mac_at.ensures ∙ ap (λ (b : Bool). part_of b c.args.recs.now c.args.at c.args.k) (sym c.if-keys.false)
+pub mac_at-requires : goal.mac_at-requires
+mac_at-requires c = omega (arith, record-within c.args.n c.args.k c.requires.1)

@@ -162,19 +162,19 @@ still c =
     (omega (arith, room-here, c.loop-t.invariant.1))
     ∙ c.loop-t.invariant.1
 
-pub copy-requires : goal.copy-requires
-copy-requires c =
-    omega (
+pub copy_from_slice-requires : goal.copy_from_slice-requires
+copy_from_slice-requires c =
+    let q : c.window-m.result * c.leaky_len-len.result - 0 ≡ c.window-m.result * leaky_len (c.args.f).n = omega (
       arith,
-      lent (goal.at.copy-requires c).After-window-m,
-      size_is (goal.at.copy-requires c).After-window-m,
-      length-take-le ((c.window-m.result) * (c.leaky_len-len.result) - 0) (c.put_window.new.out ++ post_of 0 ((c.window-m.result) *
-          (c.leaky_len-len.result) - 0) (c.loop-t.made)) (omega (
-            arith,
-            room (goal.at.copy-requires c).After-window-m,
-            still (goal.at.copy-requires c).After-put_window,
-          )),
-    )
+      size_is (goal.at.copy_from_slice-requires c).After-window-m,
+    ) in
+    lent (goal.at.copy_from_slice-requires c).After-window-m
+    ∙ sym (length-take-le (c.window-m.result * c.leaky_len-len.result - 0) (c.put_window.new.out ++ post_of 0 (c.window-m.result *
+    c.leaky_len-len.result - 0) c.loop-t.made) (omega (
+      arith,
+      room (goal.at.copy_from_slice-requires c).After-window-m,
+      still (goal.at.copy_from_slice-requires c).After-put_window,
+    )) ∙ q)
 
 pub loop-t-preserved : goal.loop-t-preserved
 loop-t-preserved c =
@@ -185,13 +185,13 @@ loop-t-preserved c =
           (c.args.f) c.args.work.now) (at (c.args.f) BITS c.args.work.now)) (c.loop-t.t) (c.window-m.result) ((c.loop-t.t) * (leaky_len
           (c.args.f).n)) ((c.window-m.result) * (leaky_len (c.args.f).n)) p
           (p + (c.window-m.result) * (c.leaky_len-len.result)) (((c.loop-t.t) + (c.window-m.result)) * (leaky_len (c.args.f).n))
-          (c.loop-t.work) c.copy.new.out c.loop-t.invariant.2
-          (window-copied _ _ ((c.window-m.result) * (leaky_len (c.args.f).n)) c.copy.new.out c.put_window.new.out _ (cat
+          (c.loop-t.work) c.copy_from_slice.new.self c.loop-t.invariant.2
+          (window-copied _ ((c.window-m.result) * (leaky_len (c.args.f).n)) c.copy_from_slice.new.self c.put_window.new.out _ (cat
           (c.window-m.result) (λ q. (R.leaky_row (c.args.f) (Table.delta (c.args.f) c.args.work.now) (at
           (c.args.f) BITS c.args.work.now)) ((c.loop-t.t) + q)))
-          c.copy.ensures (made-is (goal.at.loop-t-preserved c).After-put_window) (long (goal.at.loop-t-preserved c).Start (c.loop-t.t)
+          c.copy_from_slice.ensures.after (made-is (goal.at.loop-t-preserved c).After-put_window) (long (goal.at.loop-t-preserved c).Start (c.loop-t.t)
           (c.window-m.result))
-          (lent (goal.at.loop-t-preserved c).After-window-m) (let q : (c.window-m.result) * (c.leaky_len-len.result) - 0
+          (let q : (c.window-m.result) * (c.leaky_len-len.result) - 0
           ≡ (c.window-m.result) * (leaky_len (c.args.f).n) = omega (arith, size_is (goal.at.loop-t-preserved c).After-window-m) in q))
           (long (goal.at.loop-t-preserved c).Start (c.loop-t.t) (c.window-m.result)) (ap₂ (λ a k. a +
           (c.loop-t.t) * k) c.section_at-rows.ensures (len_is (goal.at.loop-t-preserved c).After-window-m))
@@ -244,14 +244,14 @@ overflow_add-a c = omega (arith, rows_in (goal.at.overflow_add-a c).After-window
 pub overflow_add-e : goal.overflow_add-e
 overflow_add-e c = omega (arith, rows_in (goal.at.overflow_add-e c).After-window-m)
 
-pub slice_bounds-copy-end : goal.slice_bounds-copy-end
-slice_bounds-copy-end c = rows_in (goal.at.slice_bounds-copy-end c).After-window-m
+pub slice_bounds-copy_from_slice-end : goal.slice_bounds-copy_from_slice-end
+slice_bounds-copy_from_slice-end c = rows_in (goal.at.slice_bounds-copy_from_slice-end c).After-window-m
 
-pub slice_bounds-copy-end-in-loop-t : goal.slice_bounds-copy-end-in-loop-t
-slice_bounds-copy-end-in-loop-t c = omega (
+pub slice_bounds-copy_from_slice-end-in-loop-t : goal.slice_bounds-copy_from_slice-end-in-loop-t
+slice_bounds-copy_from_slice-end-in-loop-t c = omega (
   arith,
-  still (goal.at.slice_bounds-copy-end-in-loop-t c).After-put_window,
-  room (goal.at.slice_bounds-copy-end-in-loop-t c).After-window-m,
+  still (goal.at.slice_bounds-copy_from_slice-end-in-loop-t c).After-put_window,
+  room (goal.at.slice_bounds-copy_from_slice-end-in-loop-t c).After-window-m,
 )
 
 pub overflow_add-t : goal.overflow_add-t

@@ -1,7 +1,7 @@
 use Rattle.std.specs.Prelude.{◌++◌, ◌+◌, ◌-◌, ◌*◌}
 use Rattle.lists.specs.Kit.{ap, ◌∙◌, List, ℕ, arith, length}
 use lib.ListN.{length-drop}
-use Rattle.lists.specs.Over.{cat, over-full}
+use Rattle.lists.specs.Over.{over-full}
 use Rattle.lists.specs.Sect.{get-rest}
 use Rattle.algebra.specs.Sum.{others}
 use Rattle.block.specs.declared.Block.{Block}
@@ -11,7 +11,6 @@ use Rattle.block.specs.Trip.{length-bytes_of}
 use Rattle.share.specs.Record.{record_len, key_at}
 use Rattle.engine.specs.declared.Frame.{Frame}
 use Rattle.rounds.specs.Area.{leaky_len, rows}
-use Rattle.rounds.specs.Loops.{row_of}
 use Rattle.rounds.specs.Haand as R
 use Rattle.haand_hash.specs.WindowLaws.{length-hashes}
 use Rattle.haand_rows.specs.Parts.{entry_at, entries-of, sums-of, three-parts}
@@ -25,9 +24,9 @@ pub slice_bounds-put_entries-start : goal.slice_bounds-put_entries-start
 unfolding leaky_len
 slice_bounds-put_entries-start c = omega arith
 
-pub put_entries-g-requires : goal.put_entries-g-requires
+pub put_entries-requires : goal.put_entries-requires
 unfolding leaky_len
-put_entries-g-requires c =
+put_entries-requires c =
     let at = c.args.t * record_len c.args.f.n in record {
       n_bound = (
         c.requires.asked.0.ranges.range.eight,
@@ -51,6 +50,10 @@ pub slice_bounds-store-end-2 : goal.slice_bounds-store-end-2
 unfolding leaky_len
 slice_bounds-store-end-2 c = omega arith
 
+pub key_hashes-requires : goal.key_hashes-requires
+key_hashes-requires c =
+    (c.requires.asked.0.ranges.own, ap length c.requires.keys_value ∙ length-hashes c.args.f (key_at c.args.recs.now (c.args.t * record_len c.args.f.n)))
+
 pub returns : goal.returns
 unfolding R.leaky_row leaky_len
 returns c =
@@ -63,11 +66,11 @@ returns c =
     (length-bytes_of (R.phi f c.args.delta.0 r c.args.t))
     (c.store.ensures ∙ ap bytes_of c.phi-p.ensures)
     (c.store-2.ensures
-    ∙ ap bytes_of (c.put_entries-g.ensures.1
+    ∙ ap bytes_of (c.key_hashes.ensures
     ∙ sums-of f c.args.delta.0 r c.args.t c.args.keys.now c.args.sums.now c.requires.asked.0.ranges.own c.requires.keys_value
     c.requires.sums_value))
-    (c.put_entries-g.ensures.0
-    ∙ ap (λ (q : Block). cat c.args.f.n (row_of c.args.f.i 18 (entry_at c.args.f.i c.args.keys.now c.args.sums.now q))) c.phi-p.ensures
+    (c.put_entries.ensures
+    ∙ ap (λ (q : Block). rows f 18 (entry_at c.args.f.i c.args.keys.now c.args.sums.now q)) c.phi-p.ensures
     ∙ entries-of f c.args.delta.0 r c.args.t c.args.keys.now c.args.sums.now c.requires.asked.0.ranges.own c.requires.keys_value
     c.requires.sums_value)
     ∙ over-full (front ++ (sums ++ entries)) c.args.out.now (32 + (length c.args.out.now - 32)) (omega arith)

@@ -16,11 +16,9 @@ use Rattle.haand_rows.proofs.put_rows.Goals.{In-loop-p}
 -- ---- of a call
 
 pub loop-p-init : goal.loop-p-init
-loop-p-init c = (
-  omega arith,
-  even-zero (λ p. R.leaky_row (c.args.f) c.args.delta.0 c.args.recs.now (c.args.t + p))
-      (leaky_len c.args.f.n) c.args.out.now,
-)
+loop-p-init c =
+    even-zero (λ p. R.leaky_row (c.args.f) c.args.delta.0 c.args.recs.now (c.args.t + p))
+    (leaky_len c.args.f.n) c.args.out.now
 
 -- ---- in a turn
 
@@ -32,7 +30,7 @@ row_in c =
     omega (
       arith,
       in-chunks (c.loop-p.p) c.args.m (leaky_len c.args.f.n) c.loop-p-test.true,
-      c.loop-p.invariant.1.same,
+      c.loop-p.invariant.same,
       c.requires.positions.2,
       ap
           (λ m. (c.loop-p.p) * m) (len_is c),
@@ -69,25 +67,23 @@ put_row-requires c =
 pub loop-p-preserved : goal.loop-p-preserved
 loop-p-preserved c =
     let long : length (R.leaky_row (c.args.f) c.args.delta.0 c.args.recs.now (c.args.t + (c.loop-p.p))) ≡ (leaky_len c.args.f.n) =
-    length-leaky_row (c.args.f) c.args.delta.0 c.args.recs.now (c.args.t + (c.loop-p.p)) in (
-      omega (arith, c.loop-p-test.true),
-      subst (λ z. Written (λ p. R.leaky_row (c.args.f) c.args.delta.0 c.args.recs.now (c.args.t + p)) ((c.loop-p.p) + 1)
-          (((c.loop-p.p) + 1) * (leaky_len c.args.f.n)) c.args.out.now
-          (put_mid ((c.loop-p.p) * z) ((c.loop-p.p) * z + z - (c.loop-p.p) * z) c.loop-p.out c.put_row.new.out)) (sym (len_is
-          (goal.at.loop-p-preserved c).In-loop-p))
-          (even-put (λ p. R.leaky_row (c.args.f) c.args.delta.0 c.args.recs.now (c.args.t + p)) c.args.m
-          (leaky_len c.args.f.n) c.args.out.now c.requires.positions.2 (c.loop-p.p) ((c.loop-p.p) * (leaky_len c.args.f.n) +
-          (leaky_len c.args.f.n)) c.loop-p.out
-          c.put_row.new.out c.loop-p-test.true c.loop-p.invariant.1 long c.put_row.ensures refl),
-    )
+    length-leaky_row (c.args.f) c.args.delta.0 c.args.recs.now (c.args.t + (c.loop-p.p)) in
+    subst (λ z. Written (λ p. R.leaky_row (c.args.f) c.args.delta.0 c.args.recs.now (c.args.t + p)) ((c.loop-p.p) + 1)
+    (((c.loop-p.p) + 1) * (leaky_len c.args.f.n)) c.args.out.now
+    (put_mid ((c.loop-p.p) * z) ((c.loop-p.p) * z + z - (c.loop-p.p) * z) c.loop-p.out c.put_row.new.out)) (sym (len_is
+    (goal.at.loop-p-preserved c).In-loop-p))
+    (even-put (λ p. R.leaky_row (c.args.f) c.args.delta.0 c.args.recs.now (c.args.t + p)) c.args.m
+    (leaky_len c.args.f.n) c.args.out.now c.requires.positions.2 (c.loop-p.p) ((c.loop-p.p) * (leaky_len c.args.f.n) +
+    (leaky_len c.args.f.n)) c.loop-p.out
+    c.put_row.new.out c.loop-p-test.true c.loop-p.invariant long c.put_row.ensures refl)
 
 pub shape_of-out : goal.shape_of-out
-shape_of-out c = c.loop-p.invariant.1.same
+shape_of-out c = c.loop-p.invariant.same
 
 pub returns : goal.returns
 returns c =
     even-end (λ p. R.leaky_row (c.args.f) c.args.delta.0 c.args.recs.now (c.args.t + p)) c.args.m
-    (leaky_len c.args.f.n) c.args.out.now c.requires.positions.2 c.loop-p.p c.loop-p.out c.loop-p.invariant.1 (omega arith)
+    (leaky_len c.args.f.n) c.args.out.now c.requires.positions.2 c.loop-p.p c.loop-p.out c.loop-p.invariant (omega arith)
 
 pub overflow_sub-size : goal.overflow_sub-size
 overflow_sub-size c = omega (arith, c.requires.positions.0.ranges.own)

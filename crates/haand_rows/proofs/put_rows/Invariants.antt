@@ -6,8 +6,5 @@ use Rattle.rounds.specs.Haand as R
 use Rattle.haand_rows.proofs.put_rows.Given as goal
 
 abbrev pub invariant-loop-p : goal.invariant-loop-p
-invariant-loop-p l = (l.p ≤ l.m) × Written (λ p'. R.leaky_row l.f l.delta.0 l.recs (l.t + p')) l.p
+invariant-loop-p l = Written (λ p'. R.leaky_row l.f l.delta.0 l.recs (l.t + p')) l.p
     (l.p * leaky_len l.f.n) l.initial.out l.out
-
-abbrev pub decreases-loop-p : goal.decreases-loop-p
-decreases-loop-p l = l.m - l.p
