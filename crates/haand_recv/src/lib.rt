@@ -3,10 +3,10 @@
 // Bits, MACs and masks are secret: they decide no branch and no index.
 #![tactic(auto)]
 
-ghost use Rattle.std.specs.Prelude.{◌≡◌, ◌+◌, ◌-◌, ◌*◌, ◌<◌, ◌≤◌, length};
+ghost use Rattle.std.specs.Prelude.{◌≡◌, ◌≢◌, ◌+◌, ◌-◌, ◌*◌, ◌<◌, ◌≤◌, length};
 ghost use Rattle.lists.specs.Over.{cat};
-ghost use Rattle.algebra.specs.Group.{bits, sel};
-ghost use Rattle.algebra.specs.Sum.{others, neq};
+ghost use Rattle.algebra.specs.Group.{bits};
+ghost use Rattle.algebra.specs.Sum.{others};
 ghost use Rattle.block.specs.Group.{blocks};
 ghost use Rattle.share.specs.Record.{record_len, mac_at};
 ghost use Rattle.plan.specs.Plan as Plan;
@@ -19,7 +19,6 @@ ghost use Rattle.haand_recv.specs.Received as Got;
 
 use area::Z_LEN;
 use blake3_lanes::LANES;
-use block::Block;
 use engine::Frame;
 use haand_hash::{HASHES_LEN, Hashes};
 use rounds::Mail;
@@ -35,69 +34,35 @@ fn received(m: &[u8], t: usize, x: bool) -> bool
 }
 
 // What party k adds to v, its hash left out: the mask for it, and what it told.
-fn told_by<'a>(
-    recs: &'a [u8],
-    masks: &'a [u8],
+fn told_by(
+    recs: &[u8],
+    masks: &[u8],
     incoming: &[u8],
     mail: Mail,
     f: Frame,
     t: usize,
     k: usize,
 ) -> bool
-    requires asked { (Asked f t recs.now) × (k < f.n) }
+    requires asked { (Asked f t recs.now) × (k < f.n) × (f.i ≢ k) }
     requires masks_len { length masks.now ≡ f.n * Plan.leaky f.l }
     requires arrived { Arrived f (8 + Plan.leaky f.l * 2) incoming.now mail }
-    ensures { result ≡ sel bits (neq f.i k)
-        (Got.told_by f masks.now recs.now (letter incoming.now mail) t k) }
+    ensures { result ≡ Got.told_by f masks.now recs.now (letter incoming.now mail) t k }
 {
-    let i = f.i;
-    if i == k {
-        return false;
-    }
-    let m = rounds::letter(incoming, mail, k);
-    let s = haand::mask_bit(masks, f, k, t);
     let x = share::bit_at(recs, area::x_at(f, t));
-    s ^ received(m, t, x)
+    haand::mask_bit(masks, f, k, t) ^ received(rounds::letter(incoming, mail, k), t, x)
 }
 
 // z of position t, the hashes left out.
-fn told<'a>(
-    recs: &'a [u8],
-    masks: &'a [u8],
-    incoming: &[u8],
-    mail: Mail,
-    f: Frame,
-    t: usize,
-) -> bool
+fn told(recs: &[u8], masks: &[u8], incoming: &[u8], mail: Mail, f: Frame, t: usize) -> bool
     requires asked { Asked f t recs.now }
     requires masks_len { length masks.now ≡ f.n * Plan.leaky f.l }
     requires arrived { Arrived f (8 + Plan.leaky f.l * 2) incoming.now mail }
     ensures { result ≡ Got.told f masks.now recs.now (letter incoming.now mail) t }
 {
-    let n = f.n;
     let x = share::bit_at(recs, area::x_at(f, t));
     let y = share::bit_at(recs, area::y_at(f, t));
-    let mut v = false;
-    let mut k = 0;
-    while k < n {
-        let b = told_by(recs, masks, incoming, mail, f, t, k);
-        v = v ^ b;
-        k += 1;
-    }
+    let v = algebra::sum_others(f.i, f.n, |k| told_by(recs, masks, incoming, mail, f, t, k));
     v ^ (x & y)
-}
-
-// G and H of party k, zero where it is the own one.
-fn hash_by(hashes: &[u8], f: Frame, k: usize) -> Hashes
-    requires { (f.i < f.n) × ((k < f.n) × (length hashes.now ≡ (f.n - 1) * 32)) }
-    ensures { (result.0 ≡ sel blocks (neq f.i k) (g_at f.i hashes.now k))
-        × (result.1 ≡ sel bits (neq f.i k) (h_at f.i hashes.now k)) }
-{
-    let i = f.i;
-    if i == k {
-        return Hashes(Block::zero(), false);
-    }
-    haand_hash::hash_of(hashes, i, k)
 }
 
 // The sums of G and of H over all other parties, from the hashes of a position.
@@ -106,25 +71,18 @@ fn sums(hashes: &[u8], f: Frame) -> Hashes
     ensures { (result.0 ≡ others blocks f.i f.n (g_at f.i hashes.now))
         × (result.1 ≡ others bits f.i f.n (h_at f.i hashes.now)) }
 {
-    let n = f.n;
-    let mut g = Block::zero();
-    let mut h = false;
-    let mut k = 0;
-    while k < n {
-        let a = hash_by(hashes, f, k);
-        g = g.xor(a.0);
-        h = h ^ a.1;
-        k += 1;
-    }
-    Hashes(g, h)
+    Hashes(
+        algebra::sum_others(f.i, f.n, |k| haand_hash::hash_by(hashes, f, k).0),
+        algebra::sum_others(f.i, f.n, |k| haand_hash::hash_by(hashes, f, k).1),
+    )
 }
 
 // The rows of the m positions from t on, from the hashes of their window.
-fn put_rows<'a>(
+fn put_rows(
     out: &mut [u8],
     hashes: &[u8],
-    recs: &'a [u8],
-    masks: &'a [u8],
+    recs: &[u8],
+    masks: &[u8],
     incoming: &[u8],
     mail: Mail,
     f: Frame,
@@ -138,10 +96,8 @@ fn put_rows<'a>(
     ensures { out.new ≡ cat m
         (λ p. R.z_row f masks.now recs.now (letter incoming.now mail) (t + p)) }
 {
-    let n = f.n;
-    let size = (n - 1) * 32;
-    let mut p = 0;
-    while p < m {
+    let size = (f.n - 1) * 32;
+    for p in 0..m {
         let a = p * size;
         let b = a + size;
         let s = sums(&hashes[a..b], f);
@@ -149,15 +105,14 @@ fn put_rows<'a>(
         let x = p * Z_LEN;
         let y = x + Z_LEN;
         encode::put_bit_block(&mut out[x..y], s.1 ^ z, s.0);
-        p += 1;
     }
 }
 
 // The same: their x MACs are hashed in one window.
-fn put_window<'a>(
+fn put_window(
     out: &mut [u8],
-    recs: &'a [u8],
-    masks: &'a [u8],
+    recs: &[u8],
+    masks: &[u8],
     incoming: &[u8],
     mail: Mail,
     f: Frame,
@@ -178,32 +133,26 @@ fn put_window<'a>(
 // The most bytes that the rows of a window have: those of 64 positions of 2 parties.
 const MOST: usize = LANES * Z_LEN;
 
-// What is received: keeps the rows of ZS.
+// What is received: keeps the rows of ZS. A turn goes as many positions on as the window has.
 pub fn keep(work: &mut [u8], incoming: &[u8], mail: Mail, f: Frame)
     requires work { Work f work.old }
     requires arrived { Arrived f (8 + Plan.leaky f.l * 2) incoming.now mail }
     ensures { work.new ≡ keep f ZS (R.z_rows f (at f MASKS work.old) (at f BITS work.old)
         (letter incoming.now mail)) work.old }
 {
-    let n = f.n;
     let masks = area::place(f, area::MASKS);
     let recs = area::place(f, area::BITS);
-    let ma = masks.0;
-    let me = masks.1;
-    let ra = recs.0;
-    let re = recs.1;
     let rows = area::section_at(f, area::ZS);
     let count = plan::leaky(f.l);
     let mut made = [0u8; MOST];
     let mut t = 0;
     while t < count {
-        let m = haand_hash::window(LANES, n, count - t);
+        let m = haand_hash::window(LANES, f.n, count - t);
         let size = m * Z_LEN;
-        let w = &work[..];
         put_window(
             &mut made[0..size],
-            &w[ra..re],
-            &w[ma..me],
+            &work[recs.0..recs.1],
+            &work[masks.0..masks.1],
             incoming,
             mail,
             f,
@@ -212,7 +161,7 @@ pub fn keep(work: &mut [u8], incoming: &[u8], mail: Mail, f: Frame)
         );
         let a = rows + t * Z_LEN;
         let e = a + size;
-        fill::copy(&mut work[a..e], &made[0..size]);
+        work[a..e].copy_from_slice(&made[0..size]);
         t += m;
     }
 }

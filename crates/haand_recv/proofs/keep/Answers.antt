@@ -112,14 +112,12 @@ still c =
     (omega (arith, few-here, c.loop-t.invariant.1))
     ∙ c.loop-t.invariant.1
 
-pub copy-requires : goal.copy-requires
-copy-requires c =
-    omega (
-      arith,
-      lent (goal.at.copy-requires c).After-window-m,
-      length-take-le ((c.window-m.result) * 17 - 0) (c.put_window.new.out ++ post_of 0 ((c.window-m.result) * 17 - 0) (c.loop-t.made))
-          (omega (arith, few (goal.at.copy-requires c).After-window-m, still (goal.at.copy-requires c).After-put_window)),
-    )
+pub copy_from_slice-requires : goal.copy_from_slice-requires
+copy_from_slice-requires c =
+    let q : c.window-m.result * 17 - 0 ≡ c.window-m.result * 17 = omega arith in
+    lent (goal.at.copy_from_slice-requires c).After-window-m
+    ∙ sym (length-take-le (c.window-m.result * 17 - 0) (c.put_window.new.out ++ post_of 0 (c.window-m.result * 17 - 0) c.loop-t.made)
+    (omega (arith, few (goal.at.copy_from_slice-requires c).After-window-m, still (goal.at.copy_from_slice-requires c).After-put_window)) ∙ q)
 
 pub loop-t-preserved : goal.loop-t-preserved
 loop-t-preserved c =
@@ -128,10 +126,10 @@ loop-t-preserved c =
       still (goal.at.loop-t-preserved c).After-put_window,
       keeping-more (size_of (c.args.f)) SECTIONS ZS (omega arith) c.args.work.now (area c.requires.work) (R.z_row (c.args.f) (at (c.args.f) MASKS c.args.work.now) (at (c.args.f) BITS c.args.work.now) (letter c.args.incoming.now c.args.mail)) (c.loop-t.t) (c.window-m.result) ((c.loop-t.t) * 17) ((c.window-m.result) * 17) p
           (p + (c.window-m.result) * 17) (((c.loop-t.t) + (c.window-m.result)) * 17)
-          (c.loop-t.work) c.copy.new.out c.loop-t.invariant.2
-          (window-copied _ _ ((c.window-m.result) * 17) c.copy.new.out c.put_window.new.out _ (cat (c.window-m.result) (λ q. (R.z_row (c.args.f) (at (c.args.f) MASKS c.args.work.now) (at (c.args.f) BITS c.args.work.now) (letter c.args.incoming.now c.args.mail)) ((c.loop-t.t) + q))) c.copy.ensures
+          (c.loop-t.work) c.copy_from_slice.new.self c.loop-t.invariant.2
+          (window-copied _ ((c.window-m.result) * 17) c.copy_from_slice.new.self c.put_window.new.out _ (cat (c.window-m.result) (λ q. (R.z_row (c.args.f) (at (c.args.f) MASKS c.args.work.now) (at (c.args.f) BITS c.args.work.now) (letter c.args.incoming.now c.args.mail)) ((c.loop-t.t) + q))) c.copy_from_slice.ensures.after
           (made-is (goal.at.loop-t-preserved c).After-put_window) (long (goal.at.loop-t-preserved c).Start (c.loop-t.t) (c.window-m.result))
-          (lent (goal.at.loop-t-preserved c).After-window-m) (let q : (c.window-m.result) * 17 - 0 ≡ (c.window-m.result) * 17 = omega arith in q))
+          (let q : (c.window-m.result) * 17 - 0 ≡ (c.window-m.result) * 17 = omega arith in q))
           (long (goal.at.loop-t-preserved c).Start (c.loop-t.t) (c.window-m.result)) (ap (λ a. a + (c.loop-t.t) * 17) c.section_at-rows.ensures) refl (omega arith)
           (omega (arith, some (goal.at.loop-t-preserved c).After-window-m, size-zs (c.args.f))),
     )
@@ -170,11 +168,11 @@ overflow_add-a c = omega (arith, rows_in (goal.at.overflow_add-a c).After-window
 pub overflow_add-e : goal.overflow_add-e
 overflow_add-e c = omega (arith, rows_in (goal.at.overflow_add-e c).After-window-m)
 
-pub slice_bounds-copy-end : goal.slice_bounds-copy-end
-slice_bounds-copy-end c = rows_in (goal.at.slice_bounds-copy-end c).After-window-m
+pub slice_bounds-copy_from_slice-end : goal.slice_bounds-copy_from_slice-end
+slice_bounds-copy_from_slice-end c = rows_in (goal.at.slice_bounds-copy_from_slice-end c).After-window-m
 
-pub slice_bounds-copy-end-in-loop-t : goal.slice_bounds-copy-end-in-loop-t
-slice_bounds-copy-end-in-loop-t c = omega (arith, still (goal.at.slice_bounds-copy-end-in-loop-t c).After-put_window, few (goal.at.slice_bounds-copy-end-in-loop-t c).After-window-m)
+pub slice_bounds-copy_from_slice-end-in-loop-t : goal.slice_bounds-copy_from_slice-end-in-loop-t
+slice_bounds-copy_from_slice-end-in-loop-t c = omega (arith, still (goal.at.slice_bounds-copy_from_slice-end-in-loop-t c).After-put_window, few (goal.at.slice_bounds-copy_from_slice-end-in-loop-t c).After-window-m)
 
 pub overflow_add-t : goal.overflow_add-t
 overflow_add-t c = omega (arith, some (goal.at.overflow_add-t c).After-window-m)

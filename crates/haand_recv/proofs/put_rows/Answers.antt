@@ -18,7 +18,7 @@ use Rattle.haand_recv.proofs.put_rows.Goals.{In-loop-p}
 -- ---- of a call
 
 pub loop-p-init : goal.loop-p-init
-loop-p-init c = (omega arith, written-zero (λ p. R.z_row (c.args.f) c.args.masks.now c.args.recs.now (letter c.args.incoming.now c.args.mail) (c.args.t + p)) c.args.out.now)
+loop-p-init c = written-zero (λ p. R.z_row (c.args.f) c.args.masks.now c.args.recs.now (letter c.args.incoming.now c.args.mail) (c.args.t + p)) c.args.out.now
 
 -- ---- in a turn
 
@@ -26,7 +26,7 @@ hash-in : (c : In-loop-p) → (c.loop-p.p) * ((c.args.f.n - 1) * 32) + ((c.args.
 hash-in c = omega (arith, in-chunks (c.loop-p.p) c.args.m ((c.args.f.n - 1) * 32) c.loop-p-test.true, c.requires.positions.1, c.requires.hashed.long)
 
 row_in : (c : In-loop-p) → (c.loop-p.p) * 17 + 17 ≤ length c.loop-p.out
-row_in c = omega (arith, c.loop-p-test.true, c.loop-p.invariant.1.same, c.requires.positions.2)
+row_in c = omega (arith, c.loop-p-test.true, c.loop-p.invariant.same, c.requires.positions.2)
 
 asked : (c : In-loop-p) → Asked c.args.f (c.args.t + (c.loop-p.p)) c.args.recs.now
 asked c =
@@ -50,24 +50,22 @@ pub told-z-requires : goal.told-z-requires
 told-z-requires c = record { asked = asked (goal.at.told-z-requires c).In-loop-p; masks_len = c.requires.masks_len; arrived = c.requires.arrived }
 
 pub loop-p-preserved : goal.loop-p-preserved
-loop-p-preserved c = (
-  omega (arith, c.loop-p-test.true),
-  written-turn (λ p. R.z_row (c.args.f) c.args.masks.now c.args.recs.now (letter c.args.incoming.now c.args.mail) (c.args.t + p)) (c.loop-p.p) ((c.loop-p.p) * 17) ((c.loop-p.p) * 17 + 17) (((c.loop-p.p) + 1) * 17) c.args.out.now c.loop-p.out c.put_bit_block.new.out c.loop-p.invariant.1
-      (c.put_bit_block.ensures
-      ∙ ap₂ bit_block (xor-addb c.sums-s.result.1 c.told-z.result ∙ ap₂ addb c.sums-s.ensures.1 c.told-z.ensures)
-      c.sums-s.ensures.0
-      ∙ z-row-is (c.args.f) c.args.masks.now c.args.recs.now (letter c.args.incoming.now c.args.mail) (c.args.t + (c.loop-p.p)) _ c.requires.positions.0.ranges.own (lent (goal.at.loop-p-preserved c).In-loop-p))
-      (omega (arith, length-z_row (c.args.f) c.args.masks.now c.args.recs.now (letter c.args.incoming.now c.args.mail) (c.args.t + (c.loop-p.p))))
-      (omega (arith, row_in (goal.at.loop-p-preserved c).In-loop-p, c.loop-p.invariant.1.same)) (omega arith),
-)
+loop-p-preserved c =
+    written-turn (λ p. R.z_row (c.args.f) c.args.masks.now c.args.recs.now (letter c.args.incoming.now c.args.mail) (c.args.t + p)) (c.loop-p.p) ((c.loop-p.p) * 17) ((c.loop-p.p) * 17 + 17) (((c.loop-p.p) + 1) * 17) c.args.out.now c.loop-p.out c.put_bit_block.new.out c.loop-p.invariant
+    (c.put_bit_block.ensures
+    ∙ ap₂ bit_block (xor-addb c.sums-s.result.1 c.told-z.result ∙ ap₂ addb c.sums-s.ensures.1 c.told-z.ensures)
+    c.sums-s.ensures.0
+    ∙ z-row-is (c.args.f) c.args.masks.now c.args.recs.now (letter c.args.incoming.now c.args.mail) (c.args.t + (c.loop-p.p)) _ c.requires.positions.0.ranges.own (lent (goal.at.loop-p-preserved c).In-loop-p))
+    (omega (arith, length-z_row (c.args.f) c.args.masks.now c.args.recs.now (letter c.args.incoming.now c.args.mail) (c.args.t + (c.loop-p.p))))
+    (omega (arith, row_in (goal.at.loop-p-preserved c).In-loop-p, c.loop-p.invariant.same)) (omega arith)
 
 pub shape_of-out : goal.shape_of-out
-shape_of-out c = c.loop-p.invariant.1.same
+shape_of-out c = c.loop-p.invariant.same
 
 pub returns : goal.returns
 returns c =
     let e : c.loop-p.p ≡ c.args.m = omega arith in
-    written-end (λ p. R.z_row (c.args.f) c.args.masks.now c.args.recs.now (letter c.args.incoming.now c.args.mail) (c.args.t + p)) c.loop-p.p c.args.m (c.loop-p.p * 17) c.args.out.now c.loop-p.out c.loop-p.invariant.1 e (omega (arith, c.requires.positions.2, e))
+    written-end (λ p. R.z_row (c.args.f) c.args.masks.now c.args.recs.now (letter c.args.incoming.now c.args.mail) (c.args.t + p)) c.loop-p.p c.args.m (c.loop-p.p * 17) c.args.out.now c.loop-p.out c.loop-p.invariant e (omega (arith, c.requires.positions.2, e))
 
 pub overflow_sub-size : goal.overflow_sub-size
 overflow_sub-size c = omega (arith, c.requires.positions.0.ranges.own)

@@ -6,7 +6,4 @@ use Rattle.rounds.specs.Haand as R
 use Rattle.haand_recv.proofs.put_rows.Given as goal
 
 abbrev pub invariant-loop-p : goal.invariant-loop-p
-invariant-loop-p l = (l.p ≤ l.m) × Written (λ p'. R.z_row l.f l.masks l.recs (letter l.incoming l.mail) (l.t + p')) l.p (l.p * 17) l.initial.out l.out
-
-abbrev pub decreases-loop-p : goal.decreases-loop-p
-decreases-loop-p l = l.m - l.p
+invariant-loop-p l = Written (λ p'. R.z_row l.f l.masks l.recs (letter l.incoming l.mail) (l.t + p')) l.p (l.p * 17) l.initial.out l.out

@@ -1,12 +1,10 @@
-use Rattle.std.specs.Prelude.{◌≡◌, ◌&&◌, ◌-◌}
-use Rattle.lists.specs.Kit.{ap, ap₂, ◌∙◌, arith}
+use Rattle.std.specs.Prelude.{◌&&◌}
+use Rattle.lists.specs.Kit.{ap, ap₂, ◌∙◌, arith, rules}
 use Rattle.algebra.specs.Group.{bits, addb, sel, xor-addb}
-use Rattle.algebra.specs.Sum.{others}
 use Rattle.share.specs.Layout.{record-some}
 use Rattle.share.specs.Record.{bit_at}
 use Rattle.share.specs.Share.{share_at}
 use Rattle.rounds.specs.Mail.{letter}
-use Rattle.rounds.specs.Loops.{others-none, others-turn}
 use Rattle.rounds.specs.Haand as R
 use Rattle.area.specs.Positions.{x_in_lem, y-in}
 use Rattle.haand_recv.specs.Received as Got
@@ -22,22 +20,13 @@ bit_at-y-requires c =
     let e = y-in c.args.f c.args.recs.now c.requires.asked.records c.args.t c.requires.asked.below in
     omega (arith, e, c.y_at.ensures, record-some c.args.f.n)
 
-pub loop-k-init : goal.loop-k-init
-loop-k-init c = (omega arith, others-none bits _ _)
-
-pub loop-k-preserved : goal.loop-k-preserved
-loop-k-preserved c = (
-  omega arith,
-  xor-addb c.loop-k.v c.told_by-b.result ∙ others-turn bits c.args.f.i (Got.told_by c.args.f c.args.masks.now c.args.recs.now (letter c.args.incoming.now c.args.mail) c.args.t) c.loop-k.k c.loop-k.v _ c.loop-k.invariant.1
-      c.told_by-b.ensures,
-)
-
 pub returns : goal.returns
 unfolding Got.told R.x R.y share_at
 returns c =
-    let e : c.loop-k.k ≡ c.args.f.n = omega arith in
-    xor-addb c.loop-k.v (c.bit_at-x.result && c.bit_at-y.result)
-    ∙ ap₂ addb (c.loop-k.invariant.1 ∙ ap (λ m. others bits c.args.f.i m (Got.told_by c.args.f c.args.masks.now c.args.recs.now (letter c.args.incoming.now c.args.mail) c.args.t)) e)
+    xor-addb c.sum_others-v.result (c.bit_at-x.result && c.bit_at-y.result)
+    ∙ ap₂ addb
+    (c.sum_others-v.ensures (Got.told_by c.args.f c.args.masks.now c.args.recs.now (letter c.args.incoming.now c.args.mail) c.args.t)
+    (λ k r l ne h. search rules))
     (Got.both c.bit_at-x.result c.bit_at-y.result
     ∙ ap₂ (sel bits) (c.bit_at-x.ensures ∙ ap (bit_at c.args.recs.now) c.x_at.ensures)
     (c.bit_at-y.ensures ∙ ap (bit_at c.args.recs.now) c.y_at.ensures))

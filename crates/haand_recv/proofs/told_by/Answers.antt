@@ -1,23 +1,15 @@
 use Rattle.lists.specs.Kit.{sym, ap, ap₂, ◌∙◌, List, Bool, ℕ, arith, length}
-use Rattle.algebra.specs.Group.{bits, addb, xor-addb}
+use Rattle.algebra.specs.Group.{addb, xor-addb}
 use Rattle.share.specs.Layout.{record-some}
 use Rattle.share.specs.Record.{bit_at}
 use Rattle.share.specs.Share.{share_at}
 use Rattle.encode.specs.Stretch.{in_list}
 use Rattle.plan.specs.Plan.{leaky}
-use Rattle.rounds.specs.Loops.{sel-own, sel-other}
-use Rattle.rounds.specs.MailLaws.{letter-fits, letter-long}
+use Rattle.rounds.specs.MailLaws.{letter-long}
 use Rattle.rounds.specs.Haand as R
 use Rattle.area.specs.Positions.{position-most, x_in_lem}
 use Rattle.haand_recv.specs.Received.{received, told_by}
 use Rattle.haand_recv.proofs.told_by.Goals as goal
-
-pub returns-then-i-k : goal.returns-then-i-k
-returns-then-i-k c = sel-own bits c.args.f.i c.args.k _ c.if-i-k.true
-
-pub letter-m-requires : goal.letter-m-requires
-letter-m-requires c =
-    letter-fits c.requires.arrived c.args.k c.requires.asked.1 (λ e. c.if-i-k.false (sym e))
 
 pub bit_at-x-requires : goal.bit_at-x-requires
 bit_at-x-requires c =
@@ -29,8 +21,8 @@ received-requires c = (
   position-most c.args.f c.requires.asked.0.ranges.range c.args.t c.requires.asked.0.below,
   omega (
     arith,
-    letter-long c.requires.arrived c.args.k c.requires.asked.1 (λ e. c.if-i-k.false (sym e)),
-    ap length c.letter-m.ensures,
+    letter-long c.requires.arrived c.args.k c.requires.asked.1 (λ e. c.requires.asked.2 (sym e)),
+    ap length c.letter.ensures,
     in_list c.args.t (leaky c.args.f.l) 2 c.requires.asked.0.below,
   ),
 )
@@ -38,8 +30,7 @@ received-requires c = (
 pub returns : goal.returns
 unfolding told_by R.x R.mask share_at
 returns c =
-    sel-other bits c.args.f.i c.args.k _ _ c.if-i-k.false
-    (xor-addb c.mask_bit-s.result c.received.result
-    ∙ ap₂ addb c.mask_bit-s.ensures
-    (c.received.ensures ∙ ap₂ (λ (l : List ℕ) (b : Bool). received l c.args.t b) c.letter-m.ensures
-    (c.bit_at-x.ensures ∙ ap (bit_at c.args.recs.now) c.x_at.ensures)))
+    xor-addb c.mask_bit.result c.received.result
+    ∙ ap₂ addb c.mask_bit.ensures
+    (c.received.ensures ∙ ap₂ (λ (l : List ℕ) (b : Bool). received l c.args.t b) c.letter.ensures
+    (c.bit_at-x.ensures ∙ ap (bit_at c.args.recs.now) c.x_at.ensures))
