@@ -3,24 +3,25 @@
 // others heard; the definitions stand in crates/rounds (Echo). A list that was broadcast is public, and so is its hash.
 #![tactic(auto)]
 
-ghost use Rattle.std.specs.Prelude.{◌≡◌, ◌≢◌, true, ◌&&◌, ℕ, ◌+◌, ◌-◌, ◌*◌, ◌<◌, ◌≤◌, length, replicate};
-ghost use Rattle.lists.specs.Pick.{pick};
+ghost use Rattle.std.specs.Prelude.{◌≡◌, ◌≢◌, ◌&&◌, ◌+◌, ◌-◌, ◌*◌, ◌<◌, ◌≤◌, length};
 ghost use Rattle.algebra.specs.Sum.{neq};
+ghost use Rattle.refusals.specs.Reason.{code_of};
 ghost use Rattle.block.specs.Block.{bytes_of};
 ghost use Rattle.message.specs.Format.{decodes, form_of};
 ghost use Rattle.plan.specs.Plan.{kind_of, count_due, msg_len};
-ghost use Rattle.engine.specs.Step.{frame, by_party};
+ghost use Rattle.engine.specs.Step.{by_party};
 ghost use Rattle.engine.specs.Area.{to_others};
 ghost use Rattle.engine.specs.Plain.{rows_of};
 ghost use Rattle.rounds.specs.Mail.{letter};
-ghost use Rattle.rounds.specs.FaultLaws.{Finds, fault_at};
+ghost use Rattle.rounds.specs.FaultLaws.{Finds};
 ghost use Rattle.rounds.specs.Echo as Echo;
 ghost use Rattle.rounds.specs.EchoLaws.{Received, entry, entry_len, told_fault, echo_faults};
 
 use block::Block;
-use engine::Frame;
+use engine::{Frame, Verdict};
 use message::Kind;
-use rounds::{Fault, Mail};
+use refusals::Reason;
+use rounds::Mail;
 
 // ---- what is kept of the lists
 
@@ -37,33 +38,27 @@ fn hash_list(list: &[u8], k: usize) -> Block
     }
 }
 
-// The hash of the list that party j sent; zero for the own number.
-fn hash_row(incoming: &[u8], mail: Mail, f: Frame, k: usize, j: usize) -> Block
-    requires j_lt_n { j < f.n }
+// The hash of the list that party j sent.
+fn hash_of(incoming: &[u8], mail: Mail, f: Frame, k: usize, j: usize) -> Block
+    requires j_lt_n { (j < f.n) × (f.i ≢ j) }
     requires received { Received (kind_of f.l k) (count_due f.n f.l k) f incoming.now mail }
-    ensures { bytes_of result ≡ pick (neq f.i j) (Echo.hash_vec k (letter incoming.now mail j)) (replicate 16 0) }
+    ensures { bytes_of result ≡ Echo.hash_vec k (letter incoming.now mail j) }
 {
-    let i = f.i;
-    if j == i {
-        return Block::zero();
-    }
-    let m = rounds::letter(incoming, mail, j);
-    hash_list(m, k)
+    hash_list(rounds::letter(incoming, mail, j), k)
 }
 
-// The hashes of the lists of round k, by party.
+// The hashes of the lists of round k, by party; zero for the own number.
 pub fn keep_hashes(section: &mut [u8], incoming: &[u8], mail: Mail, f: Frame, k: usize)
     requires n_bound { (f.n ≤ 8) × (length section.old ≡ f.n * 16) }
     requires received { Received (kind_of f.l k) (count_due f.n f.l k) f incoming.now mail }
     ensures { section.new ≡ rows_of f (λ j. Echo.hash_vec k (letter incoming.now mail j)) }
 {
-    let n = f.n;
-    for j in 0..n {
-        let h = hash_row(incoming, mail, f, k, j);
-        let a = j * 16;
-        let e = a + 16;
-        block::store(&mut section[a..e], h);
-    }
+    rounds::put_rows(
+        section,
+        f,
+        16,
+        |row, j| block::store(row, hash_of(incoming, mail, f, k, j)),
+    );
 }
 
 // ---- messages
@@ -100,13 +95,11 @@ fn put_echo(out: &mut [u8], hashes: &[u8], f: Frame, r: usize)
     requires out_len { (length out.old ≡ msg_len f.n 1 2) × (length hashes.now ≡ f.n * 16) }
     ensures { out.new ≡ Echo.echo_msg f.n f.i hashes.now r }
 {
-    let n = f.n;
-    let i = f.i;
-    encode::put_count(&mut out[0..8], n);
+    encode::put_count(&mut out[0..8], f.n);
     let mut a = 8;
-    for k in 0..n {
-        let e = a + entry_len(i, r, k);
-        put_entry(&mut out[a..e], hashes, i, r, k);
+    for k in 0..f.n {
+        let e = a + entry_len(f.i, r, k);
+        put_entry(&mut out[a..e], hashes, f.i, r, k);
         a = e;
     }
 }
@@ -117,97 +110,78 @@ pub fn write_echoes(out: &mut [u8], hashes: &[u8], f: Frame)
     requires out_len { (length out.old ≡ (f.n - 1) * msg_len f.n 1 2) × (length hashes.now ≡ f.n * 16) }
     ensures { out.new ≡ to_others f.n f.i (Echo.echo_msg f.n f.i hashes.now) }
 {
-    let n = f.n;
-    let i = f.i;
-    let len = plan::msg_len(n, 1, 2);
-    let last = n - 1;
-    for q in 0..last {
-        let r = plan::other(i, q);
-        let a = q * len;
-        let e = a + len;
-        put_echo(&mut out[a..e], hashes, f, r);
-    }
+    rounds::to_others(
+        out,
+        f,
+        plan::msg_len(f.n, 1, 2),
+        |row, r| put_echo(row, hashes, f, r),
+    );
 }
 
 // ---- the check
 
-// Entry k of an echo: 3 if it is absent, 7 if it is another hash than the own one.
-fn entry_fault(m: &[u8], hashes: &[u8], n: usize, k: usize) -> u8
+// Entry k of an echo: refused if it is absent, or another hash than the own one.
+fn check_hash(m: &[u8], hashes: &[u8], n: usize, k: usize) -> Result<(), Reason>
     requires m_value { form_of Kind.Options n m.now ≡ 0 }
     requires n_bound { (n ≤ 8) × ((k < n) × (length hashes.now ≡ n * 16)) }
-    ensures { result ≡ Echo.entry_fault hashes.now m.now k }
+    ensures { code_of result ≡ Echo.entry_fault hashes.now m.now k }
 {
     let at = message::item_at(Kind::Options, m, k);
     if m[at] == 0 {
-        return 3;
+        return Err(Reason::EmptyVector);
     }
     if block::load(m, at + 1).equals(block::load(hashes, k * 16)) {
-        0
+        Ok(())
     } else {
-        7
+        Err(Reason::InconsistentBroadcast)
     }
 }
 
-// The fault of entry k of what j told i; none where k is one of the two.
-fn told_fault(m: &[u8], hashes: &[u8], f: Frame, j: usize, k: usize) -> u8
+// Entry k of what j told i; nothing is checked where k is one of the two.
+fn check_entry(m: &[u8], hashes: &[u8], f: Frame, j: usize, k: usize) -> Result<(), Reason>
     requires m_value { form_of Kind.Options f.n m.now ≡ 0 }
     requires n_bound { (f.n ≤ 8) × ((k < f.n) × (length hashes.now ≡ f.n * 16)) }
-    ensures { result ≡ told_fault f.i j hashes.now m.now k }
+    ensures { code_of result ≡ told_fault f.i j hashes.now m.now k }
 {
-    let n = f.n;
-    let i = f.i;
-    if told(i, j, k) {
-        entry_fault(m, hashes, n, k)
+    if told(f.i, j, k) {
+        check_hash(m, hashes, f.n, k)
     } else {
-        0
+        Ok(())
     }
 }
 
 // The first fault of what j told i.
-pub fn check_echo(m: &[u8], hashes: &[u8], f: Frame, j: usize) -> u8
+pub fn check_echo(m: &[u8], hashes: &[u8], f: Frame, j: usize) -> Result<(), Reason>
     requires m_value { form_of Kind.Options f.n m.now ≡ 0 }
     requires n_bound { (f.n ≤ 8) × (length hashes.now ≡ f.n * 16) }
-    ensures { result ≡ Echo.echo_fault f.n f.i j hashes.now m.now }
+    ensures { code_of result ≡ Echo.echo_fault f.n f.i j hashes.now m.now }
 {
-    let n = f.n;
-    for k in 0..n {
-        let code = told_fault(m, hashes, f, j, k);
-        if code != 0 {
-            return code;
-        }
+    for k in 0..f.n {
+        check_entry(m, hashes, f, j, k)?;
     }
-    0
+    Ok(())
 }
 
-// The fault of party j's echo; none of the own number.
-fn echo_fault(hashes: &[u8], incoming: &[u8], mail: Mail, f: Frame, j: usize) -> u8
-    requires n_bound { (f.n ≤ 8) × ((j < f.n) × (length hashes.now ≡ f.n * 16)) }
+// The first fault of party j's echo.
+fn check_letter(
+    hashes: &[u8],
+    incoming: &[u8],
+    mail: Mail,
+    f: Frame,
+    j: usize,
+) -> Result<(), Reason>
+    requires n_bound { (f.n ≤ 8) × (j < f.n) × (f.i ≢ j) × (length hashes.now ≡ f.n * 16) }
     requires received { Received Kind.Options f.n f incoming.now mail }
-    ensures { result ≡ fault_at f.i (echo_faults f.n f.i hashes.now (letter incoming.now mail)) j }
+    ensures { code_of result ≡ echo_faults f.n f.i hashes.now (letter incoming.now mail) j }
 {
-    let i = f.i;
-    if j == i {
-        return 0;
-    }
-    let m = rounds::letter(incoming, mail, j);
-    check_echo(m, hashes, f, j)
+    check_echo(rounds::letter(incoming, mail, j), hashes, f, j)
 }
 
 // 3 or 7 with the first sender whose echo has a fault.
-pub fn check_echoes(hashes: &[u8], incoming: &[u8], mail: Mail, f: Frame) -> Fault
+pub fn check_echoes(hashes: &[u8], incoming: &[u8], mail: Mail, f: Frame) -> Verdict
     requires n_bound { (f.n ≤ 8) × (length hashes.now ≡ f.n * 16) }
     requires received { Received Kind.Options f.n f incoming.now mail }
-    ensures { Finds result.code result.party (by_party f (echo_faults f.n f.i hashes.now (letter incoming.now mail))) }
+    ensures { Finds result (by_party f (echo_faults f.n f.i hashes.now (letter incoming.now mail))) }
 {
-    let n = f.n;
-    for j in 0..n {
-        let code = echo_fault(hashes, incoming, mail, f, j);
-        if code != 0 {
-            return Fault {
-                code: code,
-                party: j,
-            };
-        }
-    }
-    Fault { code: 0, party: 0 }
+    rounds::by_party(f, |j| check_letter(hashes, incoming, mail, f, j))
 }

@@ -54,15 +54,6 @@ pub length-hash_vec : (k : ℕ) (m : List ℕ) → length (hash_vec k m) ≡ 16
 unfolding hash_vec hash
 length-hash_vec k m = length-take 16 (hash _) ∙ rw (length-bytes (digest _)) refl
 
--- zero for the own row
-pub zero-bytes : bytes_of blocks.nil ≡ replicate 16 0
-unfolding blocks zero_of bytes_of le8
-zero-bytes = refl
-
-pub hash-rows : (n l i : ℕ) (g : ℕ → List ℕ) → cat n (λ j. pick (neq i j) (g j) (replicate 16 0)) ≡ rows_of (frame n l i) g
-unfolding rows_of
-hash-rows n l i g = cat-ext n _ _ (λ j h. ap (λ b. pick b (g j) (replicate 16 0)) (sym (other-neq (frame n l i) j h)))
-
 -- ---- entries
 -- 16 for a party below m: an entry that is there is 16 bytes longer than one that is absent
 abbrev past : ℕ → ℕ → ℕ

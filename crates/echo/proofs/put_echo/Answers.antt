@@ -1,4 +1,4 @@
-use Rattle.std.specs.Prelude.{◌≡◌, ◌+◌, ◌-◌, ◌≤◌}
+use Rattle.std.specs.Prelude.{◌≡◌, ◌+◌, ◌≤◌}
 use Rattle.lists.specs.Kit.{refl, sym, ap, ◌∙◌, arith}
 use Rattle.lists.specs.Over.{length-take-drop}
 use Rattle.encode.specs.Stretch.{stretch-count, stretch-self, stretch-turn, stretch-end}
@@ -43,15 +43,15 @@ pub loop-k-preserved : goal.loop-k-preserved
 loop-k-preserved c =
     let h = c.args.hashes.now in
     let e = c.loop-k.a + c.entry_len.result in ((
-        ap (λ x. c.loop-k.a + x) c.entry_len.ensures
-            ∙ entry_next c.args.f.n c.args.f.i c.args.r h c.requires.out_len.1 c.loop-k.k c.loop-k.a c.loop-k-test.true c.loop-k.invariant.0,
-        (
-          c.loop-k.invariant.1.0,
-          stretch-turn c.args.f.n (entry c.args.f.i c.args.r h) c.loop-k.k c.loop-k.a e e _ c.loop-k.out c.put_entry.new.out c.loop-k.invariant.1.1
-              c.put_entry.ensures
-              (ap (λ x. c.loop-k.a + x) (entry_length c.args.f.n c.args.f.i c.args.r h c.requires.out_len.1 c.loop-k.k c.loop-k-test.true ∙ sym c.entry_len.ensures)) (omega (arith, fits (goal.at.loop-k-preserved c).After-entry_len, c.loop-k.invariant.1.0)) refl,
-        ),
-      ))
+      ap (λ x. c.loop-k.a + x) c.entry_len.ensures
+          ∙ entry_next c.args.f.n c.args.f.i c.args.r h c.requires.out_len.1 c.loop-k.k c.loop-k.a c.loop-k-test.true c.loop-k.invariant.0,
+      (
+        c.loop-k.invariant.1.0,
+        stretch-turn c.args.f.n (entry c.args.f.i c.args.r h) c.loop-k.k c.loop-k.a e e _ c.loop-k.out c.put_entry.new.out c.loop-k.invariant.1.1
+            c.put_entry.ensures
+            (ap (λ x. c.loop-k.a + x) (entry_length c.args.f.n c.args.f.i c.args.r h c.requires.out_len.1 c.loop-k.k c.loop-k-test.true ∙ sym c.entry_len.ensures)) (omega (arith, fits (goal.at.loop-k-preserved c).After-entry_len, c.loop-k.invariant.1.0)) refl,
+      ),
+    ))
 
 pub shape_of-out : goal.shape_of-out
 shape_of-out c =

@@ -8,8 +8,8 @@ use Rattle.message.specs.declared.Kind.TheVariants.{Options}
 use Rattle.message.proofs.FormLaws.{formed}
 use Rattle.rounds.specs.Echo.{entry_fault}
 use Rattle.rounds.specs.EchoLaws.{option-at, same_block, entry_absent, entry-there}
-use Rattle.echo.proofs.entry_fault.Goals as goal
-use Rattle.echo.proofs.entry_fault.Goals.{After-equals, Else-m-at-eq0}
+use Rattle.echo.proofs.check_hash.Goals as goal
+use Rattle.echo.proofs.check_hash.Goals.{After-equals, Else-m-at-eq0}
 
 pub item_at-at-requires : goal.item_at-at-requires
 item_at-at-requires c =
