@@ -20,8 +20,8 @@ fn line(rt: &impl Print, what: &str, number: u8) -> io::Result<()> {
 // 0 for accepted.
 fn number(v: Verdict) -> u8 {
     match v {
-        Verdict::Accepted => 0,
-        Verdict::Refused(code, _) => code,
+        Ok(()) => 0,
+        Err(refusal) => refusal.reason.number(),
     }
 }
 

@@ -1,5 +1,5 @@
 -- The work area after a call that writes an echo.
-use Rattle.std.specs.Prelude.{◌≡◌, refl, Bool, true, false, ◌≢◌, ℕ, ◌*◌, ◌<◌, length, eqb}
+use Rattle.std.specs.Prelude.{◌≡◌, refl, sym, ⊤, Result, Ok, Err, Bool, true, false, ◌≢◌, ℕ, ◌*◌, ◌<◌, length, eqb}
 use Rattle.std.proofs.Math.Path.{ap}
 use Rattle.std.proofs.Common.{◌∙◌, arith}
 use mathlib.Core.List.{List, [], ◌∷◌}
@@ -12,7 +12,7 @@ use Rattle.engine.specs.Area.{put_sec, length-put_sec, sec-same, sec-other}
 use Rattle.rounds.specs.Area.{PENDING, HASHES, SECTIONS, sizes, size_of, work_len, keep}
 use Rattle.rounds.specs.Echo.{hash_vec}
 use Rattle.rounds.specs.EchoLaws.{length-hash_vec}
-use Rattle.refusals.specs.Reason.{number-some}
+use Rattle.broadcast.specs.Told.{told, Names, names-told}
 use Rattle.engine.specs.declared.Refusal.{Refusal}
 use Rattle.rounds.specs.FaultLaws.{Finds}
 use Rattle.rounds.specs.JudgeLaws.{Found, judge-found}
@@ -28,12 +28,15 @@ length-waits x = go (eqb x.code 0)
     go false = refl
 
 -- what `note` asks for: a fault names a party of the session
-pub names-party : (f : Frame) → f.i < f.n → (k : ℕ) (w : List ℕ) (m : ℕ → List ℕ) (r : Refusal)
-    → Finds (Err r) (Table.judge k f w m) → r.party < f.n
+pub judge-names : (f : Frame) → f.i < f.n → (k : ℕ) (w : List ℕ) (m : ℕ → List ℕ) (v : Result ⊤ Refusal)
+    → Finds v (Table.judge k f w m) → Names v f.n
 unfolding Found
-names-party f own k w m r h =
-    let bad : (Table.judge k f w m).code ≢ 0 = λ z. number-some r.reason (h.0 ∙ z) in
-    omega (arith, h.1, (judge-found f own k w m bad).1)
+judge-names f own k w m v h = names-told f.n v (Table.judge k f w m) h (λ ne. (judge-found f own k w m ne).1)
+
+-- the number that a verdict tells
+pub told-code : (v : Result ⊤ Refusal) (e : Fault) → Finds v e → (told v).code ≡ e.code
+told-code (Ok _) e h = sym h
+told-code (Err r) e h = h.0
 
 module _ (f : Frame) (k : ℕ) (m : ℕ → List ℕ) where
   pub length-digests : length (digests table k f m) ≡ f.n * 16

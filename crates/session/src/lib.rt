@@ -54,8 +54,9 @@ fn keep_clean(work: &mut [u8], found: Verdict, incoming: &[u8], mail: Mail, f: F
     ensures { work.new ≡ pick (eqb (told found).code 0) (Table.kept k f work.old (mask f (letter incoming.now mail)))
         work.old }
 {
-    if found.is_ok() {
-        plain::keep(work, incoming, mail, f, k);
+    match found {
+        Ok(()) => plain::keep(work, incoming, mail, f, k),
+        Err(_) => {}
     }
 }
 

@@ -135,10 +135,10 @@ pub struct Log {
 
 fn refused(v: Verdict, round: usize) -> Option<Refusal> {
     match v {
-        Verdict::Accepted => None,
-        Verdict::Refused(number, party) => Some(Refusal {
-            number,
-            party,
+        Ok(()) => None,
+        Err(refusal) => Some(Refusal {
+            number: refusal.reason.number(),
+            party: refusal.party,
             round,
         }),
     }

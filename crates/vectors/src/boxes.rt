@@ -138,10 +138,10 @@ pub struct Refusal {
 
 pub(crate) fn refused(v: Verdict) -> Option<Refusal> {
     match v {
-        Verdict::Accepted => None,
-        Verdict::Refused(number, party) => Some(Refusal {
-            number: number as usize,
-            party,
+        Ok(()) => None,
+        Err(refusal) => Some(Refusal {
+            number: refusal.reason.number() as usize,
+            party: refusal.party,
         }),
     }
 }
