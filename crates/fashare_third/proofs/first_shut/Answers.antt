@@ -62,7 +62,8 @@ said c =
     ((c.loop-q.at) + 8 + c.load64.result) c.is.result refl
     (ap (λ w. (c.loop-q.at) + 8 + w) c.load64.ensures)
     (c.is.ensures
-    ∙ ap (λ d. same? (take 32 (drop ((c.args.k * STRINGS + c.loop-q.q) * COMM + 64) c.args.comms.now)) (bytes d)) c.digest_of-digest.ensures)
+    ∙ ap (λ d. same? (take 32 (drop ((c.args.k * STRINGS + c.loop-q.q) * COMM + 64) c.args.comms.now)) (bytes d))
+    c.digest_of-digest.ensures)
 
 pub returns-then-not-is : goal.returns-then-not-is
 returns-then-not-is c =
