@@ -58,7 +58,8 @@ length-dm f recs q =
     omega (arith, e)
 
 -- the bit byte is written, then the MACs
-pub dm-written : (f : Frame) (recs : List ℕ) (q at v : ℕ) (l x : List ℕ) → length l ≡ dm_len f.n → at ≡ record_at f q → v ≡ num (bit_at recs at)
+pub dm-written : (f : Frame) (recs : List ℕ) (q at v : ℕ) (l x : List ℕ) → length l ≡ dm_len f.n → at ≡ record_at f q
+    → v ≡ num (bit_at recs at)
     → x ≡ cat (f.n - 1) (λ p. bytes_of (mac_at recs at (nth f.i p))) → put_mid 1 (length (set l 0 v) - 1) (set l 0 v) x ≡ dm f recs q
 unfolding dm own share_at dm_len
 dm-written f recs q at v l x h ea ev ex =

@@ -13,7 +13,7 @@ use Rattle.plan.specs.Plan.{dm_len}
 use Rattle.engine.specs.declared.Frame.{Frame}
 use Rattle.rounds.specs.Area.{BITS, DMS, sizes, size_of, at}
 use Rattle.rounds.specs.Fashare as Fashare
-use Rattle.rounds.specs.Fashare.{STRINGS, COMM, DIBI_MSG, record_at}
+use Rattle.rounds.specs.Fashare.{STRINGS, COMM}
 use Rattle.area.specs.Given.{Work}
 use Rattle.area.specs.GivenLaws.{length_at}
 use Rattle.fashare_comm.specs.Laws as Own

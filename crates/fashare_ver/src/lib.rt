@@ -1,6 +1,6 @@
 // Round 10 of `fashare` (document 01, "What each round means"; `fashare` of src/mpc/faand.rs): each party sends dm, its bit and MACs of
-// each of the 40 strings. The definitions are those of crate rounds, specs/Fashare.antt. Before they are sent, bit and MACs decide no branch
-// and no index.
+// each of the 40 strings. The definitions are those of crate rounds, specs/Fashare.antt. Before they are sent, bit and MACs decide no
+// branch and no index.
 #![tactic(auto)]
 
 ghost use Rattle.std.specs.Prelude.{◌≡◌, ◌+◌, ◌-◌, ◌*◌, ◌<◌, length};

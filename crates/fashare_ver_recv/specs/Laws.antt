@@ -35,7 +35,8 @@ module _ (f : Frame) (m : List ℕ) (q k a : ℕ) (at : a ≡ item_at Dms m q) w
   dm-clean e h = dm-bit 0 e (ap (λ b. pick b 0 1) (sym (le-leb (get_or m (a + 8) 0) 1 h)))
 
 -- ---- dm q, of the length that is due: the bytes from `from` to `to`
-module _ (n : ℕ) (m : List ℕ) (d : Dues n STRINGS m) (q from to : ℕ) (h : q < STRINGS) (e : from ≡ 16 + q * (8 + dm_len n)) (t : to ≡ from + dm_len n) where
+module _ (n : ℕ) (m : List ℕ) (d : Dues n STRINGS m) (q from to : ℕ) (h : q < STRINGS) (e : from ≡ 16 + q * (8 + dm_len n))
+    (t : to ≡ from + dm_len n) where
   pub dues-part : take (to - from) (drop from m) ≡ take (dm_len n) (drop (dm_at m q) m)
   dues-part = ap₂ (λ a b. take a (drop b m)) (let k : to - from ≡ dm_len n = omega arith in k) (dues-place n STRINGS m d q from h e)
 

@@ -14,5 +14,7 @@ pub slice_bounds-result-end : goal.slice_bounds-result-end
 slice_bounds-result-end c = long (goal.at.slice_bounds-result-end c).After-letter
 
 pub returns : goal.returns
-returns c =
-    (ap (λ (x : List ℕ). take COMM_ROW (drop 8 x)) c.letter.ensures, length-get 8 COMM_ROW c.letter.result.now (long (goal.at.returns c).After-letter))
+returns c = (
+  ap (λ (x : List ℕ). take COMM_ROW (drop 8 x)) c.letter.ensures,
+  length-get 8 COMM_ROW c.letter.result.now (long (goal.at.returns c).After-letter),
+)

@@ -10,7 +10,11 @@ use Rattle.fashare_comm.proofs.write_dm.Goals as goal
 
 pub bit_at-requires : goal.bit_at-requires
 bit_at-requires c =
-    omega (arith, record-some c.args.f.n, record-in c.requires.q_bound.1 c.args.q c.record_at-at.result c.requires.q_bound.0 c.record_at-at.ensures)
+    omega (
+      arith,
+      record-some c.args.f.n,
+      record-in c.requires.q_bound.1 c.args.q c.record_at-at.result c.requires.q_bound.0 c.record_at-at.ensures,
+    )
 
 pub bounds-out-0 : goal.bounds-out-0
 unfolding dm_len
@@ -38,5 +42,6 @@ write_rows-requires-clause-put_pre c p l row e =
 
 pub returns : goal.returns
 returns c =
-    dm-written c.args.f c.args.recs.now c.args.q c.record_at-at.result c.bit_byte.result c.args.out.now c.write_rows.new.out c.requires.out_len
+    dm-written c.args.f c.args.recs.now c.args.q c.record_at-at.result c.bit_byte.result c.args.out.now c.write_rows.new.out
+    c.requires.out_len
     c.record_at-at.ensures (c.bit_byte.ensures ∙ ap num c.bit_at.ensures) (c.write_rows.ensures _ (λ p l row left e h. search rules))

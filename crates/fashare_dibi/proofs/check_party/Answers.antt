@@ -19,4 +19,5 @@ pub returns : goal.returns
 unfolding Fashare.dibi_fault
 returns c =
     c.check_opened.ensures
-    ∙ ap (λ (m : List ℕ). Fashare.dibi_fault c.args.f c.args.recs.now c.args.comms.now c.args.dms.now (λ _. m) c.args.q c.args.k) c.letter.ensures
+    ∙ ap (λ (m : List ℕ). Fashare.dibi_fault c.args.f c.args.recs.now c.args.comms.now c.args.dms.now (λ _. m) c.args.q c.args.k)
+    c.letter.ensures

@@ -17,7 +17,10 @@ check_string-requires c =
     record {
       q_bound = c.loop-q-test.true;
       dms_kept = given c.requires.work _ _ c.section-recs.ensures c.section-dms.ensures;
-      comms_len = (lent_length c.requires.work SHARE_COMMS _ _ (omega arith) (size-share-comms c.args.f) c.section-comms.ensures, c.requires.arrived);
+      comms_len = (
+        lent_length c.requires.work SHARE_COMMS _ _ (omega arith) (size-share-comms c.args.f) c.section-comms.ensures,
+        c.requires.arrived,
+      );
     }
 
 pub returns-in_err-check_string : goal.returns-in_err-check_string
@@ -25,7 +28,8 @@ unfolding Fashare.dibi_faults
 returns-in_err-check_string c =
     rw (← c.section-dms.ensures, ← c.section-comms.ensures, ← c.section-recs.ensures)
     (let r : c.from_residual.result ≡ Err c.in_err-check_string.field-0.0 = search rules in
-    rw r (item-first _ STRINGS c.loop-q.q c.in_err-check_string.field-0.0 c.loop-q-test.true c.loop-q.invariant c.in_err-check_string.ensures))
+    rw r
+    (item-first _ STRINGS c.loop-q.q c.in_err-check_string.field-0.0 c.loop-q-test.true c.loop-q.invariant c.in_err-check_string.ensures))
 
 pub loop-q-preserved : goal.loop-q-preserved
 loop-q-preserved c = item-next _ c.loop-q.q c.loop-q.invariant c.in_ok-check_string.ensures

@@ -7,4 +7,5 @@ use Rattle.rounds.specs.Fashare as Fashare
 use Rattle.fashare_dibi.proofs.judge.Given as goal
 
 abbrev pub invariant-loop-q : goal.invariant-loop-q
-invariant-loop-q l = (first_of l.q (λ q'. by_party l.f (Fashare.dibi_fault l.f l.recs l.comms l.dms (letter l.incoming l.mail) q'))).code ≡ 0
+invariant-loop-q l =
+    (first_of l.q (λ q'. by_party l.f (Fashare.dibi_fault l.f l.recs l.comms l.dms (letter l.incoming l.mail) q'))).code ≡ 0

@@ -6,7 +6,8 @@ use Rattle.fashare_dibi.proofs.write.Goals as goal
 
 pub to_others-requires-clause-out_len : goal.to_others-requires-clause-out_len
 unfolding msg_len list_len count_due kind_of
-to_others-requires-clause-out_len c = (omega (arith, c.requires.work.ranges.range.two), c.requires.work.ranges.range.eight, c.requires.out_len)
+to_others-requires-clause-out_len c =
+    (omega (arith, c.requires.work.ranges.range.two), c.requires.work.ranges.range.eight, c.requires.out_len)
 
 pub to_others-requires-clause-put_pre : goal.to_others-requires-clause-put_pre
 to_others-requires-clause-put_pre c k l ne row e =

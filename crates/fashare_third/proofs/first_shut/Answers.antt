@@ -57,9 +57,13 @@ is-requires c = omega (arith, placed (goal.at.is-requires c).After-digest_of-dig
 said : (c : After-is) → third_fault c.args.comms.now (λ _. c.args.m.now) c.loop-q.q c.args.k ≡ pick c.is.result 0 2
 unfolding hash
 said c =
-    third-is c.args.comms.now c.args.m.now c.loop-q.q c.args.k (c.loop-q.at) c.loop-q.invariant.at-is ((c.loop-q.at) + 8) ((c.loop-q.at) + 8 + c.load64.result) c.is.result refl
+    third-is c.args.comms.now c.args.m.now c.loop-q.q c.args.k (c.loop-q.at) c.loop-q.invariant.at-is
+    ((c.loop-q.at) + 8)
+    ((c.loop-q.at) + 8 + c.load64.result) c.is.result refl
     (ap (λ w. (c.loop-q.at) + 8 + w) c.load64.ensures)
-    (c.is.ensures ∙ ap (λ d. same? (take 32 (drop ((c.args.k * STRINGS + c.loop-q.q) * COMM + 64) c.args.comms.now)) (bytes d)) c.digest_of-digest.ensures)
+    (c.is.ensures
+    ∙ ap (λ d. same? (take 32 (drop ((c.args.k * STRINGS + c.loop-q.q) * COMM + 64) c.args.comms.now)) (bytes d))
+    c.digest_of-digest.ensures)
 
 pub returns-then-not-is : goal.returns-then-not-is
 returns-then-not-is c =
@@ -68,7 +72,8 @@ returns-then-not-is c =
 
 pub loop-q-preserved : goal.loop-q-preserved
 loop-q-preserved c =
-    opened-turn c.args.comms.now c.args.m.now c.args.k c.loop-q.q (c.loop-q.at) c.loop-q.invariant c.requires.m_value (string (goal.at.loop-q-preserved c).In-loop-q) _ c.is.result
+    opened-turn c.args.comms.now c.args.m.now c.args.k c.loop-q.q (c.loop-q.at) c.loop-q.invariant c.requires.m_value
+    (string (goal.at.loop-q-preserved c).In-loop-q) _ c.is.result
     (ap (λ w. (c.loop-q.at) + 8 + w) c.load64.ensures) (said (goal.at.loop-q-preserved c).After-is) (ap not c.if-not-is.false)
 
 pub returns : goal.returns

@@ -11,7 +11,8 @@ pub loop-k-init : goal.loop-k-init
 loop-k-init c = lowest-none _
 
 pub shut_of-requires-clause-comms_len : goal.shut_of-requires-clause-comms_len
-shut_of-requires-clause-comms_len c = lent_length c.requires.work SHARE_COMMS _ _ (omega arith) (size-share-comms c.args.f) c.section-comms.ensures
+shut_of-requires-clause-comms_len c =
+    lent_length c.requires.work SHARE_COMMS _ _ (omega arith) (size-share-comms c.args.f) c.section-comms.ensures
 
 pub shut_of-requires-clause-k_lt_n : goal.shut_of-requires-clause-k_lt_n
 shut_of-requires-clause-k_lt_n c = (c.loop-k-test.true, ((λ e. c.if-k-f.true (sym e)), c.loop-k.invariant.below))
@@ -26,8 +27,12 @@ loop-k-preserved c =
     let most = c.loop-k.most in
     let v = c.loop-k.verdict in
     elim c.if-k-f.branch [
-      | then-k-f+in-Some w ↦ rw (w.most-is, w.verdict-is) (turn-some f comms m k most v c.loop-k.invariant w.in-Some.q w.if-k-f.true w.in-Some.ensures)
-      | then-k-f+in_default w ↦ rw (w.most-is, w.verdict-is) (turn-none f comms m k most v c.loop-k.invariant w.if-k-f.true w.in_default.ensures)
+      | then-k-f+in-Some w ↦
+          rw (w.most-is, w.verdict-is)
+          (turn-some f comms m k most v c.loop-k.invariant w.in-Some.q w.if-k-f.true w.in-Some.ensures)
+      | then-k-f+in_default w ↦
+          rw (w.most-is, w.verdict-is)
+          (turn-none f comms m k most v c.loop-k.invariant w.if-k-f.true w.in_default.ensures)
       | else-k-f w ↦ rw (w.most-is, w.verdict-is) (turn-own f comms m k most v c.loop-k.invariant w.if-k-f.false)
     ]
 

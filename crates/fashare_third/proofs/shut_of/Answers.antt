@@ -14,8 +14,13 @@ letter-requires c = letter-fits c.requires.received.arrived c.args.k c.requires.
 pub first_shut-requires : goal.first_shut-requires
 first_shut-requires c =
     record {
-      m_value = ap (form_of Dms STRINGS) c.letter.ensures ∙ c.requires.received.formed-is c.args.k c.requires.k_lt_n.0 c.requires.k_lt_n.1.0;
-      k_bound = (omega (arith, c.requires.k_lt_n.0, c.requires.received.arrived.eight), omega (arith, c.requires.comms_len, in-chunks c.args.k c.args.f.n COMM_ROW c.requires.k_lt_n.0));
+      m_value =
+          ap (form_of Dms STRINGS) c.letter.ensures
+          ∙ c.requires.received.formed-is c.args.k c.requires.k_lt_n.0 c.requires.k_lt_n.1.0;
+      k_bound = (
+        omega (arith, c.requires.k_lt_n.0, c.requires.received.arrived.eight),
+        omega (arith, c.requires.comms_len, in-chunks c.args.k c.args.f.n COMM_ROW c.requires.k_lt_n.0),
+      );
       most_bound = c.requires.k_lt_n.1.1;
     }
 

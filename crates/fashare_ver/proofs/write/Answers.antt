@@ -27,7 +27,8 @@ pub to_others-requires-clause-out_len : goal.to_others-requires-clause-out_len
 to_others-requires-clause-out_len c = (
   omega (arith, c.requires.work.ranges.range.two),
   c.requires.work.ranges.range.eight,
-  c.requires.out_len ∙ ap (λ t. (c.args.f.n - 1) * t) (ver_len_lem c.args.f.n c.args.f.l ∙ ap (λ t. 8 + STRINGS * (8 + t)) (sym c.dm_len.ensures)),
+  c.requires.out_len
+      ∙ ap (λ t. (c.args.f.n - 1) * t) (ver_len_lem c.args.f.n c.args.f.l ∙ ap (λ t. 8 + STRINGS * (8 + t)) (sym c.dm_len.ensures)),
 )
 
 pub to_others-requires-clause-put_pre : goal.to_others-requires-clause-put_pre

@@ -17,7 +17,8 @@ pub returns-in_err-check_string : goal.returns-in_err-check_string
 unfolding Fashare.dm_faults
 returns-in_err-check_string c =
     let r : c.from_residual.result ≡ Err c.in_err-check_string.field-0.0 = search rules in
-    rw r (item-first _ STRINGS c.loop-q.q c.in_err-check_string.field-0.0 c.loop-q-test.true c.loop-q.invariant c.in_err-check_string.ensures)
+    rw r
+    (item-first _ STRINGS c.loop-q.q c.in_err-check_string.field-0.0 c.loop-q-test.true c.loop-q.invariant c.in_err-check_string.ensures)
 
 pub loop-q-preserved : goal.loop-q-preserved
 loop-q-preserved c = item-next _ c.loop-q.q c.loop-q.invariant c.in_ok-check_string.ensures

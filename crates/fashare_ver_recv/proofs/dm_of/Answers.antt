@@ -38,7 +38,8 @@ slice_bounds-result-end c =
     omega (
       arith,
       c.dm_len-len.ensures,
-      dues_in c.args.n STRINGS c.args.m.now c.requires.dues c.args.q _ c.requires.le_n.1.1 (from_is (goal.at.slice_bounds-result-end c).After-dm_len-len),
+      dues_in c.args.n STRINGS c.args.m.now c.requires.dues c.args.q _ c.requires.le_n.1.1
+          (from_is (goal.at.slice_bounds-result-end c).After-dm_len-len),
     )
 
 pub returns : goal.returns
