@@ -37,7 +37,8 @@ module _ {f : Frame} {recs rows zs : List ℕ} (q : HalfAnds f recs rows zs) (t 
   z_in_lem = omega (arith, in-chunks t (leaky f.l) 17 h, q.bits)
 
 -- the sections of a work area
-pub kept-secs : {f : Frame} {w : List ℕ} → Work f w → (x y z : List ℕ) → x ≡ at f BITS w → y ≡ at f LEAKY w → z ≡ at f ZS w → HalfAnds f x y z
+pub kept-secs : {f : Frame} {w : List ℕ} → Work f w → (x y z : List ℕ) → x ≡ at f BITS w → y ≡ at f LEAKY w → z ≡ at f ZS w → HalfAnds f
+    x y z
 kept-secs {f} h x y z ex ey ez = record {
   ranges = h.ranges;
   records = lent_length h BITS _ x (omega arith) (size-bits f) ex;

@@ -1,16 +1,16 @@
 -- Round 19: the checks of h, item by item and window by window.
 use Rattle.std.specs.Prelude.{◌≡◌, Err, Bool, true, false, ◌&&◌, ℕ, ◌+◌, ◌*◌, ◌/◌, ◌%◌, ◌≤◌, length, drop}
 use Rattle.std.proofs.Math.Path.{refl, ap, ap₂}
-use Rattle.std.proofs.Common.{sym, ◌∙◌, take-add, drop-drop, length-take-le}
+use Rattle.std.proofs.Common.{sym, ◌∙◌, drop-drop, take_all}
 use mathlib.Core.List.{List}
 use Rattle.std.proofs.Math.Nat.{mul_assoc}
 use native.Mathlib.Omega.{arith}
 use Rattle.std.proofs.Math.ListN.{take, length-drop}
 use Rattle.lists.specs.Pick.{pick}
 use Rattle.lists.specs.All.{all-add, all_of, all-ext}
-use Rattle.lists.specs.Over.{cat}
-use Rattle.lists.specs.Rows.{chunk}
-use Rattle.lists.specs.Same.{same?, same-append, same-cat}
+use Rattle.lists.specs.Over.{cat, in-chunks}
+use Rattle.lists.specs.Rows.{chunk, cat-chunk, length-chunk}
+use Rattle.lists.specs.Same.{same?, same-cat}
 use Rattle.lists.specs.Bytes.{Bytes}
 use Rattle.algebra.specs.Sum.{others}
 use Rattle.block.specs.declared.Block.{Block}
@@ -72,20 +72,17 @@ module _ (f : Frame) (own comms : List ℕ) (m : ℕ → List ℕ) where
       (ap (λ (b : Bool). pick {A = ℕ} b 0 10) (sym e) ∙ ap (λ (x : Fault). x.code) q, ap (λ (x : Fault). x.party) q)
 
 -- ---- windows
--- one Block more
-pub same_more : (a b : List ℕ) (at : ℕ) (ok e : Bool) → Bytes a → Bytes b → at % 16 ≡ 0 → at + 16 ≤ length a → at + 16 ≤ length b
-    → ok ≡ same? (take at a) (take at b) → e ≡ eq_block (block_at a at) (block_at b at)
-    → (ok && e) ≡ same? (take (at + 16) a) (take (at + 16) b)
+-- Block by Block
+pub same_blocks : (a b : List ℕ) → Bytes a → Bytes b → length a ≡ length b → length a % 16 ≡ 0
+    → all_of (length a / 16) (λ t. eq_block (block_at a (t * 16)) (block_at b (t * 16))) ≡ same? a b
 unfolding chunk
-same_more a b at ok e ba bb h la lb eo ee =
-    let q : at ≡ at / 16 * 16 = omega arith in
-    let x : List ℕ = take 16 (drop at a) in
-    let one : e ≡ same? x (take 16 (drop at b)) =
-    ee ∙ ap (λ j. eq_block (block_at a at) (block_at b j)) q ∙ same_block a b at (at / 16) ba bb la (omega arith)
-    ∙ ap (λ j. same? x (take 16 (drop j b))) (sym q) in
-    let long : length (take at a) ≡ length (take at b) = length-take-le at a (omega arith) ∙ sym (length-take-le at b (omega arith)) in
-    ap₂ ◌&&◌ eo one ∙ sym (same-append (take at a) (take at b) x (take 16 (drop at b)) long)
-    ∙ sym (ap₂ same? (take-add at 16 a) (take-add at 16 b))
+same_blocks a b ba bb h r =
+    let n = length a / 16 in
+    let e : n * 16 ≡ length a = omega arith in
+    all-ext n _ (λ q. same? (take 16 (drop (q * 16) a)) (take 16 (drop (q * 16) b)))
+    (λ q l. let w = in-chunks q n 16 l in same_block a b (q * 16) q ba bb (omega arith) (omega arith))
+    ∙ sym (same-cat n 16 (λ q. take 16 (drop (q * 16) a)) b (λ q l. length-chunk 16 n q a l (omega arith)) (omega arith))
+    ∙ ap₂ same? (cat-chunk 16 n a ∙ take_all (n * 16) a (omega arith)) (take_all (n * 16) b (omega arith))
 
 -- ---- a turn of `opens`: the c h from t on, in hs, against their commitments, which start at `from`
 module _ (k c t : ℕ) (comms m hs : List ℕ) (count from : ℕ)

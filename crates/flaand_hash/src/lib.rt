@@ -40,13 +40,10 @@ fn same(a: &[u8], b: &[u8]) -> bool
     requires { (length a.now ≡ length b.now) × (length a.now % 16 ≡ 0) }
     ensures { result ≡ same? a.now b.now }
 {
-    let mut ok = true;
-    let mut at = 0;
-    while 16 <= a.len() - at {
-        ok = ok & block::load(a, at).equals(block::load(b, at));
-        at += 16;
-    }
-    ok
+    lists::all_of(
+        a.len() / 16,
+        |t| block::load(a, t * 16).equals(block::load(b, t * 16)),
+    )
 }
 
 // Whether the h in hs, a window of them, are those that comms commits to.
@@ -69,15 +66,14 @@ fn opens(m: &[u8], comms: &[u8], f: Frame, k: usize) -> bool
     let count = plan::leaky(f.l);
     let row = k * (count * 32);
     let mut ok = true;
-    let mut t = 0;
-    while t < count {
-        let c = blake3_lanes::at_once(count - t);
+    for q in 0..count.div_ceil(LANES) {
+        let t = q * LANES;
+        let c = LANES.min(count - t);
         let from = 8 + t * 16;
         let to = from + c * 16;
         let a = row + t * 32;
         let e = a + c * 32;
         ok = ok & window_opens(&m[from..to], &comms[a..e], c);
-        t += c;
     }
     ok
 }

@@ -17,7 +17,8 @@ use Rattle.haand_hash.proofs.gather.Goals.{In-loop-p, Start}
 long : (c : Start) → (p : ℕ) → length (to_others c.args.f.n c.args.f.i (λ k. bytes_of (part_of c.args.keys c.args.recs.now
     ((c.args.t + p) * record_len c.args.f.n) k))) ≡ ((c.args.f.n - 1) * 16)
 long c p =
-    length-to_others 16 c.args.f.n c.args.f.i (λ k. bytes_of (part_of c.args.keys c.args.recs.now ((c.args.t + p) * record_len c.args.f.n) k))
+    length-to_others 16 c.args.f.n c.args.f.i (λ k. bytes_of (part_of c.args.keys c.args.recs.now ((c.args.t + p) * record_len
+    c.args.f.n) k))
     (λ k h ne. length-bytes_of (part_of c.args.keys c.args.recs.now ((c.args.t + p) * record_len c.args.f.n) k))
 
 pub loop-p-init : goal.loop-p-init
@@ -30,7 +31,8 @@ loop-p-init c =
 part_in : (c : In-loop-p) → (c.loop-p.p) * ((c.args.f.n - 1) * 16) + ((c.args.f.n - 1) * 16) ≤ length c.loop-p.out
 part_in c =
     let e = even-in (λ p. to_others c.args.f.n c.args.f.i (λ k. bytes_of (part_of c.args.keys c.args.recs.now
-    ((c.args.t + p) * record_len c.args.f.n) k))) c.args.m ((c.args.f.n - 1) * 16) c.args.out.now c.requires.out_len (c.loop-p.p) c.loop-p-test.true in
+    ((c.args.t + p) * record_len c.args.f.n) k))) c.args.m ((c.args.f.n - 1) * 16) c.args.out.now c.requires.out_len (c.loop-p.p)
+    c.loop-p-test.true in
     omega (arith, e, c.loop-p.invariant.same)
 
 below : (c : In-loop-p) → c.args.t + (c.loop-p.p) < leaky c.args.f.l
@@ -44,16 +46,19 @@ put_parts-requires c =
     record {
       le_n = (
         omega (arith, c.requires.positions.ranges.own),
-        (c.requires.positions.ranges.range.eight, lent-part ((c.loop-p.p) * ((c.args.f.n - 1) * 16)) ((c.args.f.n - 1) * 16) ((c.args.f.n - 1) * 16) c.loop-p.out refl (part_in (goal.at.put_parts-requires c).In-loop-p)),
+        (c.requires.positions.ranges.range.eight, lent-part ((c.loop-p.p) * ((c.args.f.n - 1) * 16)) ((c.args.f.n - 1) * 16) ((c.args.f.n
+        - 1) * 16) c.loop-p.out refl (part_in (goal.at.put_parts-requires c).In-loop-p)),
       );
-      n_in_bounds = omega (arith, x_in_lem c.args.f c.args.recs.now c.requires.positions.records (c.args.t + (c.loop-p.p)) (below (goal.at.put_parts-requires c).In-loop-p), c.x_at.ensures);
+      n_in_bounds = omega (arith, x_in_lem c.args.f c.args.recs.now c.requires.positions.records (c.args.t + (c.loop-p.p)) (below
+      (goal.at.put_parts-requires c).In-loop-p), c.x_at.ensures);
     }
 
 pub loop-p-preserved : goal.loop-p-preserved
 loop-p-preserved c =
     let k = c.loop-p in
     even-put (λ p. to_others c.args.f.n c.args.f.i (λ k. bytes_of (part_of c.args.keys c.args.recs.now
-    ((c.args.t + p) * record_len c.args.f.n) k))) c.args.m ((c.args.f.n - 1) * 16) c.args.out.now c.requires.out_len (c.loop-p.p) ((c.loop-p.p) * ((c.args.f.n - 1) * 16) + ((c.args.f.n - 1) * 16)) k.out c.put_parts.new.out
+    ((c.args.t + p) * record_len c.args.f.n) k))) c.args.m ((c.args.f.n - 1) * 16) c.args.out.now c.requires.out_len (c.loop-p.p)
+    ((c.loop-p.p) * ((c.args.f.n - 1) * 16) + ((c.args.f.n - 1) * 16)) k.out c.put_parts.new.out
     c.loop-p-test.true k.invariant (long (goal.at.loop-p-preserved c).Start (c.loop-p.p))
     (c.put_parts.ensures ∙ ap (λ at. to_others c.args.f.n c.args.f.i (λ k. bytes_of (part_of c.args.keys c.args.recs.now at k)))
     c.x_at.ensures)
@@ -65,7 +70,8 @@ shape_of-out c = c.loop-p.invariant.same
 pub returns : goal.returns
 returns c =
     even-end (λ p. to_others c.args.f.n c.args.f.i (λ k. bytes_of (part_of c.args.keys c.args.recs.now
-    ((c.args.t + p) * record_len c.args.f.n) k))) c.args.m ((c.args.f.n - 1) * 16) c.args.out.now c.requires.out_len c.loop-p.p c.loop-p.out c.loop-p.invariant (omega arith)
+    ((c.args.t + p) * record_len c.args.f.n) k))) c.args.m ((c.args.f.n - 1) * 16) c.args.out.now c.requires.out_len c.loop-p.p
+    c.loop-p.out c.loop-p.invariant (omega arith)
 
 pub overflow_sub-len : goal.overflow_sub-len
 overflow_sub-len c = omega (arith, c.requires.positions.ranges.own)

@@ -189,7 +189,8 @@ loop-t-preserved c =
           (window-copied _ ((c.window-m.result) * (leaky_len (c.args.f).n)) c.copy_from_slice.new.self c.put_window.new.out _ (cat
           (c.window-m.result) (λ q. (R.leaky_row (c.args.f) (Table.delta (c.args.f) c.args.work.now) (at
           (c.args.f) BITS c.args.work.now)) ((c.loop-t.t) + q)))
-          c.copy_from_slice.ensures.after (made-is (goal.at.loop-t-preserved c).After-put_window) (long (goal.at.loop-t-preserved c).Start (c.loop-t.t)
+          c.copy_from_slice.ensures.after (made-is (goal.at.loop-t-preserved c).After-put_window) (long (goal.at.loop-t-preserved
+          c).Start (c.loop-t.t)
           (c.window-m.result))
           (let q : (c.window-m.result) * (c.leaky_len-len.result) - 0
           ≡ (c.window-m.result) * (leaky_len (c.args.f).n) = omega (arith, size_is (goal.at.loop-t-preserved c).After-window-m) in q))
