@@ -1,3 +1,2 @@
 pub mod Triples
 pub mod Out
-pub mod Stops

@@ -6,6 +6,7 @@ ghost use Rattle.share.specs.Lent as Lent;
 ghost use Rattle.std.specs.Prelude.{◌≡◌, ◌+◌, ◌*◌, ◌<◌, ◌≤◌, length, get_or, drop, leb};
 ghost use Rattle.lists.specs.All.{all_of};
 ghost use Rattle.lists.specs.Pick.{pick};
+ghost use Rattle.refusals.specs.Reason.{code_of};
 ghost use Rattle.algebra.specs.Group.{odd};
 ghost use Rattle.algebra.specs.Bucket.{bucket_x, bucket_z};
 ghost use Rattle.share.specs.Share.{shares};
@@ -17,7 +18,8 @@ ghost use Rattle.rounds.specs.Combine as C;
 ghost use Rattle.combine.specs.Triples.{x_lent, z_lent};
 
 use bucket_sum::Sums;
-use engine::Verdict;
+use engine::{Refusal, Verdict};
+use refusals::Reason;
 use share::LABEL;
 
 // A triple's records are x, y and z, so the x of the triples are the records 0, 3, 6 ..; how far behind x the others are.
@@ -72,52 +74,46 @@ fn combine_all(out: &mut [u8], triples: &[u8], d: &[u8], n: usize, i: usize)
     share::put_lent_head(&mut out[z..], n, i, b.z);
 }
 
-// 1 where a byte is above 1, else 0.
-fn bits_fault(d: &[u8]) -> u8
-    ensures { result ≡ pick (all_of (length d.now) (λ e. leb (get_or d.now e 0) 1)) 0 1 }
+// Refused where a byte is above 1.
+fn check_bits(d: &[u8]) -> Result<(), Reason>
+    ensures { code_of result ≡ pick (all_of (length d.now) (λ e. leb (get_or d.now e 0) 1)) 0 1 }
 {
-    for e in 0..d.len() {
-        if 1 < d[e] {
-            return 1;
-        }
+    if lists::all_of(d.len(), |e| d[e] <= 1) {
+        Ok(())
+    } else {
+        Err(Reason::InvalidBitValue)
     }
-    0
 }
 
-// The first reason to refuse, 0 for none.
-fn reason(n: usize, i: usize, count: usize, triples: &[u8], d: &[u8], out: &[u8]) -> u8
-    ensures { result ≡ C.reason (C.args n i count triples.now d.now out.now) }
+// The first reason to refuse.
+fn check(
+    n: usize,
+    i: usize,
+    count: usize,
+    triples: &[u8],
+    d: &[u8],
+    out: &[u8],
+) -> Result<(), Reason>
+    ensures { code_of result ≡ C.reason (C.args n i count triples.now d.now out.now) }
 {
-    if n < 2 {
-        return 15;
-    }
-    if 8 < n {
-        return 15;
-    }
-    if n <= i {
-        return 15;
+    if !((2 <= n) & (n <= 8) & (i < n)) {
+        return Err(Reason::PartyOutOfRange);
     }
     if count == 0 {
-        return 5;
+        return Err(Reason::EmptyBucket);
     }
     if 5 < count {
-        return 16;
+        return Err(Reason::TooMany);
     }
     let len = share::lent_len(n);
-    if triples.len() != 3 * count * len {
-        return 6;
-    }
-    if d.len() != count - 1 {
-        return 6;
+    if !((triples.len() == 3 * count * len) & (d.len() == count - 1)) {
+        return Err(Reason::InvalidLength);
     }
     if out.len() != 3 * len {
-        return 17;
+        return Err(Reason::WrongBuffer);
     }
-    let fault = records::check_records(triples, n, i, 3 * count);
-    if fault != 0 {
-        return fault;
-    }
-    bits_fault(d)
+    records::check_records(triples, n, i, 3 * count)?;
+    check_bits(d)
 }
 
 // Combines `count` triples of records x, y, z into one, written to `out`: document 01, "Combining alone". A refused call leaves `out` as it
@@ -132,10 +128,7 @@ pub fn combine(
 ) -> Verdict
     ensures { C.outcome (reply_of result) out.new ≡ C.spec (C.args n i count triples.now d.now out.old) }
 {
-    let code = reason(n, i, count, triples, d, out);
-    if code != 0 {
-        return Verdict::Refused(code, i);
-    }
+    check(n, i, count, triples, d, out).map_err(|reason| Refusal { reason, party: i })?;
     combine_all(out, triples, d, n, i);
-    Verdict::Accepted
+    Ok(())
 }

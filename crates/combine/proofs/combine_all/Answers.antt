@@ -70,22 +70,15 @@ put_y-requires c =
 
 pub loop-k-init : goal.loop-k-init
 loop-k-init c =
-    let rest : List ℕ = drop (2 * (c.lent_len-len.result) - (c.lent_len-len.result)) (drop (c.lent_len-len.result) c.args.out.now) in (lined-none c.args.n c.args.i (X c.args.n c.args.triples.now c.args.d.now) (Z c.args.n c.args.triples.now c.args.d.now)
-          (Y c.args.n c.args.i c.args.triples.now) (y-long (goal.at.loop-k-init c).After-lent_len-len) (take
-          (c.lent_len-len.result) c.args.out.now) rest _
-          (length-take-le (c.lent_len-len.result) c.args.out.now (omega (
-            arith,
-            long (goal.at.loop-k-init c).After-lent_len-len,
-            c.requires.n_bound.1,
-          )) ∙ long (goal.at.loop-k-init c).After-lent_len-len)
-          (length-drop (2 * (c.lent_len-len.result) - (c.lent_len-len.result)) (drop (c.lent_len-len.result) c.args.out.now)
-          ∙ omega (
-            arith,
-            length-drop (c.lent_len-len.result) c.args.out.now,
-            long (goal.at.loop-k-init c).After-lent_len-len,
-            c.requires.n_bound.1,
-          ))
-          (ap (λ (v : List ℕ). take (c.lent_len-len.result) c.args.out.now ++ (v ++ rest)) c.put_y.ensures))
+    let len : ℕ = c.lent_len-len.result in
+    let long-here : len ≡ lent_len c.args.n = c.lent_len-len.ensures in
+    let rest : List ℕ = drop (2 * len - len) (drop len c.args.out.now) in
+    lined-none c.args.n c.args.i (X c.args.n c.args.triples.now c.args.d.now) (Z c.args.n c.args.triples.now c.args.d.now)
+    (Y c.args.n c.args.i c.args.triples.now) (y-long (goal.at.loop-k-init c).After-lent_len-len) (take len c.args.out.now) rest _
+    (length-take-le len c.args.out.now (omega (arith, long-here, c.requires.n_bound.1)) ∙ long-here)
+    (length-drop (2 * len - len) (drop len c.args.out.now)
+    ∙ omega (arith, length-drop len c.args.out.now, long-here, c.requires.n_bound.1))
+    (ap (λ (v : List ℕ). take len c.args.out.now ++ (v ++ rest)) c.put_y.ensures)
 
 -- ---- in a turn, and behind the last
 
@@ -137,15 +130,12 @@ put_entries-requires c =
       omega (arith, within, row-long (goal.at.put_entries-requires c).At-loop-k),
     )
 
-pub overflow_add-k : goal.overflow_add-k
-overflow_add-k c =
-    omega (arith, c.loop-k-test.true, c.requires.n_bound.0)
-
 pub loop-k-preserved : goal.loop-k-preserved
-loop-k-preserved c = (lined-turn c.args.n c.args.i (X c.args.n c.args.triples.now c.args.d.now) (Z c.args.n c.args.triples.now c.args.d.now)
-      (Y c.args.n c.args.i c.args.triples.now) (y-long (goal.at.loop-k-preserved c).After-lent_len-len) c.loop-k.invariant (2 *
-      (c.lent_len-len.result)) (twice (goal.at.loop-k-preserved c).After-lent_len-len) c.loop-k-test.true _ _
-      c.put_entries.new.row c.party-s.ensures.x-bytes c.party-s.ensures.z-bytes c.put_entries.ensures)
+loop-k-preserved c =
+    lined-turn c.args.n c.args.i (X c.args.n c.args.triples.now c.args.d.now) (Z c.args.n c.args.triples.now c.args.d.now)
+    (Y c.args.n c.args.i c.args.triples.now) (y-long (goal.at.loop-k-preserved c).After-lent_len-len) c.loop-k.invariant
+    (2 * c.lent_len-len.result) (twice (goal.at.loop-k-preserved c).After-lent_len-len) c.loop-k-test.true _ _
+    c.put_entries.new.row c.party-s.ensures.x-bytes c.party-s.ensures.z-bytes c.put_entries.ensures
 
 pub slice_bounds-sum_bits-end : goal.slice_bounds-sum_bits-end
 slice_bounds-sum_bits-end c = ts-long (goal.at.slice_bounds-sum_bits-end c).At-loop-k
@@ -263,7 +253,7 @@ left c =
     (c.args.n) c.args.triples.now (ts c.args.d.now)) (λ e. odd (get_or c.args.d.now e 0))) in
     lined-end (c.args.n) (c.args.i) (X c.args.n c.args.triples.now c.args.d.now) (Z c.args.n c.args.triples.now c.args.d.now)
     (Y c.args.n c.args.i c.args.triples.now) (y-long-here) c.loop-k.invariant (2 * (c.lent_len-len.result)) (twice-here)
-    (omega (arith, c.loop-k-test.false, c.loop-k.invariant.0)) c.sum_bits-b.result.x c.sum_bits-b.result.z
+    (omega arith) c.sum_bits-b.result.x c.sum_bits-b.result.z
     (bit-x-here) (bit-z-here) c.put_lent_head.new.out c.put_lent_head-2.new.out c.put_lent_head.ensures c.put_lent_head-2.ensures
 
 pub shape_of-out : goal.shape_of-out

@@ -1,5 +1,5 @@
 -- The loop's invariant: y is written, and of x and z the entries of the first k parties.
-use Rattle.std.specs.Prelude.{◌+◌, ◌-◌, ◌≤◌}
+use Rattle.std.specs.Prelude.{◌+◌}
 use Rattle.lists.specs.Kit.{List, ℕ}
 use Rattle.lists.specs.Kit.{length, get_or, take}
 use Rattle.algebra.specs.Group.{odd}
