@@ -1,15 +1,19 @@
 -- What is kept for an echo, and what the echo's call finds: the definitions look at other parties' messages alone.
-use Rattle.std.specs.Prelude.{◌≡◌, ⊤, Result, Ok, Err, length, Bool, true, false, ◌&&◌, ◌||◌, ◌≢◌, ℕ, zero, suc, ◌-◌, ◌≤◌, replicate, eqb}
+use Rattle.std.specs.Prelude.{◌≡◌, Ok, Err, length, Bool, true, false, ◌&&◌, ◌||◌, ◌≢◌, ℕ, zero, suc, ◌-◌, ◌≤◌, replicate, eqb}
 use Rattle.std.proofs.Math.Path.{refl, ap, ap₂}
 use Rattle.std.proofs.Common.{sym, ◌∙◌, arith}
 use mathlib.Core.List.{List, [], ◌∷◌}
 use Rattle.std.proofs.Math.ListN.{get_or}
 use Rattle.std.proofs.Math.Dec.{ltb}
-use borrow.Author.Tests.{ne_eqb, eqb-true, eqb-false}
+use borrow.Author.Tests.{ne_eqb}
 use Rattle.lists.specs.Pick.{pick}
 use Rattle.refusals.specs.declared.Reason.{Reason}
 use Rattle.refusals.specs.declared.Reason.TheVariants as V
 use Rattle.refusals.specs.Reason.{number, number-some}
+use Rattle.refusals.specs.contracts.Reason.{the_type}
+use denote.Enum.Declared.{tag_of}
+use denote.Enum.Bare.{sameb}
+use lib.Dec.{eqb-suc-suc}
 use Rattle.lists.specs.Rows.{cat-ext}
 use Rattle.plan.specs.Plan.{RNG_VER, PAIR_VER, FABITN, FASHARE_VER, FASHARE_DIBI, FLAAND_HASH, DVALUE, FAAND}
 use Rattle.engine.specs.declared.Frame.{Frame}
@@ -103,8 +107,10 @@ module _ (k code : ℕ) where
       ) refl
 
 -- the two bytes, and whether they are a fault
-module _ (f : Frame) (k : ℕ) (w x : List ℕ) (party : ℕ) (b : Bool)
-    (one : 1 ≤ k) (x-is : x ≡ at f PENDING w) (party-is : party ≡ get_or x 1 0) (b-is : b ≡ mem (get_or x 0 0) (faults (k - 1))) where
+module _ (f : Frame) (k : ℕ) (w x : List ℕ) (b : Bool) (one : 1 ≤ k) (x-is : x ≡ at f PENDING w) (b-is : b ≡ mem (get_or x 0 0) (faults (k - 1))) where
+  kept : Bool → Fault
+  kept t = pick t (record { code = get_or x 0 0; party = get_or x 1 0 }) none?
+
   prior-is : prior k ≡ k - 1
   prior-is = go k
     where
@@ -112,21 +118,51 @@ module _ (f : Frame) (k : ℕ) (w x : List ℕ) (party : ℕ) (b : Bool)
       go zero = refl
       go (suc j) = omega arith
 
-  pending-is : pending table k f w ≡ pick (b && ltb party f.n) (record { code = get_or x 0 0; party = party }) none?
-  unfolding pending waiting at
-  pending-is =
+  pending-is : (t : Bool) → (b && ltb (get_or x 1 0) f.n) ≡ t → pending table k f w ≡ kept t
+  unfolding pending waiting at kept
+  pending-is t e =
       ap₂ (λ (j : ℕ) (y : List ℕ). waiting (faults j) f.n y) prior-is (sym x-is)
-      ∙ ap₂ (λ p (t : Bool). pick (t && ltb p f.n) (record { code = get_or x 0 0; party = p }) none?) (sym party-is) (sym b-is)
+      ∙ ap kept (ap (λ u. u && ltb (get_or x 1 0) f.n) (sym b-is) ∙ e)
 
-  -- it is the reason with that number, and that party
-  pub finds-pending : (r : Reason) → number r ≡ get_or x 0 0 → (b && ltb party f.n) ≡ true
-      → Finds (Err (record { reason = r; party = party })) (pending table k f w)
-  finds-pending r n-is e =
-      let q = pending-is ∙ ap (λ t. pick t (record { code = get_or x 0 0; party = party }) none?) e in
-      (n-is ∙ sym (ap (λ (y : Fault). y.code) q), sym (ap (λ (y : Fault). y.party) q))
+  -- they are the reason with that number, and that party
+  pub finds-pending : (r : Reason) → number r ≡ get_or x 0 0 → (b && ltb (get_or x 1 0) f.n) ≡ true
+      → Finds (Err (record { reason = r; party = get_or x 1 0 })) (pending table k f w)
+  unfolding kept
+  finds-pending r n-is e = (n-is ∙ sym (ap (λ (y : Fault). y.code) (pending-is true e)), sym (ap (λ (y : Fault). y.party) (pending-is true e)))
 
-  pub finds-nothing : (b && ltb party f.n) ≡ false → Finds (Ok tt) (pending table k f w)
-  finds-nothing e = ap (λ (y : Fault). y.code) (pending-is ∙ ap (λ t. pick t (record { code = get_or x 0 0; party = party }) none?) e)
+  pub finds-nothing : (b && ltb (get_or x 1 0) f.n) ≡ false → Finds (Ok tt) (pending table k f w)
+  unfolding kept
+  finds-nothing e = ap (λ (y : Fault). y.code) (pending-is false e)
+
+-- reasons are compared by their numbers
+number-tag : (r : Reason) → number r ≡ suc (tag_of the_type r)
+number-tag V.InvalidBitValue = refl
+number-tag V.CommitmentCouldNotBeOpened = refl
+number-tag V.EmptyVector = refl
+number-tag V.ConversionErr = refl
+number-tag V.EmptyBucket = refl
+number-tag V.InvalidLength = refl
+number-tag V.InconsistentBroadcast = refl
+number-tag V.ABitWrongMAC = refl
+number-tag V.AShareWrongMAC = refl
+number-tag V.LaANDXorNotZero = refl
+number-tag V.AANDWrongMAC = refl
+number-tag V.BeaverWrongMAC = refl
+number-tag V.Undecodable = refl
+number-tag V.Missing = refl
+number-tag V.PartyOutOfRange = refl
+number-tag V.TooMany = refl
+number-tag V.WrongBuffer = refl
+number-tag V.NoPermutation = refl
+number-tag V.WrongRound = refl
+number-tag V.NoSession = refl
+number-tag V.TrailingBytes = refl
+number-tag V.WrongLabel = refl
+number-tag V.WrongBatches = refl
+
+pub is-reason : (r s : Reason) (b : Bool) → b ≡ sameb the_type r s → b ≡ eqb (number r) (number s)
+is-reason r s b e =
+    e ∙ sym (ap₂ eqb (number-tag r) (number-tag s) ∙ eqb-suc-suc (tag_of the_type r) (tag_of the_type s))
 
 -- the numbers that a round's content check can find are those of reasons
 Reasoned : ℕ → Type 0

@@ -1,6 +1,6 @@
 -- What a verdict says, as a fault, and what of it waits for the echo.
-use Rattle.std.specs.Prelude.{◌≡◌, ◌≢◌, ⊤, Result, Ok, Err, ℕ, ◌<◌, eqb}
-use Rattle.lists.specs.Kit.{[], ◌∷◌, refl, ap₂, ◌∙◌}
+use Rattle.std.specs.Prelude.{◌≡◌, ◌≢◌, ⊤, Result, Ok, Err, ℕ, ◌<◌, ◌≤◌, eqb}
+use Rattle.lists.specs.Kit.{[], ◌∷◌, refl, ap₂, ◌∙◌, arith}
 use Rattle.lists.specs.Pick.{pick}
 use Rattle.refusals.specs.Reason.{number, number-some}
 use Rattle.engine.specs.declared.Refusal.{Refusal}
@@ -27,3 +27,7 @@ waits-told (Err r) e h = ap₂ (λ c p. pick (eqb c 0) (0 ∷ 0 ∷ []) (c ∷ p
 pub names-told : (n : ℕ) (v : Result ⊤ Refusal) (e : Fault) → Finds v e → (e.code ≢ 0 → e.party < n) → Names v n
 names-told n (Ok _) e h q = tt
 names-told n (Err r) e h q = rw h.1 (q (λ z. number-some r.reason (h.0 ∙ z)))
+
+pub names-most : (v : Result ⊤ Refusal) (n m : ℕ) → Names v n → n ≤ m → Names v m
+names-most (Ok _) n m h l = tt
+names-most (Err r) n m h l = omega arith

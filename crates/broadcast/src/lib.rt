@@ -60,14 +60,7 @@ fn keep_fault(work: &mut [u8], verdict: Verdict, f: Frame)
 }
 
 // Keeps what the echo of round k is about: the hashes, and the fault that was found, if one was, with a party of the session.
-pub fn note(
-    work: &mut [u8],
-    verdict: Verdict,
-    incoming: &[u8],
-    mail: Mail,
-    f: Frame,
-    k: usize,
-)
+pub fn note(work: &mut [u8], verdict: Verdict, incoming: &[u8], mail: Mail, f: Frame, k: usize)
     requires work { Work f work.old }
     requires party_lt_n { Names verdict f.n }
     requires received { Received (kind_of f.l k) (count_due f.n f.l k) f incoming.now mail }
@@ -83,20 +76,15 @@ pub fn note(
 fn finds(k: usize, reason: Reason) -> bool
     ensures { result ≡ mem (number reason) (faults k) }
 {
+    let unopened = reason == Reason::CommitmentCouldNotBeOpened;
     match k {
-        plan::RNG_VER | plan::PAIR_VER => reason == Reason::CommitmentCouldNotBeOpened,
+        plan::RNG_VER | plan::PAIR_VER => unopened,
         plan::FABITN => reason == Reason::ABitWrongMAC,
         plan::FASHARE_VER => {
-            (reason == Reason::CommitmentCouldNotBeOpened)
-                | (reason == Reason::ConversionErr)
-                | (reason == Reason::InvalidBitValue)
+            unopened | (reason == Reason::ConversionErr) | (reason == Reason::InvalidBitValue)
         }
-        plan::FASHARE_DIBI => {
-            (reason == Reason::CommitmentCouldNotBeOpened) | (reason == Reason::AShareWrongMAC)
-        }
-        plan::FLAAND_HASH => {
-            (reason == Reason::CommitmentCouldNotBeOpened) | (reason == Reason::LaANDXorNotZero)
-        }
+        plan::FASHARE_DIBI => unopened | (reason == Reason::AShareWrongMAC),
+        plan::FLAAND_HASH => unopened | (reason == Reason::LaANDXorNotZero),
         plan::DVALUE => reason == Reason::AANDWrongMAC,
         plan::FAAND => reason == Reason::BeaverWrongMAC,
         _ => false,

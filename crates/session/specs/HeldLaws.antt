@@ -1,7 +1,7 @@
 -- The work area after a call that writes an echo.
-use Rattle.std.specs.Prelude.{◌≡◌, refl, sym, ⊤, Result, Ok, Err, Bool, true, false, ◌≢◌, ℕ, ◌*◌, ◌<◌, length, eqb}
+use Rattle.std.specs.Prelude.{◌≡◌, refl, ⊤, Result, Ok, Err, Bool, true, false, ◌≢◌, ℕ, ◌*◌, ◌<◌, length, eqb}
 use Rattle.std.proofs.Math.Path.{ap}
-use Rattle.std.proofs.Common.{◌∙◌, arith}
+use Rattle.std.proofs.Common.{sym, ◌∙◌, arith}
 use mathlib.Core.List.{List, [], ◌∷◌}
 use Rattle.lists.specs.Pick.{pick}
 use Rattle.engine.specs.declared.Frame.{Frame}

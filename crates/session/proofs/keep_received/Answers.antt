@@ -2,20 +2,17 @@ use Rattle.lists.specs.Kit.{sym, ◌∙◌}
 use Rattle.session.specs.SessionLaws.{plain-takes, echo-leaves}
 use Rattle.session.proofs.keep_received.Goals as goal
 
-pub returns-then-is_echo : goal.returns-then-is_echo
-returns-then-is_echo c =
-    echo-leaves c.args.k c.args.work.now _ (sym c.is_echo.ensures ∙ c.if-is_echo.true)
-
 pub keep-requires : goal.keep-requires
 keep-requires c =
     record {
       work = c.requires.fact.work;
       received = c.requires.fact.received;
-      mail_value = c.requires.mail_value (sym c.is_echo.ensures
-          ∙ c.if-is_echo.false);
+      mail_value = c.requires.mail_value (sym c.is_echo.ensures ∙ c.if-not-is_echo.true);
     }
 
-pub returns : goal.returns
-returns c =
-    plain-takes c.args.k _ c.args.work.now _ (sym c.is_echo.ensures ∙ c.if-is_echo.false)
-    c.keep.ensures
+pub returns-then-not-is_echo : goal.returns-then-not-is_echo
+returns-then-not-is_echo c =
+    plain-takes c.args.k _ c.args.work.now _ (sym c.is_echo.ensures ∙ c.if-not-is_echo.true) c.keep.ensures
+
+pub returns-else-not-is_echo : goal.returns-else-not-is_echo
+returns-else-not-is_echo c = echo-leaves c.args.k c.args.work.now _ (sym c.is_echo.ensures ∙ c.if-not-is_echo.false)
