@@ -1,19 +1,26 @@
 -- What is kept for an echo, and what the echo's call finds: the definitions look at other parties' messages alone.
-use Rattle.std.specs.Prelude.{◌≡◌, Bool, true, false, ◌&&◌, ◌||◌, ◌≢◌, ℕ, zero, suc, ◌-◌, ◌≤◌, replicate, eqb}
+use Rattle.std.specs.Prelude.{◌≡◌, Ok, Err, length, Bool, true, false, ◌&&◌, ◌||◌, ◌≢◌, ℕ, zero, suc, ◌-◌, ◌≤◌, replicate, eqb}
 use Rattle.std.proofs.Math.Path.{refl, ap, ap₂}
 use Rattle.std.proofs.Common.{sym, ◌∙◌, arith}
 use mathlib.Core.List.{List, [], ◌∷◌}
 use Rattle.std.proofs.Math.ListN.{get_or}
 use Rattle.std.proofs.Math.Dec.{ltb}
-use borrow.Author.Tests.{ne_eqb, eqb-true, eqb-false}
+use borrow.Author.Tests.{ne_eqb}
 use Rattle.lists.specs.Pick.{pick}
+use Rattle.refusals.specs.declared.Reason.{Reason}
+use Rattle.refusals.specs.declared.Reason.TheVariants as V
+use Rattle.refusals.specs.Reason.{number, number-some}
+use Rattle.refusals.specs.contracts.Reason.{the_type}
+use denote.Enum.Declared.{tag_of}
+use denote.Enum.Bare.{sameb}
+use lib.Dec.{eqb-suc-suc}
 use Rattle.lists.specs.Rows.{cat-ext}
 use Rattle.plan.specs.Plan.{RNG_VER, PAIR_VER, FABITN, FASHARE_VER, FASHARE_DIBI, FLAAND_HASH, DVALUE, FAAND}
 use Rattle.engine.specs.declared.Frame.{Frame}
 use Rattle.engine.specs.Step.{Fault, none?, other, mask, or_else, by_party}
 use Rattle.engine.specs.StepLaws.{other-cases, scan-ext}
 use Rattle.engine.specs.Plain.{rows_of, waits, waiting, prior, digests, hashes, pending, echo_check}
-use Rattle.engine.specs.Area.{mem}
+use Rattle.engine.specs.Area.{mem, Every, every-mem}
 use Rattle.rounds.specs.Area.{PENDING, HASHES, at}
 use Rattle.rounds.specs.Echo.{hash_vec, echo, echo_fault}
 use Rattle.rounds.specs.EchoLaws.{echo_faults}
@@ -100,8 +107,10 @@ module _ (k code : ℕ) where
       ) refl
 
 -- the two bytes, and whether they are a fault
-module _ (f : Frame) (k : ℕ) (w x : List ℕ) (party : ℕ) (b : Bool)
-    (one : 1 ≤ k) (x-is : x ≡ at f PENDING w) (party-is : party ≡ get_or x 1 0) (b-is : b ≡ mem (get_or x 0 0) (faults (k - 1))) where
+module _ (f : Frame) (k : ℕ) (w x : List ℕ) (b : Bool) (one : 1 ≤ k) (x-is : x ≡ at f PENDING w) (b-is : b ≡ mem (get_or x 0 0) (faults (k - 1))) where
+  kept : Bool → Fault
+  kept t = pick t (record { code = get_or x 0 0; party = get_or x 1 0 }) none?
+
   prior-is : prior k ≡ k - 1
   prior-is = go k
     where
@@ -109,39 +118,87 @@ module _ (f : Frame) (k : ℕ) (w x : List ℕ) (party : ℕ) (b : Bool)
       go zero = refl
       go (suc j) = omega arith
 
-  pending-is : pending table k f w ≡ pick (b && ltb party f.n) (record { code = get_or x 0 0; party = party }) none?
-  unfolding pending waiting at
-  pending-is =
+  pending-is : (t : Bool) → (b && ltb (get_or x 1 0) f.n) ≡ t → pending table k f w ≡ kept t
+  unfolding pending waiting at kept
+  pending-is t e =
       ap₂ (λ (j : ℕ) (y : List ℕ). waiting (faults j) f.n y) prior-is (sym x-is)
-      ∙ ap₂ (λ p (t : Bool). pick (t && ltb p f.n) (record { code = get_or x 0 0; party = p }) none?) (sym party-is) (sym b-is)
+      ∙ ap kept (ap (λ u. u && ltb (get_or x 1 0) f.n) (sym b-is) ∙ e)
 
-  pub finds-pending : (b && ltb party f.n) ≡ true → Finds (get_or x 0 0) party (pending table k f w)
-  finds-pending e =
-      let r = pending-is ∙ ap (λ t. pick t (record { code = get_or x 0 0; party = party }) none?) e in
-      record { code_is = sym (ap (λ (y : Fault). y.code) r); party-is = λ _. sym (ap (λ (y : Fault). y.party) r) }
+  -- they are the reason with that number, and that party
+  pub finds-pending : (r : Reason) → number r ≡ get_or x 0 0 → (b && ltb (get_or x 1 0) f.n) ≡ true
+      → Finds (Err (record { reason = r; party = get_or x 1 0 })) (pending table k f w)
+  unfolding kept
+  finds-pending r n-is e = (n-is ∙ sym (ap (λ (y : Fault). y.code) (pending-is true e)), sym (ap (λ (y : Fault). y.party) (pending-is true e)))
 
-  pub finds-nothing : (b && ltb party f.n) ≡ false → Finds 0 0 (pending table k f w)
-  finds-nothing e =
-      let r = pending-is ∙ ap (λ t. pick t (record { code = get_or x 0 0; party = party }) none?) e in
-      record { code_is = sym (ap (λ (y : Fault). y.code) r); party-is = λ _. sym (ap (λ (y : Fault). y.party) r) }
+  pub finds-nothing : (b && ltb (get_or x 1 0) f.n) ≡ false → Finds (Ok tt) (pending table k f w)
+  unfolding kept
+  finds-nothing e = ap (λ (y : Fault). y.code) (pending-is false e)
+
+-- reasons are compared by their numbers
+number-tag : (r : Reason) → number r ≡ suc (tag_of the_type r)
+number-tag V.InvalidBitValue = refl
+number-tag V.CommitmentCouldNotBeOpened = refl
+number-tag V.EmptyVector = refl
+number-tag V.ConversionErr = refl
+number-tag V.EmptyBucket = refl
+number-tag V.InvalidLength = refl
+number-tag V.InconsistentBroadcast = refl
+number-tag V.ABitWrongMAC = refl
+number-tag V.AShareWrongMAC = refl
+number-tag V.LaANDXorNotZero = refl
+number-tag V.AANDWrongMAC = refl
+number-tag V.BeaverWrongMAC = refl
+number-tag V.Undecodable = refl
+number-tag V.Missing = refl
+number-tag V.PartyOutOfRange = refl
+number-tag V.TooMany = refl
+number-tag V.WrongBuffer = refl
+number-tag V.NoPermutation = refl
+number-tag V.WrongRound = refl
+number-tag V.NoSession = refl
+number-tag V.TrailingBytes = refl
+number-tag V.WrongLabel = refl
+number-tag V.WrongBatches = refl
+
+pub is-reason : (r s : Reason) (b : Bool) → b ≡ sameb the_type r s → b ≡ eqb (number r) (number s)
+is-reason r s b e =
+    e ∙ sym (ap₂ eqb (number-tag r) (number-tag s) ∙ eqb-suc-suc (tag_of the_type r) (tag_of the_type s))
+
+-- the numbers that a round's content check can find are those of reasons
+Reasoned : ℕ → Type 0
+Reasoned c = (r : Reason) × (number r ≡ c)
+
+arm : (b : Bool) (xs ys : List ℕ) → Every Reasoned xs → Every Reasoned ys → Every Reasoned (pick b xs ys)
+arm true xs ys hx hy = hx
+arm false xs ys hx hy = hy
+
+reasoned : (k : ℕ) → Every Reasoned (faults k)
+unfolding faults Reasoned
+reasoned k =
+    arm (eqb k RNG_VER) _ _ ((V.CommitmentCouldNotBeOpened, refl), tt)
+    (arm (eqb k PAIR_VER) _ _ ((V.CommitmentCouldNotBeOpened, refl), tt)
+    (arm (eqb k FABITN) _ _ ((V.ABitWrongMAC, refl), tt)
+    (arm (eqb k FASHARE_VER) _ _ ((V.CommitmentCouldNotBeOpened, refl), ((V.ConversionErr, refl), ((V.InvalidBitValue, refl), tt)))
+    (arm (eqb k FASHARE_DIBI) _ _ ((V.CommitmentCouldNotBeOpened, refl), ((V.AShareWrongMAC, refl), tt))
+    (arm (eqb k FLAAND_HASH) _ _ ((V.CommitmentCouldNotBeOpened, refl), ((V.LaANDXorNotZero, refl), tt))
+    (arm (eqb k DVALUE) _ _ ((V.AANDWrongMAC, refl), tt)
+    (arm (eqb k FAAND) _ _ ((V.BeaverWrongMAC, refl), tt)
+    tt)))))))
+
+-- so a number that is no reason's is none of them
+pub faults-no_reason : (k x : ℕ) → ((r : Reason) → number r ≢ x) → mem x (faults k) ≡ false
+unfolding Reasoned
+faults-no_reason k x ne = go (mem x (faults k)) refl
+  where
+    go : (b : Bool) → mem x (faults k) ≡ b → b ≡ false
+    go true e = let q = every-mem Reasoned (faults k) (reasoned k) x e in absurd (ne q.0 q.1)
+    go false e = refl
 
 -- number and party in two bytes
-pub waits-is : (code party p : ℕ) → p ≡ pick (eqb code 0) 0 party → code ∷ p ∷ [] ≡ waits (record { code = code; party = party })
+pub waits-refused : (r : Reason) (party : ℕ) → number r ∷ party ∷ [] ≡ waits (record { code = number r; party = party })
 unfolding waits
-waits-is code party p e = go (eqb code 0) refl
-  where
-    go : (b : Bool) → eqb code 0 ≡ b → code ∷ p ∷ [] ≡ pick (eqb code 0) (0 ∷ 0 ∷ []) (code ∷ party ∷ [])
-    go true q =
-        ap₂ (λ c d. c ∷ d ∷ []) (eqb-true code 0 q) (e ∙ ap (λ b. pick b 0 party) q)
-        ∙ sym (ap (λ b. pick b (0 ∷ 0 ∷ []) (code ∷ party ∷ [])) q)
-    go false q = ap (λ d. code ∷ d ∷ []) (e ∙ ap (λ b. pick b 0 party) q) ∙ sym (ap (λ b. pick b (0 ∷ 0 ∷ []) (code ∷ party ∷ [])) q)
+waits-refused r party = rw (ne_eqb (number r) 0 (number-some r)) refl
 
--- they are those of the fault that was found
-pub waits-found : (code party : ℕ) (x : Fault) → Finds code party x → waits (record { code = code; party = party }) ≡ waits x
+pub waits-accepted : (x : List ℕ) → length x ≡ 2 → replicate (length x) 0 ≡ waits none?
 unfolding waits
-waits-found code party x h = go (eqb x.code 0) refl
-  where
-    go : (b : Bool) → eqb x.code 0 ≡ b
-        → pick (eqb code 0) (0 ∷ 0 ∷ []) (code ∷ party ∷ []) ≡ pick (eqb x.code 0) (0 ∷ 0 ∷ []) (x.code ∷ x.party ∷ [])
-    go true q = rw (h.code_is, q) refl
-    go false q = rw (h.code_is, h.party-is (eqb-false x.code 0 q)) refl
+waits-accepted x h = rw h refl

@@ -1,1 +1,2 @@
 pub mod BroadcastLaws
+pub mod Told

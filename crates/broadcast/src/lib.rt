@@ -4,8 +4,8 @@
 // reads and writes the messages.
 #![tactic(auto)]
 
-ghost use Rattle.std.specs.Prelude.{◌≡◌, ◌≢◌, ◌-◌, ◌*◌, ◌<◌, ◌≤◌, length, eqb};
-ghost use Rattle.lists.specs.Pick.{pick};
+ghost use Rattle.std.specs.Prelude.{◌≡◌, ◌-◌, ◌*◌, ◌<◌, ◌≤◌, length};
+ghost use Rattle.refusals.specs.Reason.{number};
 ghost use Rattle.plan.specs.Plan.{kind_of, count_due, msg_len};
 ghost use Rattle.engine.specs.Step.{mask};
 ghost use Rattle.engine.specs.Plain.{waits, digests, echo_check, hashes, pending};
@@ -17,10 +17,12 @@ ghost use Rattle.rounds.specs.Echo as Echo;
 ghost use Rattle.rounds.specs.FaultLaws.{Finds};
 ghost use Rattle.rounds.specs.Table.{table, faults};
 ghost use Rattle.area.specs.Given.{Work};
+ghost use Rattle.broadcast.specs.Told.{told, Names};
 
-use engine::Frame;
+use engine::{Frame, Refusal, Verdict};
 use message::Kind;
-use rounds::{Fault, Mail};
+use refusals::Reason;
+use rounds::Mail;
 
 // Keeps the hashes of the lists of round k.
 fn keep_hashes(work: &mut [u8], incoming: &[u8], mail: Mail, f: Frame, k: usize)
@@ -30,114 +32,92 @@ fn keep_hashes(work: &mut [u8], incoming: &[u8], mail: Mail, f: Frame, k: usize)
         (mask f (letter incoming.now mail))) work.old }
 {
     let p = area::place(f, area::HASHES);
-    let a = p.0;
-    let e = p.1;
-    echo::keep_hashes(&mut work[a..e], incoming, mail, f, k);
-}
-
-// The party of a fault in a byte, 0 for none.
-fn party_byte(code: u8, party: usize) -> u8
-    requires { code ≢ 0 → party < 256 }
-    ensures { result ≡ pick (eqb code 0) 0 party }
-{
-    if code == 0 { 0 } else { party as u8 }
+    echo::keep_hashes(&mut work[p.0..p.1], incoming, mail, f, k);
 }
 
 // Number and party of a fault, 0 0 for none.
-fn put_fault(out: &mut [u8], code: u8, party: usize)
-    requires { (length out.old ≡ 2) × (code ≢ 0 → party < 256) }
-    ensures { out.new ≡ waits (record { code = code; party = party }) }
+fn put_fault(out: &mut [u8], verdict: Verdict)
+    requires { (length out.old ≡ 2) × Names verdict 256 }
+    ensures { out.new ≡ waits (told verdict) }
 {
-    out[0] = code;
-    out[1] = party_byte(code, party);
+    match verdict {
+        Ok(_) => out.fill(0),
+        Err(r) => {
+            out[0] = r.reason.number();
+            out[1] = r.party as u8;
+        }
+    }
 }
 
 // Keeps a fault.
-fn keep_fault(work: &mut [u8], code: u8, party: usize, f: Frame)
+fn keep_fault(work: &mut [u8], verdict: Verdict, f: Frame)
     requires work { Work f work.old }
-    requires party_lt_n { code ≢ 0 → party < f.n }
-    ensures { work.new ≡ keep f PENDING (waits (record { code = code; party = party })) work.old }
+    requires party_lt_n { Names verdict f.n }
+    ensures { work.new ≡ keep f PENDING (waits (told verdict)) work.old }
 {
     let p = area::place(f, area::PENDING);
-    let a = p.0;
-    let e = p.1;
-    put_fault(&mut work[a..e], code, party);
+    put_fault(&mut work[p.0..p.1], verdict);
 }
 
 // Keeps what the echo of round k is about: the hashes, and the fault that was found, if one was, with a party of the session.
-pub fn note(
-    work: &mut [u8],
-    code: u8,
-    party: usize,
-    incoming: &[u8],
-    mail: Mail,
-    f: Frame,
-    k: usize,
-)
+pub fn note(work: &mut [u8], verdict: Verdict, incoming: &[u8], mail: Mail, f: Frame, k: usize)
     requires work { Work f work.old }
-    requires party_lt_n { code ≢ 0 → party < f.n }
+    requires party_lt_n { Names verdict f.n }
     requires received { Received (kind_of f.l k) (count_due f.n f.l k) f incoming.now mail }
-    ensures { work.new ≡ keep f PENDING (waits (record { code = code; party = party }))
+    ensures { work.new ≡ keep f PENDING (waits (told verdict))
         (keep f HASHES (digests table k f
         (mask f (letter incoming.now mail))) work.old) }
 {
     keep_hashes(work, incoming, mail, f, k);
-    keep_fault(work, code, party, f);
+    keep_fault(work, verdict, f);
 }
 
-fn wide(b: u8) -> usize
-    ensures { result ≡ b }
+// Whether the content check of round k can find this.
+fn finds(k: usize, reason: Reason) -> bool
+    ensures { result ≡ mem (number reason) (faults k) }
 {
-    b as usize
-}
-
-// Whether the content check of round k can find this number.
-fn finds(k: usize, code: u8) -> bool
-    ensures { result ≡ mem code (faults k) }
-{
+    let unopened = reason == Reason::CommitmentCouldNotBeOpened;
     match k {
-        plan::RNG_VER | plan::PAIR_VER => code == 2,
-        plan::FABITN => code == 8,
-        plan::FASHARE_VER => (code == 2) | (code == 4) | (code == 1),
-        plan::FASHARE_DIBI => (code == 2) | (code == 9),
-        plan::FLAAND_HASH => (code == 2) | (code == 10),
-        plan::DVALUE => code == 11,
-        plan::FAAND => code == 12,
+        plan::RNG_VER | plan::PAIR_VER => unopened,
+        plan::FABITN => reason == Reason::ABitWrongMAC,
+        plan::FASHARE_VER => {
+            unopened | (reason == Reason::ConversionErr) | (reason == Reason::InvalidBitValue)
+        }
+        plan::FASHARE_DIBI => unopened | (reason == Reason::AShareWrongMAC),
+        plan::FLAAND_HASH => unopened | (reason == Reason::LaANDXorNotZero),
+        plan::DVALUE => reason == Reason::AANDWrongMAC,
+        plan::FAAND => reason == Reason::BeaverWrongMAC,
         _ => false,
     }
 }
 
 // The fault that waits for the echo k. A work area may hold anything: what no call left there is no fault.
-fn pending(work: &[u8], f: Frame, k: usize) -> Fault
+fn pending(work: &[u8], f: Frame, k: usize) -> Verdict
     requires work { Work f work.now }
     requires le_k { 1 ≤ k }
-    ensures { Finds result.code result.party (pending table k f work.now) }
+    ensures { Finds result (pending table k f work.now) }
 {
-    let n = f.n;
     let p = area::section(work, f, area::PENDING);
-    let code = p[0];
-    let party = wide(p[1]);
-    if finds(k - 1, code) & (party < n) {
-        return Fault {
-            code: code,
-            party: party,
-        };
+    let party = p[1] as usize;
+    let Ok(reason) = Reason::try_from(p[0]) else {
+        return Ok(());
+    };
+    if finds(k - 1, reason) & (party < f.n) {
+        Err(Refusal { reason, party })
+    } else {
+        Ok(())
     }
-    Fault { code: 0, party: 0 }
 }
 
 // The call for the echo k: 3 or 7 with the first sender whose echo has a fault, else the fault that waited.
-pub fn check(work: &[u8], incoming: &[u8], mail: Mail, f: Frame, k: usize) -> Fault
+pub fn check(work: &[u8], incoming: &[u8], mail: Mail, f: Frame, k: usize) -> Verdict
     requires work { Work f work.now }
     requires le_k { 1 ≤ k }
     requires received { Received Kind.Options f.n f incoming.now mail }
-    ensures { Finds result.code result.party (echo_check table k f work.now
+    ensures { Finds result (echo_check table k f work.now
         (mask f (letter incoming.now mail))) }
 {
-    let e = echo::check_echoes(area::section(work, f, area::HASHES), incoming, mail, f);
-    if e.code != 0 {
-        return e;
-    }
+    echo::check_echoes(area::section(work, f, area::HASHES), incoming, mail, f)?;
     pending(work, f, k)
 }
 

@@ -1,7 +1,10 @@
-use Rattle.lists.specs.Kit.{sym, ap, subst, ◌∙◌, List, ℕ, arith, length, rules}
-use Rattle.engine.specs.Step.{by_party}
+use Rattle.lists.specs.Kit.{◌≡◌, sym, ap, ◌∙◌, arith, length}
+use Rattle.std.specs.Prelude.{⊤, Result, Ok, Err}
+use Rattle.std.specs.Result.{IsErrAnd}
+use Rattle.engine.specs.declared.Refusal.{Refusal}
+use Rattle.engine.specs.Step.{Fault, by_party}
 use Rattle.engine.specs.Plain.{pending}
-use Rattle.rounds.specs.Area.{HASHES}
+use Rattle.rounds.specs.Area.{HASHES, at}
 use Rattle.rounds.specs.Mail.{letter}
 use Rattle.rounds.specs.EchoLaws.{echo_faults}
 use Rattle.rounds.specs.FaultLaws.{Finds, finds-one, finds-two}
@@ -10,27 +13,37 @@ use Rattle.area.specs.GivenLaws.{length_at}
 use Rattle.area.specs.Sizes.{size-hashes}
 use Rattle.broadcast.specs.BroadcastLaws.{echo-checks}
 use Rattle.broadcast.proofs.check.Goals as goal
+use Rattle.broadcast.proofs.check.Goals.{After-check_echoes}
 
-pub section-requires : goal.section-requires
-section-requires c = search rules
+pub check_echoes-requires : goal.check_echoes-requires
+check_echoes-requires c = record {
+  n_bound = (
+    c.requires.work.ranges.range.eight,
+    ap length c.section.ensures ∙ length_at c.requires.work HASHES (omega arith) ∙ size-hashes c.args.f,
+  );
+  received = c.requires.received;
+}
 
-pub check_echoes-e-requires : goal.check_echoes-e-requires
-check_echoes-e-requires c =
-    record { n_bound = (c.requires.work.ranges.range.eight, ap length c.section.ensures ∙ length_at c.requires.work HASHES (omega arith) ∙ size-hashes c.args.f); received = c.requires.received }
+-- the refusal is passed on as it is
+passed-on : (v : Result ⊤ Refusal) (r : Refusal) (e : Fault) → IsErrAnd v (λ x. x ≡ r) → Finds (Err r) e → Finds v e
+passed-on (Ok _) r e h q = absurd h
+passed-on (Err x) r e h q = rw h q
 
-pub returns-then-e-ne0 : goal.returns-then-e-ne0
-returns-then-e-ne0 c =
-    let m = letter c.args.incoming.now c.args.mail in
-    let h = subst (λ (x : List ℕ). Finds c.check_echoes-e.result.code c.check_echoes-e.result.party (by_party c.args.f (echo_faults c.args.f.n c.args.f.i x m))) c.section.ensures c.check_echoes-e.ensures in
-    subst (Finds c.check_echoes-e.result.code c.check_echoes-e.result.party) (sym (echo-checks c.args.f m c.args.k c.args.work.now))
-    (finds-one _ _ _ (pending table c.args.k c.args.f c.args.work.now) h c.if-e-ne0.true)
+-- what the echoes of the kept hashes say
+echoes : (c : After-check_echoes) → Finds c.check_echoes.result
+    (by_party c.args.f (echo_faults c.args.f.n c.args.f.i (at c.args.f HASHES c.args.work.now) (letter c.args.incoming.now c.args.mail)))
+echoes c = rw (sym c.section.ensures) c.check_echoes.ensures
 
-pub pending-requires : goal.pending-requires
-pending-requires c = search rules
+pub returns-in_err-check_echoes : goal.returns-in_err-check_echoes
+returns-in_err-check_echoes c =
+    let r = c.in_err-check_echoes.field-0.0 in
+    let h = echoes (goal.at.returns-in_err-check_echoes c).After-check_echoes in
+    rw (echo-checks c.args.f (letter c.args.incoming.now c.args.mail) c.args.k c.args.work.now)
+    (passed-on c.from_residual.result r _ c.from_residual.ensures.1
+    (finds-one r _ (pending table c.args.k c.args.f c.args.work.now) (rw c.in_err-check_echoes.was at h)))
 
 pub returns : goal.returns
 returns c =
-    let m = letter c.args.incoming.now c.args.mail in
-    let h = subst (λ (x : List ℕ). Finds c.check_echoes-e.result.code c.check_echoes-e.result.party (by_party c.args.f (echo_faults c.args.f.n c.args.f.i x m))) c.section.ensures c.check_echoes-e.ensures in
-    subst (Finds c.pending.result.code c.pending.result.party) (sym (echo-checks c.args.f m c.args.k c.args.work.now))
-    (finds-two _ _ _ (pending table c.args.k c.args.f c.args.work.now) (sym h.code_is ∙ c.if-e-ne0.false) c.pending.ensures)
+    let h = echoes (goal.at.returns c).After-check_echoes in
+    rw (echo-checks c.args.f (letter c.args.incoming.now c.args.mail) c.args.k c.args.work.now)
+    (finds-two c.pending.result _ (pending table c.args.k c.args.f c.args.work.now) (rw c.in_ok-check_echoes.was at h) c.pending.ensures)
