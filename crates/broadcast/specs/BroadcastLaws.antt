@@ -91,7 +91,8 @@ module _ (k code : ℕ) where
   pub faults-three : (a c d e : ℕ) → faults a ≡ c ∷ d ∷ e ∷ [] → k ≡ a → ((eqb code c || eqb code d) || eqb code e) ≡ mem code (faults k)
   faults-three a c d e h q = mem-three code c d e ∙ sym (ap (mem code) (ap faults q ∙ h))
 
-  pub faults-none : k ≢ RNG_VER → k ≢ PAIR_VER → k ≢ FABITN → k ≢ FASHARE_VER → k ≢ FASHARE_DIBI → k ≢ FLAAND_HASH → k ≢ DVALUE → k ≢ FAAND
+  pub faults-none : k ≢ RNG_VER → k ≢ PAIR_VER → k ≢ FABITN → k ≢ FASHARE_VER → k ≢ FASHARE_DIBI → k ≢ FLAAND_HASH → k ≢ DVALUE → k ≢
+      FAAND
       → false ≡ mem code (faults k)
   unfolding faults mem
   faults-none h3 h5 h6 h10 h12 h19 h21 h22 =
@@ -107,7 +108,8 @@ module _ (k code : ℕ) where
       ) refl
 
 -- the two bytes, and whether they are a fault
-module _ (f : Frame) (k : ℕ) (w x : List ℕ) (b : Bool) (one : 1 ≤ k) (x-is : x ≡ at f PENDING w) (b-is : b ≡ mem (get_or x 0 0) (faults (k - 1))) where
+module _ (f : Frame) (k : ℕ) (w x : List ℕ) (b : Bool) (one : 1 ≤ k) (x-is : x ≡ at f PENDING w)
+    (b-is : b ≡ mem (get_or x 0 0) (faults (k - 1))) where
   kept : Bool → Fault
   kept t = pick t (record { code = get_or x 0 0; party = get_or x 1 0 }) none?
 
@@ -128,7 +130,8 @@ module _ (f : Frame) (k : ℕ) (w x : List ℕ) (b : Bool) (one : 1 ≤ k) (x-is
   pub finds-pending : (r : Reason) → number r ≡ get_or x 0 0 → (b && ltb (get_or x 1 0) f.n) ≡ true
       → Finds (Err (record { reason = r; party = get_or x 1 0 })) (pending table k f w)
   unfolding kept
-  finds-pending r n-is e = (n-is ∙ sym (ap (λ (y : Fault). y.code) (pending-is true e)), sym (ap (λ (y : Fault). y.party) (pending-is true e)))
+  finds-pending r n-is e =
+      (n-is ∙ sym (ap (λ (y : Fault). y.code) (pending-is true e)), sym (ap (λ (y : Fault). y.party) (pending-is true e)))
 
   pub finds-nothing : (b && ltb (get_or x 1 0) f.n) ≡ false → Finds (Ok tt) (pending table k f w)
   unfolding kept

@@ -1,5 +1,5 @@
 -- Laws of the echoes: what a call has made sure of, the hash of a list as a Block, an echo's entries and its length, the fault of an entry.
-use Rattle.std.specs.Prelude.{◌≡◌, ◌≢◌, ◌⊎◌, Bool, ◌&&◌, ◌||◌, List, [], ◌∷◌, ◌++◌, get_or, take, drop, replicate, ltb, eqb}
+use Rattle.std.specs.Prelude.{◌≡◌, ◌≢◌, ◌⊎◌, Bool, ◌&&◌, ◌||◌, List, [], ◌∷◌, ◌++◌, get_or, take, drop, ltb, eqb}
 use Rattle.std.proofs.Math.Path.{refl, sym, ap}
 use Rattle.std.proofs.Common.{◌∙◌, inl, inr, le_refl, add-one, length-take}
 use Rattle.std.proofs.Math.Bool.{true, false}
@@ -10,12 +10,12 @@ use borrow.Author.Tests.{ltb-true, ltb-false, lt-ltb, le-ltb, eq-eqb, ne_eqb}
 use Rattle.lists.specs.Pick.{pick}
 use Rattle.lists.specs.Bytes.{Bytes}
 use Rattle.lists.specs.Over.{cat}
-use Rattle.lists.specs.Rows.{chunk, length-chunk, cat-inside, cat-ext}
+use Rattle.lists.specs.Rows.{chunk, length-chunk, cat-inside}
 use Rattle.lists.specs.Same.{same?, same_true, same_false}
 use Rattle.algebra.specs.Sum.{neq, Same, same, apart, apart?}
 use Rattle.block.specs.declared.Block.{Block}
-use Rattle.block.specs.Block.{block_at, le8, bytes_of, eq_block, zero_of}
-use Rattle.block.specs.Group.{blocks, block-eq, block-ne}
+use Rattle.block.specs.Block.{block_at, bytes_of, eq_block}
+use Rattle.block.specs.Group.{block-eq, block-ne}
 use Rattle.block.specs.Trip.{bytes_of-at, block-part}
 use Rattle.blake3.specs.Tree.{hash, bytes, digest}
 use Rattle.blake3.specs.Firsts.{firsts}
@@ -28,9 +28,8 @@ use Rattle.encode.specs.Encode.{none_item, some_item}
 use Rattle.plan.specs.Plan as Plan
 use Rattle.plan.specs.Plan.{kind_of, count_due, msg_len}
 use Rattle.engine.specs.declared.Frame.{Frame}
-use Rattle.engine.specs.Step.{frame, scan}
-use Rattle.engine.specs.StepLaws.{other-neq, scan-first}
-use Rattle.engine.specs.Plain.{rows_of}
+use Rattle.engine.specs.Step.{scan}
+use Rattle.engine.specs.StepLaws.{scan-first}
 use Rattle.rounds.specs.Mail.{Mail, letter, Arrived}
 use Rattle.rounds.specs.Echo.{hash_vec, entry_fault, echo_fault}
 

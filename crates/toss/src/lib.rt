@@ -39,15 +39,6 @@ pub fn commitment(seed: &[u8], j: usize) -> Digest
 
 // ---- messages
 
-// A message with the commitment of party j to a seed.
-fn put_commitment(out: &mut [u8], seed: &[u8], j: usize)
-    requires { (length out.old ≡ 40) × (length seed.now ≡ 32) }
-    ensures { out.new ≡ Toss.comm_msg seed.now j }
-{
-    encode::put_count(&mut out[0..COUNT], 1);
-    commitment(seed, j).store(&mut out[COUNT..MSG]);
-}
-
 // The own seed for party k.
 pub fn seed_for(pairs: &[u8], k: usize) -> &[u8]
     requires { k * 32 + 32 ≤ length pairs.now }
@@ -58,17 +49,32 @@ pub fn seed_for(pairs: &[u8], k: usize) -> &[u8]
     &pairs[from..to]
 }
 
+// The message to party k: the commitment to the seed for it.
+fn put_commitment(out: &mut [u8], pairs: &[u8], f: Frame, k: usize)
+    requires { (length out.old ≡ 40) × (k < f.n) × (length pairs.now ≡ 32 * f.n) }
+    ensures { out.new ≡ Toss.comm_msg (chunk 32 k pairs.now) f.i }
+{
+    encode::put_count(&mut out[0..COUNT], 1);
+    commitment(seed_for(pairs, k), f.i).store(&mut out[COUNT..MSG]);
+}
+
+// The message to party k: the seed for it.
+fn put_seed(out: &mut [u8], pairs: &[u8], f: Frame, k: usize)
+    requires { (length out.old ≡ 40) × (k < f.n) × (length pairs.now ≡ 32 * f.n) }
+    ensures { out.new ≡ Toss.ver_msg (chunk 32 k pairs.now) }
+{
+    encode::put_bytes(out, seed_for(pairs, k));
+}
+
 // Round 1: the commitment to the own seed, the same for all others. It is hashed once.
 pub fn write_commitments(out: &mut [u8], work: &[u8], f: Frame)
     requires work { Work f work.now }
     requires out_len { length out.old ≡ (f.n - 1) * msg_len f.n f.l RNG_COMM }
     ensures { out.new ≡ to_others f.n f.i (λ _. Toss.comm_msg (at f Area.SEED work.now) f.i) }
 {
-    let n = f.n;
-    let i = f.i;
     let mut b = [0u8; SEED];
-    commitment(area::section(work, f, area::SEED), i).store(&mut b);
-    rounds::write_same(out, 1, &b, n);
+    commitment(area::section(work, f, area::SEED), f.i).store(&mut b);
+    rounds::write_same(out, 1, &b, f.n);
 }
 
 // Round 3: the own seed, to all others.
@@ -77,9 +83,8 @@ pub fn write_seed(out: &mut [u8], work: &[u8], f: Frame)
     requires out_len { length out.old ≡ (f.n - 1) * msg_len f.n f.l RNG_VER }
     ensures { out.new ≡ to_others f.n f.i (λ _. Toss.ver_msg (at f Area.SEED work.now)) }
 {
-    let n = f.n;
     let seed = area::section(work, f, area::SEED);
-    rounds::write_same(out, seed.len(), seed, n);
+    rounds::write_same(out, seed.len(), seed, f.n);
 }
 
 // Round 4: to each other party, the commitment to the seed for it.
@@ -88,15 +93,8 @@ pub fn write_pair_commitments(out: &mut [u8], work: &[u8], f: Frame)
     requires out_len { length out.old ≡ (f.n - 1) * msg_len f.n f.l PAIR_COMM }
     ensures { out.new ≡ to_others f.n f.i (λ r. Toss.comm_msg (chunk 32 r (at f PAIRS work.now)) f.i) }
 {
-    let n = f.n;
-    let i = f.i;
     let pairs = area::section(work, f, area::PAIRS);
-    let last = n - 1;
-    for q in 0..last {
-        let a = q * MSG;
-        let e = a + MSG;
-        put_commitment(&mut out[a..e], seed_for(pairs, plan::other(i, q)), i);
-    }
+    rounds::to_others(out, f, MSG, |row, r| put_commitment(row, pairs, f, r));
 }
 
 // Round 5: to each other party, the seed for it.
@@ -105,19 +103,6 @@ pub fn write_pair_seeds(out: &mut [u8], work: &[u8], f: Frame)
     requires out_len { length out.old ≡ (f.n - 1) * msg_len f.n f.l PAIR_VER }
     ensures { out.new ≡ to_others f.n f.i (λ r. Toss.ver_msg (chunk 32 r (at f PAIRS work.now))) }
 {
-    let n = f.n;
-    let i = f.i;
     let pairs = area::section(work, f, area::PAIRS);
-    let last = n - 1;
-    for q in 0..last {
-        let a = q * MSG;
-        let e = a + MSG;
-        encode::put_bytes(&mut out[a..e], seed_for(pairs, plan::other(i, q)));
-    }
+    rounds::to_others(out, f, MSG, |row, r| put_seed(row, pairs, f, r));
 }
-
-// ---- what the others told
-
-// ---- the seeds opened
-
-// ---- the rounds

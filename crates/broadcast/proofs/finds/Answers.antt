@@ -18,7 +18,8 @@ seeds k code (inr e) = faults-one k code PAIR_VER 2 refl e
 
 pub returns-in-3 : goal.returns-in-3
 returns-in-3 c =
-    is-reason c.args.reason V.CommitmentCouldNotBeOpened c.eq-unopened.result c.eq-unopened.ensures ∙ seeds c.args.k (number c.args.reason) c.in-3.is
+    is-reason c.args.reason V.CommitmentCouldNotBeOpened c.eq-unopened.result c.eq-unopened.ensures
+    ∙ seeds c.args.k (number c.args.reason) c.in-3.is
 
 pub returns-in-6 : goal.returns-in-6
 unfolding faults

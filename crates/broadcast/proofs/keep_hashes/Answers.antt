@@ -11,7 +11,14 @@ slice_bounds-keep_hashes-end c = place_in c.requires.work HASHES _ _ (omega arit
 
 pub keep_hashes-requires : goal.keep_hashes-requires
 keep_hashes-requires c =
-    record { n_bound = (c.requires.work.ranges.range.eight, place-length c.requires.work HASHES _ _ _ (omega arith) c.place-p.ensures (size-hashes c.args.f)); received = c.requires.received }
+    record {
+      n_bound = (
+        c.requires.work.ranges.range.eight,
+        place-length c.requires.work HASHES _ _ _ (omega arith) c.place-p.ensures (size-hashes c.args.f),
+      );
+      received =
+          c.requires.received;
+    }
 
 pub returns : goal.returns
 returns c =

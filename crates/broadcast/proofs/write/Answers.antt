@@ -12,7 +12,11 @@ section-requires c = search rules
 
 pub write_echoes-requires : goal.write_echoes-requires
 write_echoes-requires c =
-    record { le_n = (c.requires.work.ranges.range.two, (c.requires.work.ranges.range.eight, c.requires.work.ranges.own)); out_len = (c.requires.out_len, ap length c.section.ensures ∙ length_at c.requires.work HASHES (omega arith) ∙ size-hashes c.args.f) }
+    record {
+      le_n = (c.requires.work.ranges.range.two, (c.requires.work.ranges.range.eight, c.requires.work.ranges.own));
+      out_len =
+          (c.requires.out_len, ap length c.section.ensures ∙ length_at c.requires.work HASHES (omega arith) ∙ size-hashes c.args.f);
+    }
 
 pub shape_of-out : goal.shape_of-out
 shape_of-out c = search rules

@@ -10,6 +10,7 @@ letter-requires c =
 
 pub check_echo-requires : goal.check_echo-requires
 check_echo-requires c = record {
-  m_value = ap (form_of Options c.args.f.n) c.letter.ensures ∙ c.requires.received.formed-is c.args.j c.requires.n_bound.1 c.requires.n_bound.2;
+  m_value = ap (form_of Options c.args.f.n) c.letter.ensures
+      ∙ c.requires.received.formed-is c.args.j c.requires.n_bound.1 c.requires.n_bound.2;
   n_bound = (c.requires.n_bound.0, c.requires.n_bound.3);
 }

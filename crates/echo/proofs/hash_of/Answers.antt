@@ -17,5 +17,6 @@ hash_list-requires c =
     omega (
       arith,
       ap length c.letter.ensures,
-      (decoded K m (formed K (count_due c.args.f.n c.args.f.l c.args.k) m (c.requires.received.formed-is c.args.j c.requires.j_lt_n.0 c.requires.j_lt_n.1)).decodes-is).head,
+      (decoded K m (formed K (count_due c.args.f.n c.args.f.l c.args.k) m
+          (c.requires.received.formed-is c.args.j c.requires.j_lt_n.0 c.requires.j_lt_n.1)).decodes-is).head,
     )

@@ -14,10 +14,12 @@ put c = copied (replicate 32 0) c.args.seed.now _ (sym c.requires) c.copy.ensure
 
 pub slice_bounds-digest_of-end : goal.slice_bounds-digest_of-end
 slice_bounds-digest_of-end c =
-    sym (length-numbered c.args.seed.now c.copy.new.out (c.args.j / 256 % 256) (c.args.j % 256) c.requires (put (goal.at.slice_bounds-digest_of-end c).After-copy))
+    sym (length-numbered c.args.seed.now c.copy.new.out (c.args.j / 256 % 256) (c.args.j % 256) c.requires
+    (put (goal.at.slice_bounds-digest_of-end c).After-copy))
 
 pub returns : goal.returns
 unfolding Toss.commitment hash
 returns c =
     ap bytes (c.digest_of.ensures
-    ∙ ap digest (numbered c.args.seed.now c.copy.new.out (c.args.j / 256 % 256) (c.args.j % 256) c.requires (put (goal.at.returns c).After-copy)))
+    ∙ ap digest (numbered c.args.seed.now c.copy.new.out (c.args.j / 256 % 256) (c.args.j % 256) c.requires
+    (put (goal.at.returns c).After-copy)))

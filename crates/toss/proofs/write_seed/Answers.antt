@@ -16,12 +16,16 @@ long c =
 
 pub write_same-requires : goal.write_same-requires
 unfolding msg_len list_len count_due kind_of
-write_same-requires c =
-    (c.requires.work.ranges.range.two, c.requires.out_len ∙ ap (λ t. (c.args.f.n - 1) * (8 + t)) (sym (long (goal.at.write_same-requires c).After-section-seed)))
+write_same-requires c = (
+  c.requires.work.ranges.range.two,
+  c.requires.out_len
+      ∙ ap (λ t. (c.args.f.n - 1) * (8 + t)) (sym (long (goal.at.write_same-requires c).After-section-seed)),
+)
 
 pub returns : goal.returns
 unfolding dm_item
 returns c =
     rw (← c.section-seed.ensures)
     (c.write_same.ensures c.args.f.i
-    ∙ ap (λ (x : List ℕ). to_others c.args.f.n c.args.f.i (λ _. x)) (ver-put c.section-seed.result.now _ refl (long (goal.at.returns c).After-section-seed)))
+    ∙ ap (λ (x : List ℕ). to_others c.args.f.n c.args.f.i (λ _. x))
+    (ver-put c.section-seed.result.now _ refl (long (goal.at.returns c).After-section-seed)))
