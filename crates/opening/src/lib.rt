@@ -26,11 +26,12 @@ fn keep_all(out: &mut [u8], x: &[u8], n: usize, i: usize, count: usize)
 {
     let kept = share::record_len(n);
     let lent = share::lent_len(n);
-    for t in 0..count {
-        let a = t * kept;
-        let e = a + kept;
-        share::keep_record(&mut out[a..e], x, t * lent, n, i);
-    }
+    lists::write_rows(
+        out,
+        count,
+        kept,
+        |row, t| share::keep_record(row, x, t * lent, n, i),
+    );
 }
 
 // x as section s of the work area.
@@ -58,7 +59,7 @@ fn clear_rest(work: &mut [u8], f: Frame)
     ensures { work.new ≡ cleared f work.old }
 {
     let a = area::section_at(f, EMPTY);
-    fill::clear(&mut work[a..]);
+    work[a..].fill(0);
 }
 
 // Delta, the seeds and the masks.
@@ -148,7 +149,11 @@ pub fn open(
         work: work.len(),
         out: out.len(),
     };
-    let f = Frame { n, i, l: batches::sum(counts) };
+    let f = Frame {
+        n,
+        i,
+        l: batches::sum(counts),
+    };
     if let Err(reason) = inputs::check(f, batches::fault(counts), v, bits, alpha, beta, masks) {
         return engine::silent(no_session(n, i), Err(Refusal { reason, party: i }));
     }

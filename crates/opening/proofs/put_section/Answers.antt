@@ -1,4 +1,3 @@
-use Rattle.std.specs.Prelude.{◌-◌}
 use Rattle.lists.specs.Kit.{sym, ap, ◌∙◌, List, ℕ}
 use Rattle.rounds.specs.Area.{keep}
 use Rattle.area.specs.GivenLaws.{place_in, place-length, place-keeps}
