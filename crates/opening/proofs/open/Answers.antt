@@ -21,7 +21,6 @@ check-requires c =
       bits_value = search rules;
     }
 
--- what is found is the definition's, whatever the code has as the sum of too many counts
 pub returns-in-Err : goal.returns-in-Err
 unfolding reply_of
 returns-in-Err c =
@@ -38,6 +37,7 @@ abbrev a : In_default → Args
 a c = args c.args.n c.args.i c.args.counts.now c.args.delta.now c.args.seed.now c.args.pairs.now c.args.bits.now c.args.alpha.now
     c.args.beta.now c.args.masks.now c.args.work.now c.args.out.now
 
+-- what is found is the definition's, whatever the code has as the sum of too many counts
 found-is : (c : In_default) → code_of c.check.result ≡ found (a c)
 found-is c =
     c.check.ensures
