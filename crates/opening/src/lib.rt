@@ -12,8 +12,7 @@ ghost use Rattle.rounds.specs.Opening as Opening;
 ghost use Rattle.area.specs.Given.{Work};
 ghost use Rattle.inputs.specs.Given.{args, cleared, with_seeds, with_lists, Seeds, Lists};
 
-use batches::Counts;
-use engine::{Answer, Frame, Session, Verdict};
+use engine::{Answer, Frame, Refusal, Session};
 use inputs::Lens;
 
 // The first section that holds no input.
@@ -27,11 +26,12 @@ fn keep_all(out: &mut [u8], x: &[u8], n: usize, i: usize, count: usize)
 {
     let kept = share::record_len(n);
     let lent = share::lent_len(n);
-    for t in 0..count {
-        let a = t * kept;
-        let e = a + kept;
-        share::keep_record(&mut out[a..e], x, t * lent, n, i);
-    }
+    lists::write_rows(
+        out,
+        count,
+        kept,
+        |row, t| share::keep_record(row, x, t * lent, n, i),
+    );
 }
 
 // x as section s of the work area.
@@ -40,9 +40,7 @@ fn put_section(work: &mut [u8], x: &[u8], f: Frame, s: usize)
     ensures { work.new ≡ keep f s x.now work.old }
 {
     let p = area::place(f, s);
-    let a = p.0;
-    let e = p.1;
-    fill::copy(&mut work[a..e], x);
+    work[p.0..p.1].copy_from_slice(x);
 }
 
 // As section s of the work area what is kept of the `count` records x.
@@ -52,9 +50,7 @@ fn put_records(work: &mut [u8], x: &[u8], f: Frame, s: usize, count: usize)
     ensures { work.new ≡ keep f s (kept_of f.n f.i count x.now) work.old }
 {
     let p = area::place(f, s);
-    let a = p.0;
-    let e = p.1;
-    keep_all(&mut work[a..e], x, f.n, f.i, count);
+    keep_all(&mut work[p.0..p.1], x, f.n, f.i, count);
 }
 
 // Zeros from the first section on that is no input.
@@ -63,7 +59,7 @@ fn clear_rest(work: &mut [u8], f: Frame)
     ensures { work.new ≡ cleared f work.old }
 {
     let a = area::section_at(f, EMPTY);
-    fill::clear(&mut work[a..]);
+    work[a..].fill(0);
 }
 
 // Delta, the seeds and the masks.
@@ -115,12 +111,10 @@ fn fill(
 fn no_session(n: usize, i: usize) -> Session
     ensures { result ≡ no_session n i }
 {
-    let f = Frame { n: n, i: i, l: 0 };
-    let counts: Counts = [0; batches::MOST];
     Session {
-        party: f,
+        party: Frame { n, i, l: 0 },
         due: 0,
-        counts: counts,
+        counts: [0; batches::MOST],
     }
 }
 
@@ -155,19 +149,20 @@ pub fn open(
         work: work.len(),
         out: out.len(),
     };
-    let l = batches::sum(counts);
-    let f = Frame { n: n, i: i, l: l };
-    let code = inputs::reason(f, batches::fault(counts), v, bits, alpha, beta, masks);
-    if code != 0 {
-        return engine::silent(no_session(n, i), Verdict::Refused(code, i));
+    let f = Frame {
+        n,
+        i,
+        l: batches::sum(counts),
+    };
+    if let Err(reason) = inputs::check(f, batches::fault(counts), v, bits, alpha, beta, masks) {
+        return engine::silent(no_session(n, i), Err(Refusal { reason, party: i }));
     }
     fill(work, delta, seed, pairs, bits, alpha, beta, masks, f);
     toss::write_commitments(out, work, f);
-    let kept = batches::kept(counts);
     let opened = Session {
         party: f,
         due: 1,
-        counts: kept,
+        counts: batches::kept(counts),
     };
-    engine::silent(opened, Verdict::Accepted)
+    engine::silent(opened, Ok(()))
 }
