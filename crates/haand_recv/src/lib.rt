@@ -19,6 +19,7 @@ ghost use Rattle.haand_recv.specs.Received as Got;
 
 use area::Z_LEN;
 use blake3_lanes::LANES;
+use block::Block;
 use engine::Frame;
 use haand_hash::{HASHES_LEN, Hashes};
 use rounds::Mail;
@@ -65,16 +66,22 @@ fn told(recs: &[u8], masks: &[u8], incoming: &[u8], mail: Mail, f: Frame, t: usi
     v ^ (x & y)
 }
 
-// The sums of G and of H over all other parties, from the hashes of a position.
+// The sums of G and of H over all other parties, from the hashes of a position: in one loop, so that each hash is looked at once.
 fn sums(hashes: &[u8], f: Frame) -> Hashes
     requires { (f.i < f.n) × (length hashes.now ≡ (f.n - 1) * 32) }
     ensures { (result.0 ≡ others blocks f.i f.n (g_at f.i hashes.now))
         × (result.1 ≡ others bits f.i f.n (h_at f.i hashes.now)) }
 {
-    Hashes(
-        algebra::sum_others(f.i, f.n, |k| haand_hash::hash_by(hashes, f, k).0),
-        algebra::sum_others(f.i, f.n, |k| haand_hash::hash_by(hashes, f, k).1),
-    )
+    let mut g = Block::zero();
+    let mut h = false;
+    for k in 0..f.n {
+        if k != f.i {
+            let a = haand_hash::hash_by(hashes, f, k);
+            g = g.xor(a.0);
+            h ^= a.1;
+        }
+    }
+    Hashes(g, h)
 }
 
 // The rows of the m positions from t on, from the hashes of their window.

@@ -27,17 +27,25 @@ long c t m = length-cat m 17 (λ q. (R.z_row (c.args.f) (at (c.args.f) MASKS c.a
     c.args.work.now) (letter c.args.incoming.now c.args.mail) (t + q))
 
 pub loop-t-init : goal.loop-t-init
-loop-t-init c =
-    (omega arith, refl, keeping_none (size_of (c.args.f)) SECTIONS ZS (omega arith) c.args.work.now (area c.requires.work) (R.z_row
-    (c.args.f) (at (c.args.f) MASKS c.args.work.now) (at (c.args.f) BITS c.args.work.now) (letter c.args.incoming.now c.args.mail)))
+loop-t-init c = (
+  omega arith,
+  refl,
+  keeping_none (size_of (c.args.f)) SECTIONS ZS (omega arith) c.args.work.now (area c.requires.work) (R.z_row
+      (c.args.f) (at (c.args.f) MASKS c.args.work.now) (at (c.args.f) BITS c.args.work.now) (letter c.args.incoming.now c.args.mail)),
+)
 
 pub overflow_sub-count : goal.overflow_sub-count
 overflow_sub-count c = omega (arith, c.loop-t.invariant.0, c.leaky-count.ensures)
 
 pub window-m-requires : goal.window-m-requires
 window-m-requires c =
-    record { le_n = (c.requires.work.ranges.range.two, (c.requires.work.ranges.range.eight, omega arith)); left_nonzero = omega (arith,
-    c.loop-t-test.true) }
+    record {
+      le_n = (c.requires.work.ranges.range.two, (c.requires.work.ranges.range.eight, omega arith));
+      left_nonzero = omega (
+        arith,
+        c.loop-t-test.true,
+      );
+    }
 
 -- ---- in a turn
 
@@ -89,16 +97,19 @@ put_window-requires c =
         record {
           ranges = c.requires.work.ranges;
           records = lent_length c.requires.work BITS _ _ (omega arith) (size-bits (c.args.f)) (lent_is (goal.at.put_window-requires
-          c).After-window-m BITS _ _ (λ p. omega arith) (bits (goal.at.put_window-requires c).After-window-m));
+              c).After-window-m BITS _ _ (λ p. omega arith) (bits (goal.at.put_window-requires c).After-window-m));
           below = some (goal.at.put_window-requires c).After-window-m;
         },
         c.window-m.ensures.2,
-        length-take-le ((c.window-m.result) * 17 - 0) c.loop-t.made (omega (arith, few (goal.at.put_window-requires c).After-window-m,
-        c.loop-t.invariant.1))
+        length-take-le ((c.window-m.result) * 17 - 0) c.loop-t.made (omega (
+          arith,
+          few (goal.at.put_window-requires c).After-window-m,
+          c.loop-t.invariant.1,
+        ))
             ∙ (omega arith),
       );
       masks_len = lent_length c.requires.work MASKS _ _ (omega arith) (size-masks (c.args.f)) (lent_is (goal.at.put_window-requires
-      c).After-window-m MASKS _ _ (λ p. omega arith) (masks (goal.at.put_window-requires c).After-window-m));
+          c).After-window-m MASKS _ _ (λ p. omega arith) (masks (goal.at.put_window-requires c).After-window-m));
       arrived = c.requires.arrived;
     }
 
@@ -150,8 +161,8 @@ loop-t-preserved c =
       some (goal.at.loop-t-preserved c).After-window-m,
       still (goal.at.loop-t-preserved c).After-put_window,
       keeping-more (size_of (c.args.f)) SECTIONS ZS (omega arith) c.args.work.now (area c.requires.work) (R.z_row (c.args.f) (at
-      (c.args.f) MASKS c.args.work.now) (at (c.args.f) BITS c.args.work.now) (letter c.args.incoming.now c.args.mail)) (c.loop-t.t)
-      (c.window-m.result) ((c.loop-t.t) * 17) ((c.window-m.result) * 17) p
+          (c.args.f) MASKS c.args.work.now) (at (c.args.f) BITS c.args.work.now) (letter c.args.incoming.now c.args.mail)) (c.loop-t.t)
+          (c.window-m.result) ((c.loop-t.t) * 17) ((c.window-m.result) * 17) p
           (p + (c.window-m.result) * 17) (((c.loop-t.t) + (c.window-m.result)) * 17)
           (c.loop-t.work) c.copy_from_slice.new.self c.loop-t.invariant.2
           (window-copied _ ((c.window-m.result) * 17) c.copy_from_slice.new.self c.put_window.new.out _ (cat (c.window-m.result) (λ q.
@@ -207,8 +218,12 @@ pub slice_bounds-copy_from_slice-end : goal.slice_bounds-copy_from_slice-end
 slice_bounds-copy_from_slice-end c = rows_in (goal.at.slice_bounds-copy_from_slice-end c).After-window-m
 
 pub slice_bounds-copy_from_slice-end-in-loop-t : goal.slice_bounds-copy_from_slice-end-in-loop-t
-slice_bounds-copy_from_slice-end-in-loop-t c = omega (arith, still (goal.at.slice_bounds-copy_from_slice-end-in-loop-t
-    c).After-put_window, few (goal.at.slice_bounds-copy_from_slice-end-in-loop-t c).After-window-m)
+slice_bounds-copy_from_slice-end-in-loop-t c = omega (
+  arith,
+  still (goal.at.slice_bounds-copy_from_slice-end-in-loop-t
+      c).After-put_window,
+  few (goal.at.slice_bounds-copy_from_slice-end-in-loop-t c).After-window-m,
+)
 
 pub overflow_add-t : goal.overflow_add-t
 overflow_add-t c = omega (arith, some (goal.at.overflow_add-t c).After-window-m)

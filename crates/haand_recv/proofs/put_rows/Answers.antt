@@ -24,8 +24,12 @@ loop-p-init c = written-zero (λ p. R.z_row (c.args.f) c.args.masks.now c.args.r
 -- ---- in a turn
 
 hash-in : (c : In-loop-p) → (c.loop-p.p) * ((c.args.f.n - 1) * 32) + ((c.args.f.n - 1) * 32) ≤ length c.args.hashes.now
-hash-in c = omega (arith, in-chunks (c.loop-p.p) c.args.m ((c.args.f.n - 1) * 32) c.loop-p-test.true, c.requires.positions.1,
-    c.requires.hashed.long)
+hash-in c = omega (
+  arith,
+  in-chunks (c.loop-p.p) c.args.m ((c.args.f.n - 1) * 32) c.loop-p-test.true,
+  c.requires.positions.1,
+  c.requires.hashed.long,
+)
 
 row_in : (c : In-loop-p) → (c.loop-p.p) * 17 + 17 ≤ length c.loop-p.out
 row_in c = omega (arith, c.loop-p-test.true, c.loop-p.invariant.same, c.requires.positions.2)
@@ -51,8 +55,12 @@ sums-s-requires c = (
 )
 
 pub told-z-requires : goal.told-z-requires
-told-z-requires c = record { asked = asked (goal.at.told-z-requires c).In-loop-p; masks_len = c.requires.masks_len; arrived =
-    c.requires.arrived }
+told-z-requires c = record {
+  asked = asked (goal.at.told-z-requires c).In-loop-p;
+  masks_len = c.requires.masks_len;
+  arrived =
+      c.requires.arrived;
+}
 
 pub loop-p-preserved : goal.loop-p-preserved
 loop-p-preserved c =
@@ -64,8 +72,11 @@ loop-p-preserved c =
     c.sums-s.ensures.0
     ∙ z-row-is (c.args.f) c.args.masks.now c.args.recs.now (letter c.args.incoming.now c.args.mail) (c.args.t + (c.loop-p.p)) _
     c.requires.positions.0.ranges.own (lent (goal.at.loop-p-preserved c).In-loop-p))
-    (omega (arith, length-z_row (c.args.f) c.args.masks.now c.args.recs.now (letter c.args.incoming.now c.args.mail) (c.args.t +
-    (c.loop-p.p))))
+    (omega (
+      arith,
+      length-z_row (c.args.f) c.args.masks.now c.args.recs.now (letter c.args.incoming.now c.args.mail) (c.args.t +
+          (c.loop-p.p)),
+    ))
     (omega (arith, row_in (goal.at.loop-p-preserved c).In-loop-p, c.loop-p.invariant.same)) (omega arith)
 
 pub shape_of-out : goal.shape_of-out
@@ -93,8 +104,12 @@ pub slice_bounds-sums-end : goal.slice_bounds-sums-end
 slice_bounds-sums-end c = hash-in (goal.at.slice_bounds-sums-end c).In-loop-p
 
 pub overflow_add-t : goal.overflow_add-t
-overflow_add-t c = omega (arith, (asked (goal.at.overflow_add-t c).In-loop-p).below, leaky-most c.args.f.l (asked (goal.at.overflow_add-t
-    c).In-loop-p).ranges.range.most)
+overflow_add-t c = omega (
+  arith,
+  (asked (goal.at.overflow_add-t c).In-loop-p).below,
+  leaky-most c.args.f.l (asked (goal.at.overflow_add-t
+      c).In-loop-p).ranges.range.most,
+)
 
 pub overflow_mul-x : goal.overflow_mul-x
 overflow_mul-x c = omega (arith, row_in (goal.at.overflow_mul-x c).In-loop-p)
