@@ -1,5 +1,6 @@
 use Rattle.std.specs.Prelude.{◌≤◌}
 use Rattle.lists.specs.Kit.{sym, ap, subst, ◌∙◌}
+use Rattle.refusals.specs.Reason.{number}
 use Rattle.engine.specs.declared.Session.{Session}
 use Rattle.engine.specs.Step.{Reply, reply_of, Outcome, round_spec}
 use Rattle.engine.specs.Plain.{protocol_of}
@@ -21,8 +22,8 @@ returns-then-told-ne-TOLD c =
     rounds-short c.args.session.now c.args.round
     (given c.args.incoming.now c.args.starts.now c.args.lens.now c.args.missing.now c.args.r.now
     c.args.out.now) c.args.work.now c.args.told.now c.if-session-ne-SESSION.false
-    c.if-told-ne-TOLD.true c.load-s.result c.load-s.ensures.0 c.packed-then-told-ne-TOLD.result c.told_reason.result c.told_reason.ensures
-    c.packed-then-told-ne-TOLD.ensures
+    c.if-told-ne-TOLD.true c.load-s.result c.load-s.ensures.0 c.packed-then-told-ne-TOLD.result (number c.told_reason.result)
+    c.told_reason.ensures c.packed-then-told-ne-TOLD.ensures
 
 pub store-requires : goal.store-requires
 store-requires c =
