@@ -47,7 +47,14 @@ fn check_sum(
 }
 
 // The first fault of string j, party by party.
-fn check_string(delta: Delta, sums: &[u8], incoming: &[u8], mail: Mail, f: Frame, j: usize) -> Verdict
+fn check_string(
+    delta: Delta,
+    sums: &[u8],
+    incoming: &[u8],
+    mail: Mail,
+    f: Frame,
+    j: usize,
+) -> Verdict
     requires j_bound { j < Fabitn.STRINGS }
     requires sums_len { length sums.now ≡ f.n * Fabitn.ROW }
     requires arrived { Arrived f Fabitn.MSG incoming.now mail }

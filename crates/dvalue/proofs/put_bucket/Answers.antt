@@ -21,7 +21,7 @@ put_dvalue_counts-requires c =
 
 pub loop-e-init : goal.loop-e-init
 loop-e-init c = (rw c.put_dvalue_counts.ensures
-      (filled-start c.later-due.result _ _ c.args.out.now (omega (arith, c.requires.j_lt_l.2, c.later-due.ensures))))
+    (filled-start c.later-due.result _ _ c.args.out.now (omega (arith, c.requires.j_lt_l.2, c.later-due.ensures))))
 
 -- a turn, where y of the next entry is known
 
@@ -62,11 +62,11 @@ loop-e-preserved c =
     let d : _ ≡ B.d c.args.f c.args.recs.now c.args.perm.now c.args.j c.loop-e.e =
     d-read c.args.f c.args.recs.now c.args.perm.now c.args.j c.loop-e.e c.y_at-y0.result c.y_at-y1.result c.y_at-y0.ensures
     c.y_at-y1.ensures in (rw (c.put_dvalue.ensures
-          ∙ ap₂ (λ (v : Bool) (x : Block). dvalue_in c.later-due.result c.loop-e.e v x c.loop-e.out)
-          (c.sum_bit-bit.ensures ∙ ap (λ (g : Share). g.bit) d) (c.sum_mac-mac.ensures
-          ∙ ap (λ (g : Share). g.mac c.args.k) d))
-          (filled-turn c.later-due.result (bits c.args.f c.args.recs.now c.args.perm.now c.args.j)
-          (macs c.args.f c.args.recs.now c.args.perm.now c.args.j c.args.k) c.loop-e.e c.loop-e.out c.loop-e-test.true c.loop-e.invariant))
+    ∙ ap₂ (λ (v : Bool) (x : Block). dvalue_in c.later-due.result c.loop-e.e v x c.loop-e.out)
+    (c.sum_bit-bit.ensures ∙ ap (λ (g : Share). g.bit) d) (c.sum_mac-mac.ensures
+    ∙ ap (λ (g : Share). g.mac c.args.k) d))
+    (filled-turn c.later-due.result (bits c.args.f c.args.recs.now c.args.perm.now c.args.j)
+    (macs c.args.f c.args.recs.now c.args.perm.now c.args.j c.args.k) c.loop-e.e c.loop-e.out c.loop-e-test.true c.loop-e.invariant))
 
 pub shape_of-out : goal.shape_of-out
 shape_of-out c =

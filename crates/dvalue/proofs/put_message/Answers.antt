@@ -67,8 +67,8 @@ put_bucket-requires c =
 
 pub loop-j-preserved : goal.loop-j-preserved
 loop-j-preserved c = (even-turn c.args.f.l (item c.args.f c.args.recs.now c.args.perm.now c.args.k) (c.bucket_len-size.result) (each (goal.at.loop-j-preserved c).After-slice_known-2-1) c.loop-j.j (8 + c.loop-j.j * (c.bucket_len-size.result) + (c.bucket_len-size.result)) (put_mid 0 8 c.args.out.now c.put_count.new.out) c.loop-j.out
-      c.put_bucket.new.out (long (goal.at.loop-j-preserved c).After-slice_known-2-1) c.loop-j-test.true
-      c.loop-j.invariant c.put_bucket.ensures refl)
+    c.put_bucket.new.out (long (goal.at.loop-j-preserved c).After-slice_known-2-1) c.loop-j-test.true
+    c.loop-j.invariant c.put_bucket.ensures refl)
 
 pub shape_of-out : goal.shape_of-out
 shape_of-out c = c.loop-j.invariant.same ∙ (counted (goal.at.shape_of-out c).After-slice_known-2-1).same

@@ -99,11 +99,11 @@ mac_holds-ok-requires c =
 
 pub loop-e-preserved : goal.loop-e-preserved
 loop-e-preserved c = (all_more (d_holds c.args.f c.args.delta.0 c.args.recs.now c.args.perm.now c.args.m.now c.args.k c.args.j) c.loop-e.e c.loop-e.ok _ c.loop-e.invariant
-      (d_holds_lem c.args.f c.args.delta.0 c.args.recs.now c.args.perm.now c.args.m.now c.args.k c.args.j c.loop-e.e c.y_at-first.result
-      c.y_at-next.result
-      (c.bucket_at-bits.result + 8 + c.loop-e.e) (c.bucket_at-bits.result + 8 + (c.later-due.result) + 8 + c.loop-e.e * 16) _ c.y_at-first.ensures
-      c.y_at-next.ensures
-      (omega (arith, c.bucket_at-bits.ensures)) (omega (arith, c.bucket_at-bits.ensures, c.later-due.ensures)) c.mac_holds-ok.ensures))
+    (d_holds_lem c.args.f c.args.delta.0 c.args.recs.now c.args.perm.now c.args.m.now c.args.k c.args.j c.loop-e.e c.y_at-first.result
+    c.y_at-next.result
+    (c.bucket_at-bits.result + 8 + c.loop-e.e) (c.bucket_at-bits.result + 8 + (c.later-due.result) + 8 + c.loop-e.e * 16) _ c.y_at-first.ensures
+    c.y_at-next.ensures
+    (omega (arith, c.bucket_at-bits.ensures)) (omega (arith, c.bucket_at-bits.ensures, c.later-due.ensures)) c.mac_holds-ok.ensures))
 
 pub returns : goal.returns
 unfolding bucket_holds

@@ -65,9 +65,9 @@ copy-requires c =
 
 pub loop-j-preserved : goal.loop-j-preserved
 loop-j-preserved c = (filled-turn c.requires.work DS (later (c.args.f)) (omega arith) (d_row (c.args.f) (at (c.args.f) BITS c.args.work.now) (at (c.args.f) PERM c.args.work.now) (letter c.args.incoming.now c.args.mail)) (c.args.f).l (full (goal.at.loop-j-preserved c).Start) (c.loop-j.j) (c.loop-j.work) c.loop-j.invariant (c.section_at-ds.result) (c.later-due.result)
-      c.section_at-ds.ensures c.later-due.ensures c.loop-j-test.true
-      c.ds_row-row.result (replicate (4 - later (c.args.f)) 0) c.copy.new.out (row_is (goal.at.loop-j-preserved c).After-ds_row-row)
-      (length-d_row (c.args.f) (at (c.args.f) BITS c.args.work.now) (at (c.args.f) PERM c.args.work.now) (letter c.args.incoming.now c.args.mail) (c.loop-j.j)) c.copy.ensures)
+    c.section_at-ds.ensures c.later-due.ensures c.loop-j-test.true
+    c.ds_row-row.result (replicate (4 - later (c.args.f)) 0) c.copy.new.out (row_is (goal.at.loop-j-preserved c).After-ds_row-row)
+    (length-d_row (c.args.f) (at (c.args.f) BITS c.args.work.now) (at (c.args.f) PERM c.args.work.now) (letter c.args.incoming.now c.args.mail) (c.loop-j.j)) c.copy.ensures)
 
 pub shape_of-work : goal.shape_of-work
 shape_of-work c = c.loop-j.invariant.same

@@ -13,7 +13,7 @@ bucket_holds-ok-requires c =
 
 pub loop-j-preserved : goal.loop-j-preserved
 loop-j-preserved c = (all_more (bucket_holds c.args.f c.args.delta.0 c.args.recs.now c.args.perm.now c.args.m.now c.args.k) c.loop-j.j c.loop-j.ok _ c.loop-j.invariant
-      c.bucket_holds-ok.ensures)
+    c.bucket_holds-ok.ensures)
 
 pub returns : goal.returns
 unfolding message_holds

@@ -18,10 +18,12 @@ d_opened-requires c =
 pub loop-e-preserved : goal.loop-e-preserved
 loop-e-preserved c =
     let g : ℕ → ℕ = bit c.args.recs.now c.args.perm.now c.args.incoming.now c.args.mail c.args.f c.args.j in
-    let e : c.bit_byte.result ≡ g c.loop-e.e = c.bit_byte.ensures ∙ ap num c.d_opened.ensures in (length-set c.loop-e.row c.loop-e.e c.bit_byte.result ∙ c.loop-e.invariant.0,
+    let e : c.bit_byte.result ≡ g c.loop-e.e = c.bit_byte.ensures ∙ ap num c.d_opened.ensures in (
+      length-set c.loop-e.row c.loop-e.e c.bit_byte.result ∙ c.loop-e.invariant.0,
       ap (λ (x : List ℕ). set x c.loop-e.e c.bit_byte.result) c.loop-e.invariant.1
           ∙ ap (set (tab c.loop-e.e g ++ drop c.loop-e.e c.args.row.now) c.loop-e.e) e
-          ∙ tab-step c.loop-e.e g c.args.row.now (omega (arith, c.loop-e-test.true, c.loop-e.invariant.0)))
+          ∙ tab-step c.loop-e.e g c.args.row.now (omega (arith, c.loop-e-test.true, c.loop-e.invariant.0)),
+    )
 
 pub shape_of-row : goal.shape_of-row
 shape_of-row c = c.loop-e.invariant.0

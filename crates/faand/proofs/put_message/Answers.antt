@@ -39,10 +39,12 @@ put_item-requires c =
     record { work = (c.requires.work.0, c.loop-j-test.true, c.requires.work.1); k_lt_n = (c.requires.k_lt_n.0, lent-part (8 + c.loop-j.j * 34) 34 34 c.loop-j.out refl (inside (goal.at.put_item-requires c).In-loop-j)) }
 
 pub loop-j-preserved : goal.loop-j-preserved
-loop-j-preserved c = (c.loop-j.invariant.0,
+loop-j-preserved c = (
+  c.loop-j.invariant.0,
   even-turn c.args.f.l (item c.args.f c.args.work.now c.args.k) 34 (each (goal.at.loop-j-preserved c).Start) c.loop-j.j (8 + c.loop-j.j * 34 + 34) _ c.loop-j.out c.put_item.new.out c.loop-j.invariant.0
       c.loop-j-test.true c.loop-j.invariant.1
-      c.put_item.ensures refl)
+      c.put_item.ensures refl,
+)
 
 pub shape_of-out : goal.shape_of-out
 shape_of-out c =

@@ -31,8 +31,8 @@ put_message-requires c =
 
 pub loop-q-preserved : goal.loop-q-preserved
 loop-q-preserved c = (sent_back c.args.f.n c.args.f.i (c.msg_len-len.result) (message c.args.f c.args.work.now) (c.msg_len-len.result) c.loop-q.q c.args.out.now c.loop-q.out refl (long (goal.at.loop-q-preserved c).At-loop-q) c.loop-q.invariant
-      c.other-k.result c.put_message.new.out c.loop-q-test.true c.other-k.ensures
-      c.put_message.ensures c.put_message.auto.out)
+    c.other-k.result c.put_message.new.out c.loop-q-test.true c.other-k.ensures
+    c.put_message.ensures c.put_message.auto.out)
 
 pub shape_of-out : goal.shape_of-out
 shape_of-out c = c.loop-q.invariant.same

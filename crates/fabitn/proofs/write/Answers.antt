@@ -16,8 +16,8 @@ write_items-requires c =
 
 pub loop-q-preserved : goal.loop-q-preserved
 loop-q-preserved c = (even-put (message c.args.bits.now c.args.macs.now) (c.args.n - 1) MSG c.args.out.now c.requires.out_len c.loop-q.q (c.loop-q.q * MSG + MSG) c.loop-q.out
-      c.write_items.new.out c.loop-q-test.true c.loop-q.invariant
-      (length-encode ITEM STRINGS _ (λ t h. length-bit_block _ _)) c.write_items.ensures refl)
+    c.write_items.new.out c.loop-q-test.true c.loop-q.invariant
+    (length-encode ITEM STRINGS _ (λ t h. length-bit_block _ _)) c.write_items.ensures refl)
 
 pub shape_of-out : goal.shape_of-out
 shape_of-out c = c.loop-q.invariant.same

@@ -8,8 +8,12 @@ use Rattle.flaand.proofs.keep_e_row.Goals as goal
 
 pub put_es-requires : goal.put_es-requires
 put_es-requires c =
-    omega (arith, ap length c.letter.ensures, letter-long c.requires.arrived c.args.k c.requires.k_lt_n.0 (λ e. c.requires.k_lt_n.1 (sym
-    e)))
+    omega (
+      arith,
+      ap length c.letter.ensures,
+      letter-long c.requires.arrived c.args.k c.requires.k_lt_n.0 (λ e. c.requires.k_lt_n.1 (sym
+          e)),
+    )
 
 pub returns : goal.returns
 unfolding e_told

@@ -42,10 +42,20 @@ same_at c =
 
 pub h_at-b-requires : goal.h_at-b-requires
 h_at-b-requires c =
-    record { work = (filled-work c.requires.work HS 16 (omega arith) (λ t. bytes_of (h_of (c.args.f) c.args.work.now (letter
-    c.args.incoming.now c.args.mail) t)) (leaky (c.args.f).l) (full (goal.at.h_at-b-requires c).Start) (c.loop-t.t) (c.loop-t.work)
-    c.loop-t.invariant, below (goal.at.h_at-b-requires c).In-loop-t); place = (c.place-recs.ensures, c.place-rows.ensures,
-    c.place-zs.ensures); arrived = c.requires.arrived }
+    record {
+      work = (
+        filled-work c.requires.work HS 16 (omega arith) (λ t. bytes_of (h_of (c.args.f) c.args.work.now (letter
+            c.args.incoming.now c.args.mail) t)) (leaky (c.args.f).l) (full (goal.at.h_at-b-requires c).Start) (c.loop-t.t) (c.loop-t.work)
+            c.loop-t.invariant,
+        below (goal.at.h_at-b-requires c).In-loop-t,
+      );
+      place = (
+        c.place-recs.ensures,
+        c.place-rows.ensures,
+        c.place-zs.ensures,
+      );
+      arrived = c.requires.arrived;
+    }
 
 pub overflow_mul-a : goal.overflow_mul-a
 overflow_mul-a c = omega (arith, inside (goal.at.overflow_mul-a c).In-loop-t)

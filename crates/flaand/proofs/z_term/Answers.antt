@@ -32,9 +32,15 @@ pub bit-e-requires : goal.bit-e-requires
 bit-e-requires c = omega (arith, read-in (goal.at.bit-e-requires c).After-letter)
 
 pub term-requires : goal.term-requires
-term-requires c =
-    (omega (arith, c.requires.n_bound.0, c.requires.n_bound.1), omega (arith, c.requires.n_in_bounds, record-within c.args.f.n c.args.k
-    c.requires.n_bound.1))
+term-requires c = (
+  omega (arith, c.requires.n_bound.0, c.requires.n_bound.1),
+  omega (
+    arith,
+    c.requires.n_in_bounds,
+    record-within c.args.f.n c.args.k
+        c.requires.n_bound.1,
+  ),
+)
 
 pub returns : goal.returns
 unfolding z_term e_told

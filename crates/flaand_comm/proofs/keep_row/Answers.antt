@@ -8,8 +8,12 @@ use Rattle.flaand_comm.proofs.keep_row.Goals.{After-letter}
 -- the message has as many bytes behind its count as the row
 long : (c : After-letter) → 8 + length c.args.row.now ≤ length c.letter.result.now
 long c =
-    omega (arith, ap length c.letter.ensures, letter-long c.requires.arrived c.args.k c.requires.k_lt_n.0 (λ e. c.requires.k_lt_n.1 (sym
-    e)))
+    omega (
+      arith,
+      ap length c.letter.ensures,
+      letter-long c.requires.arrived c.args.k c.requires.k_lt_n.0 (λ e. c.requires.k_lt_n.1 (sym
+          e)),
+    )
 
 pub slice_bounds-copy_from_slice-end : goal.slice_bounds-copy_from_slice-end
 slice_bounds-copy_from_slice-end c = long (goal.at.slice_bounds-copy_from_slice-end c).After-letter

@@ -10,8 +10,13 @@ use Rattle.flaand_hash.proofs.check_opens.Goals.{After-opens}
 pub opens-requires : goal.opens-requires
 opens-requires c =
     let far = letter-long c.requires.arrived c.args.k c.requires.in_range.1 (λ e. c.requires.in_range.2 (sym e)) in
-    record { in_range = (c.requires.in_range.0, c.requires.in_range.1); l_in_bounds = (omega (arith, ap length c.letter.ensures, far),
-    c.requires.in_range.3) }
+    record {
+      in_range = (c.requires.in_range.0, c.requires.in_range.1);
+      l_in_bounds = (
+        omega (arith, ap length c.letter.ensures, far),
+        c.requires.in_range.3,
+      );
+    }
 
 -- by the answer
 answers : (c : After-opens) → pick c.opens.result 0 2 ≡ open_fault c.args.f.l c.args.comms.now (letter c.args.incoming.now c.args.mail)

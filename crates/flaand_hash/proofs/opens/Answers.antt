@@ -52,8 +52,11 @@ some c = omega (arith, c.min-c.ensures, c.loop-q-test.true, c.div_ceil-q-end.ens
 
 read-in : (c : After-min-c) → 8 + (c.loop-q.q * 64) * 16 + (c.min-c.result) * 16 ≤ length c.args.m.now
 read-in c =
-    let read_all-here : 8 + (c.leaky-count.result) * 16 ≤ length c.args.m.now = omega (arith, c.requires.l_in_bounds.0,
-    c.leaky-count.ensures) in
+    let read_all-here : 8 + (c.leaky-count.result) * 16 ≤ length c.args.m.now = omega (
+      arith,
+      c.requires.l_in_bounds.0,
+      c.leaky-count.ensures,
+    ) in
     omega (arith, some c, read_all-here)
 
 comms-within : (c : After-min-c) → (c.args.k * ((c.leaky-count.result) * 32) + (c.loop-q.q * 64) * 32) + (c.min-c.result) * 32 ≤ length
@@ -61,8 +64,11 @@ comms-within : (c : After-min-c) → (c.args.k * ((c.leaky-count.result) * 32) +
 comms-within c =
     let whole-here : length c.args.comms.now ≡ c.args.f.n * ((c.leaky-count.result) * 32) = c.requires.l_in_bounds.1 ∙ ap (λ j.
     c.args.f.n * (j * 32)) (sym c.leaky-count.ensures) in
-    let row_in-here : c.args.k * ((c.leaky-count.result) * 32) + (c.leaky-count.result) * 32 ≤ length c.args.comms.now = omega (arith,
-    in-chunks c.args.k c.args.f.n ((c.leaky-count.result) * 32) c.requires.in_range.1, whole-here) in
+    let row_in-here : c.args.k * ((c.leaky-count.result) * 32) + (c.leaky-count.result) * 32 ≤ length c.args.comms.now = omega (
+      arith,
+      in-chunks c.args.k c.args.f.n ((c.leaky-count.result) * 32) c.requires.in_range.1,
+      whole-here,
+    ) in
     omega (arith, some c, row_in-here)
 
 pub overflow_mul-t : goal.overflow_mul-t
@@ -105,9 +111,9 @@ pub window_opens-ok-requires : goal.window_opens-ok-requires
 window_opens-ok-requires c = (
   omega (arith, c.min-c.ensures),
   lent-part (8 + (c.loop-q.q * 64) * 16) ((c.min-c.result) * 16) _ c.args.m.now refl (read-in (goal.at.window_opens-ok-requires
-  c).After-min-c),
+      c).After-min-c),
   lent-part (c.args.k * ((c.leaky-count.result) * 32) + (c.loop-q.q * 64) * 32) ((c.min-c.result) * 32) _ c.args.comms.now refl
-  (comms-within (goal.at.window_opens-ok-requires c).After-min-c),
+      (comms-within (goal.at.window_opens-ok-requires c).After-min-c),
 )
 
 pub loop-q-preserved : goal.loop-q-preserved
@@ -119,8 +125,12 @@ loop-q-preserved c =
     let hs : List ℕ = take (at + c.min-c.result * 16 - at) (drop at c.args.m.now) in
     let f = opens_at n c.args.comms.now c.args.k c.args.m.now in
     let before : min t n ≡ t = omega (arith, below (goal.at.loop-q-preserved c).In-loop-q) in
-    let after : t + c.min-c.result ≡ min ((c.loop-q.q + 1) * 64) n = omega (arith, c.min-c.ensures, below (goal.at.loop-q-preserved
-    c).In-loop-q) in
+    let after : t + c.min-c.result ≡ min ((c.loop-q.q + 1) * 64) n = omega (
+      arith,
+      c.min-c.ensures,
+      below (goal.at.loop-q-preserved
+          c).In-loop-q,
+    ) in
     window-turn c.args.k c.min-c.result t c.args.comms.now c.args.m.now hs n from
     (ap (λ j. take j (drop at c.args.m.now)) (cut at (c.min-c.result * 16))) refl (comms-within (goal.at.loop-q-preserved c).After-min-c)
     c.loop-q.ok
@@ -134,6 +144,9 @@ unfolding opens
 returns c =
     c.loop-q.invariant
     ∙ ap₂ (λ j i. all_of j (opens_at i c.args.comms.now c.args.k c.args.m.now))
-    (let e : min (c.loop-q.q * 64) c.leaky-count.result ≡ leaky c.args.f.l = omega (arith, c.leaky-count.ensures,
-    c.div_ceil-q-end.ensures) in e)
+    (let e : min (c.loop-q.q * 64) c.leaky-count.result ≡ leaky c.args.f.l = omega (
+      arith,
+      c.leaky-count.ensures,
+      c.div_ceil-q-end.ensures,
+    ) in e)
     c.leaky-count.ensures

@@ -46,11 +46,18 @@ put_parts-requires c =
     record {
       le_n = (
         omega (arith, c.requires.positions.ranges.own),
-        (c.requires.positions.ranges.range.eight, lent-part ((c.loop-p.p) * ((c.args.f.n - 1) * 16)) ((c.args.f.n - 1) * 16) ((c.args.f.n
-        - 1) * 16) c.loop-p.out refl (part_in (goal.at.put_parts-requires c).In-loop-p)),
+        (
+          c.requires.positions.ranges.range.eight,
+          lent-part ((c.loop-p.p) * ((c.args.f.n - 1) * 16)) ((c.args.f.n - 1) * 16) ((c.args.f.n
+              - 1) * 16) c.loop-p.out refl (part_in (goal.at.put_parts-requires c).In-loop-p),
+        ),
       );
-      n_in_bounds = omega (arith, x_in_lem c.args.f c.args.recs.now c.requires.positions.records (c.args.t + (c.loop-p.p)) (below
-      (goal.at.put_parts-requires c).In-loop-p), c.x_at.ensures);
+      n_in_bounds = omega (
+        arith,
+        x_in_lem c.args.f c.args.recs.now c.requires.positions.records (c.args.t + (c.loop-p.p)) (below
+            (goal.at.put_parts-requires c).In-loop-p),
+        c.x_at.ensures,
+      );
     }
 
 pub loop-p-preserved : goal.loop-p-preserved

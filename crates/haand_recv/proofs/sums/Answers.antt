@@ -18,12 +18,15 @@ loop-k-preserved c =
     elim c.if-k-f.branch [
       | then-k-f w ↦ (
         w.g-is ∙ w.xor-g.ensures ∙ others-more blocks i k (g_at i s) c.loop-k.g _ (λ e. w.if-k-f.true (sym e)) c.loop-k.invariant.0
-        w.hash_by-a.ensures.0,
+            w.hash_by-a.ensures.0,
         w.h-is ∙ xor-addb c.loop-k.h w.hash_by-a.result.1 ∙ others-more bits i k (h_at i s) c.loop-k.h _ (λ e. w.if-k-f.true (sym e))
-        c.loop-k.invariant.1 w.hash_by-a.ensures.1,
+            c.loop-k.invariant.1 w.hash_by-a.ensures.1,
       )
-      | else-k-f w ↦ (w.g-is ∙ c.loop-k.invariant.0 ∙ others-own blocks i k (g_at i s) (sym w.if-k-f.false), w.h-is ∙
-      c.loop-k.invariant.1 ∙ others-own bits i k (h_at i s) (sym w.if-k-f.false))
+      | else-k-f w ↦ (
+        w.g-is ∙ c.loop-k.invariant.0 ∙ others-own blocks i k (g_at i s) (sym w.if-k-f.false),
+        w.h-is ∙
+            c.loop-k.invariant.1 ∙ others-own bits i k (h_at i s) (sym w.if-k-f.false),
+      )
     ]
 
 pub returns : goal.returns

@@ -51,9 +51,11 @@ unfolding leaky_len
 slice_bounds-store-end-2 c = omega arith
 
 pub key_hashes-requires : goal.key_hashes-requires
-key_hashes-requires c =
-    (c.requires.asked.0.ranges.own, ap length c.requires.keys_value ∙ length-hashes c.args.f (key_at c.args.recs.now (c.args.t *
-    record_len c.args.f.n)))
+key_hashes-requires c = (
+  c.requires.asked.0.ranges.own,
+  ap length c.requires.keys_value ∙ length-hashes c.args.f (key_at c.args.recs.now (c.args.t *
+      record_len c.args.f.n)),
+)
 
 pub returns : goal.returns
 unfolding R.leaky_row leaky_len

@@ -40,7 +40,7 @@ unfolding entry_of
 loop-k-preserved c =
     let w : _ ≡ entry_bytes c.args.i c.loop-k.k _ _ =
     c.put_entry_of.ensures ∙ ap₂ (entry_bytes c.args.i c.loop-k.k) c.finished.ensures.0 c.finished.ensures.1 in (entered-turn c.loop-k.invariant c.mac_off-from.result (c.mac_off-from.result + ENTRY) c.mac_off-from.ensures refl c.put_entry_of.new.out
-          c.loop-k-test.true w)
+    c.loop-k-test.true w)
 
 pub shape_of-out : goal.shape_of-out
 shape_of-out c = c.loop-k.invariant.same

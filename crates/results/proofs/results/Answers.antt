@@ -41,11 +41,11 @@ put_result-requires c =
 
 pub loop-j-preserved : goal.loop-j-preserved
 loop-j-preserved c = (even-turn (result c.args.f c.args.work.now (letter c.args.incoming.now c.args.mail)) c.args.f.l (c.lent_len-len.result) c.args.out.now (whole (goal.at.loop-j-preserved c).After-lent_len-len) c.loop-j.j c.loop-j.out c.put_result.new.out c.loop-j-test.true
-      c.loop-j.invariant
-      (result-told c.args.f c.args.work.now (letter c.args.incoming.now c.args.mail) c.loop-j.j c.told_sum-d.result c.told_sum-e.result
-      c.put_result.new.out
-      c.told_sum-d.ensures c.told_sum-e.ensures c.put_result.ensures)
-      c.put_result.auto.out)
+    c.loop-j.invariant
+    (result-told c.args.f c.args.work.now (letter c.args.incoming.now c.args.mail) c.loop-j.j c.told_sum-d.result c.told_sum-e.result
+    c.put_result.new.out
+    c.told_sum-d.ensures c.told_sum-e.ensures c.put_result.ensures)
+    c.put_result.auto.out)
 
 pub shape_of-out : goal.shape_of-out
 shape_of-out c = c.loop-j.invariant.same

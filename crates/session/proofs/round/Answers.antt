@@ -31,7 +31,7 @@ mail_of-mail-requires c = let A = let-in (goal.at.mail_of-mail-requires c).In_de
 parts : (c : After-mail_of-mail) → parts_in c.args.s.party (posted c.args.incoming.now c.mail_of-mail.result c.args.missing.now) ≡ true
 parts c =
     let A : Admitted c.args.s c.args.k (given c.args.incoming.now c.args.starts.now c.args.lens.now c.args.missing.now c.args.r.now c.args.out.now) c.args.work.now =
-        reason-zero c.args.s c.args.k (given c.args.incoming.now c.args.starts.now c.args.lens.now c.args.missing.now c.args.r.now c.args.out.now) c.args.work.now (sym c.in_default.ensures) in
+    reason-zero c.args.s c.args.k (given c.args.incoming.now c.args.starts.now c.args.lens.now c.args.missing.now c.args.r.now c.args.out.now) c.args.work.now (sym c.in_default.ensures) in
     subst (λ (x : Mail). parts_in c.args.s.party (posted c.args.incoming.now x c.args.missing.now) ≡ true) (sym c.mail_of-mail.ensures)
     (parts-posted c.args.s.party c.args.incoming.now c.args.starts.now c.args.lens.now c.args.missing.now c.args.r.now
     c.args.out.now A.parts-in)

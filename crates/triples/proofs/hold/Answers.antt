@@ -18,7 +18,7 @@ full c = sym (size-triples (c.args.f))
 
 pub loop-j-init : goal.loop-j-init
 loop-j-init c = (filled_none c.requires TRIPLES (2 * record_len (c.args.f).n) (omega arith) (row_of (c.args.f)
-      (c.delta-delta.result.0) c.args.work.now) (c.args.f).l (full (goal.at.loop-j-init c).After-delta-delta))
+    (c.delta-delta.result.0) c.args.work.now) (c.args.f).l (full (goal.at.loop-j-init c).After-delta-delta))
 
 -- ---- in a turn
 
@@ -69,14 +69,14 @@ loop-j-preserved c =
       arith,
       len_is (goal.at.loop-j-preserved c).In-loop-j,
     ) in (subst (Filled (c.args.f) TRIPLES (2 * record_len (c.args.f).n) (row_of (c.args.f) (c.delta-delta.result.0) c.args.work.now)
-          ((c.loop-j.j) + 1) c.args.work.now)
-          (sym (c.put_row.ensures ∙ ap₂ (λ k (x : List ℕ). put at k x (c.loop-j.work)) m (row_same (goal.at.loop-j-preserved c).In-loop-j)))
-          (filled_put c.requires TRIPLES (2 * record_len (c.args.f).n) (omega arith) (row_of (c.args.f)
-          (c.delta-delta.result.0) c.args.work.now) (c.args.f).l (full (goal.at.loop-j-preserved c).After-delta-delta) (c.loop-j.j)
-          (c.loop-j.work) c.loop-j.invariant (c.section_at-rows.result)
-          (2 * c.record_len-len.result) c.section_at-rows.ensures (len_is (goal.at.loop-j-preserved c).In-loop-j) c.loop-j-test.true
-          ((row_of (c.args.f) (c.delta-delta.result.0) c.args.work.now) (c.loop-j.j)) refl (length-row_of (c.args.f)
-          (c.delta-delta.result.0) c.args.work.now (c.loop-j.j))))
+    ((c.loop-j.j) + 1) c.args.work.now)
+    (sym (c.put_row.ensures ∙ ap₂ (λ k (x : List ℕ). put at k x (c.loop-j.work)) m (row_same (goal.at.loop-j-preserved c).In-loop-j)))
+    (filled_put c.requires TRIPLES (2 * record_len (c.args.f).n) (omega arith) (row_of (c.args.f)
+    (c.delta-delta.result.0) c.args.work.now) (c.args.f).l (full (goal.at.loop-j-preserved c).After-delta-delta) (c.loop-j.j)
+    (c.loop-j.work) c.loop-j.invariant (c.section_at-rows.result)
+    (2 * c.record_len-len.result) c.section_at-rows.ensures (len_is (goal.at.loop-j-preserved c).In-loop-j) c.loop-j-test.true
+    ((row_of (c.args.f) (c.delta-delta.result.0) c.args.work.now) (c.loop-j.j)) refl (length-row_of (c.args.f)
+    (c.delta-delta.result.0) c.args.work.now (c.loop-j.j))))
 
 pub shape_of-work : goal.shape_of-work
 shape_of-work c = c.loop-j.invariant.same

@@ -96,7 +96,7 @@ lent-long c = sym (length-take-le (c.bucket_size-b.result) c.entries-all.result 
 
 pub loop-k-init : goal.loop-k-init
 loop-k-init c = (going-none (c.args.f) (c.args.delta.0) c.args.work.now (c.args.j) (c.args.row) (work
-      (goal.at.loop-k-init c).After-record_len-len) c.requires.work.1 c.requires.row_value)
+    (goal.at.loop-k-init c).After-record_len-len) c.requires.work.1 c.requires.row_value)
 
 -- ---- in a turn, and behind the last
 
@@ -175,15 +175,15 @@ put_entries-requires c =
 
 pub loop-k-preserved : goal.loop-k-preserved
 loop-k-preserved c = (going-turn (c.args.f) (c.args.delta.0) c.args.work.now (c.args.j) (c.args.row) (work
-      (goal.at.loop-k-preserved c).After-record_len-len) c.requires.work.1 c.requires.row_value (going
-      (goal.at.loop-k-preserved c).At-loop-k) ((c.args.row) + 2 * (c.record_len-len.result)) (ends
-      (goal.at.loop-k-preserved c).After-record_len-len)
-      (c.record_len-len.result) _ _ c.put_entries.new.row (long (goal.at.loop-k-preserved c).After-record_len-len) c.loop-k-test.true
-      (c.row_party-s.ensures.x-bytes ∙ ap (λ (v : Triple). entry_of (c.args.f).i v.tx c.loop-k.k) (triple
-      (goal.at.loop-k-preserved c).At-loop-k))
-      (c.row_party-s.ensures.z-bytes ∙ ap (λ (v : Triple). entry_of (c.args.f).i v.tz c.loop-k.k) (triple
-      (goal.at.loop-k-preserved c).At-loop-k))
-      c.put_entries.ensures)
+    (goal.at.loop-k-preserved c).After-record_len-len) c.requires.work.1 c.requires.row_value (going
+    (goal.at.loop-k-preserved c).At-loop-k) ((c.args.row) + 2 * (c.record_len-len.result)) (ends
+    (goal.at.loop-k-preserved c).After-record_len-len)
+    (c.record_len-len.result) _ _ c.put_entries.new.row (long (goal.at.loop-k-preserved c).After-record_len-len) c.loop-k-test.true
+    (c.row_party-s.ensures.x-bytes ∙ ap (λ (v : Triple). entry_of (c.args.f).i v.tx c.loop-k.k) (triple
+    (goal.at.loop-k-preserved c).At-loop-k))
+    (c.row_party-s.ensures.z-bytes ∙ ap (λ (v : Triple). entry_of (c.args.f).i v.tz c.loop-k.k) (triple
+    (goal.at.loop-k-preserved c).At-loop-k))
+    c.put_entries.ensures)
 
 pub slice_bounds-all-end-2 : goal.slice_bounds-all-end-2
 slice_bounds-all-end-2 c = all-long (goal.at.slice_bounds-all-end-2 c).After-entries-all
