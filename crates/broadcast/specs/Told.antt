@@ -1,6 +1,6 @@
 -- What a verdict says, as a fault, and what of it waits for the echo.
-use Rattle.std.specs.Prelude.{◌≡◌, ◌≢◌, ⊤, Result, Ok, Err, ℕ, ◌<◌, ◌≤◌, eqb}
-use Rattle.lists.specs.Kit.{[], ◌∷◌, refl, ap₂, ◌∙◌, arith}
+use Rattle.std.specs.Prelude.{◌≡◌, ◌≢◌, ⊤, Result, Ok, Err, ℕ, ◌<◌, ◌≤◌, eqb, [], ◌∷◌}
+use Rattle.lists.specs.Kit.{refl, ap₂, ◌∙◌, arith}
 use Rattle.lists.specs.Pick.{pick}
 use Rattle.refusals.specs.Reason.{number, number-some}
 use Rattle.engine.specs.declared.Refusal.{Refusal}
