@@ -89,14 +89,6 @@ pub fn hash_window(out: &mut [u8], blocks: &[u8])
     }
 }
 
-// How many of the Blocks that are left are hashed next, where they come in windows: as many as there are lanes, or all.
-pub fn at_once(left: usize) -> usize
-    requires { 0 < left }
-    ensures { (0 < result) × (result ≤ left) × (result ≤ S.LANES) }
-{
-    left.min(LANES)
-}
-
 // The hashes of `count` Blocks that lie side by side: window by window, then what is left one by one.
 pub fn hash_blocks(out: &mut [u8], blocks: &[u8], count: usize)
     requires blocks_len { length blocks.now ≡ count * 16 }

@@ -110,7 +110,8 @@ module _ (n i : ℕ) (x z : Share) (m : List ℕ) where
         ∙ sym (append_assoc (head_of a) (drop (mac_off 0) w.x₁) R)
         ∙ ap (λ (l : List ℕ). l ++ R) (entered-head w.x-part (head_of a) e ∙ ap (λ (b : Bool). head_of b ++ cat n (entry_of i x)) ha)
         ∙ sym (append_assoc X m w.z₁) in
-        let p : length (X ++ m) ≡ at = length-append X m ∙ (let q : length X + length m ≡ at = omega (arith, length-record_of n i x) in q) in
+        let p : length (X ++ m) ≡ at = length-append X m ∙ (let q : length X + length m ≡ at = omega (arith, length-record_of n i x) in q)
+        in
         ap₂ (λ (l r : List ℕ). take at l ++ (head_of b ++ drop (mac_off 0) (drop at r))) s s
         ∙ ap₂ (λ (l r : List ℕ). l ++ (head_of b ++ drop (mac_off 0) r)) (take_at (X ++ m) w.z₁ at p) (drop_at (X ++ m) w.z₁ at p)
         ∙ ap (λ (l : List ℕ). (X ++ m) ++ l) (entered-head w.z-part (head_of b) e ∙ ap (λ (b : Bool). head_of b ++ cat n (entry_of i z)) hb)

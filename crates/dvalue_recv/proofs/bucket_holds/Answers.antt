@@ -31,7 +31,15 @@ pub overflow_add-macs-2 : goal.overflow_add-macs-2
 overflow_add-macs-2 c = omega (arith, inside (goal.at.overflow_add-macs-2 c).After-bucket_at-bits, c.well_formed)
 
 pub y_at-first-requires : goal.y_at-first-requires
-y_at-first-requires c = record { ranged = c.requires.ranged; perm_len = (c.requires.permuted.numbers, c.requires.j_lt_l.0, first-in c.args.f) }
+y_at-first-requires c = record {
+  ranged = c.requires.ranged;
+  perm_len = (
+    c.requires.permuted.numbers,
+    c.requires.j_lt_l.0,
+    first-in
+        c.args.f,
+  );
+}
 
 pub loop-e-init : goal.loop-e-init
 loop-e-init c = (sym (all-zero _))
@@ -71,7 +79,15 @@ overflow_add-e c = omega (arith, next (goal.at.overflow_add-e c).In-loop-e, late
 
 pub y_at-next-requires : goal.y_at-next-requires
 y_at-next-requires c =
-    record { ranged = c.requires.ranged; perm_len = (c.requires.permuted.numbers, c.requires.j_lt_l.0, later-in c.args.f c.loop-e.e (next (goal.at.y_at-next-requires c).In-loop-e)) }
+    record {
+      ranged = c.requires.ranged;
+      perm_len = (
+        c.requires.permuted.numbers,
+        c.requires.j_lt_l.0,
+        later-in c.args.f c.loop-e.e
+            (next (goal.at.y_at-next-requires c).In-loop-e),
+      );
+    }
 
 pub overflow_add-bits-in-loop-e : goal.overflow_add-bits-in-loop-e
 overflow_add-bits-in-loop-e c = omega (arith, bit_in (goal.at.overflow_add-bits-in-loop-e c).In-loop-e, c.well_formed)
@@ -98,10 +114,12 @@ mac_holds-ok-requires c =
     }
 
 pub loop-e-preserved : goal.loop-e-preserved
-loop-e-preserved c = (all_more (d_holds c.args.f c.args.delta.0 c.args.recs.now c.args.perm.now c.args.m.now c.args.k c.args.j) c.loop-e.e c.loop-e.ok _ c.loop-e.invariant
+loop-e-preserved c = (all_more (d_holds c.args.f c.args.delta.0 c.args.recs.now c.args.perm.now c.args.m.now c.args.k c.args.j) c.loop-e.e
+    c.loop-e.ok _ c.loop-e.invariant
     (d_holds_lem c.args.f c.args.delta.0 c.args.recs.now c.args.perm.now c.args.m.now c.args.k c.args.j c.loop-e.e c.y_at-first.result
     c.y_at-next.result
-    (c.bucket_at-bits.result + 8 + c.loop-e.e) (c.bucket_at-bits.result + 8 + (c.later-due.result) + 8 + c.loop-e.e * 16) _ c.y_at-first.ensures
+    (c.bucket_at-bits.result + 8 + c.loop-e.e) (c.bucket_at-bits.result + 8 + (c.later-due.result) + 8 + c.loop-e.e * 16) _
+    c.y_at-first.ensures
     c.y_at-next.ensures
     (omega (arith, c.bucket_at-bits.ensures)) (omega (arith, c.bucket_at-bits.ensures, c.later-due.ensures)) c.mac_holds-ok.ensures))
 

@@ -36,7 +36,9 @@ answers c =
     c.letter-m.ensures)
 
 pub returns-then-message_holds : goal.returns-then-message_holds
-returns-then-message_holds c = ap (λ (b : Bool). pick {A = ℕ} b 0 11) (sym c.if-message_holds.true) ∙ answers (goal.at.returns-then-message_holds c).After-message_holds
+returns-then-message_holds c = ap (λ (b : Bool). pick {A = ℕ} b 0 11) (sym c.if-message_holds.true) ∙ answers
+    (goal.at.returns-then-message_holds c).After-message_holds
 
 pub returns-else-message_holds : goal.returns-else-message_holds
-returns-else-message_holds c = ap (λ (b : Bool). pick {A = ℕ} b 0 11) (sym c.if-message_holds.false) ∙ answers (goal.at.returns-else-message_holds c).After-message_holds
+returns-else-message_holds c = ap (λ (b : Bool). pick {A = ℕ} b 0 11) (sym c.if-message_holds.false) ∙ answers
+    (goal.at.returns-else-message_holds c).After-message_holds

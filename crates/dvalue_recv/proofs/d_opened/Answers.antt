@@ -17,7 +17,15 @@ overflow_add-e c =
 
 pub y_at-next-requires : goal.y_at-next-requires
 y_at-next-requires c =
-    record { ranged = c.requires.ranged.0; perm_len = (c.requires.permuted.numbers, c.requires.ranged.1, later-in c.args.f c.args.e c.requires.ranged.2) }
+    record {
+      ranged = c.requires.ranged.0;
+      perm_len = (
+        c.requires.permuted.numbers,
+        c.requires.ranged.1,
+        later-in c.args.f c.args.e
+            c.requires.ranged.2,
+      );
+    }
 
 pub sum_bit-own-requires : goal.sum_bit-own-requires
 sum_bit-own-requires c =

@@ -29,16 +29,29 @@ perm_is : (c : After-lent-numbers) → c.lent-numbers.result.now ≡ at c.args.f
 perm_is c = c.lent-numbers.ensures ∙ place_at c.args.f PERM _ _ c.requires.place.1 c.args.work.now
 
 pub slice_bounds-put_ds-end : goal.slice_bounds-put_ds-end
-slice_bounds-put_ds-end c = sym (length-take-le c.later-due.result (replicate 4 0) (few (goal.at.slice_bounds-put_ds-end c).After-later-due))
+slice_bounds-put_ds-end c = sym (length-take-le c.later-due.result (replicate 4 0)
+    (few (goal.at.slice_bounds-put_ds-end c).After-later-due))
 
 pub put_ds-requires : goal.put_ds-requires
 put_ds-requires c =
-    record { ranged = (c.requires.work.0.ranges, c.requires.work.1, length-take-le c.later-due.result (replicate 4 0) (few (goal.at.put_ds-requires c).After-later-due) ∙ c.later-due.ensures); permuted = lent_is c.requires.work.0 (recs-are (goal.at.put_ds-requires c).After-lent-numbers) (perm_is (goal.at.put_ds-requires c).After-lent-numbers); received = c.requires.received }
+    record {
+      ranged = (
+        c.requires.work.0.ranges,
+        c.requires.work.1,
+        length-take-le c.later-due.result (replicate 4 0)
+            (few (goal.at.put_ds-requires c).After-later-due) ∙ c.later-due.ensures,
+      );
+      permuted = lent_is c.requires.work.0
+          (recs-are (goal.at.put_ds-requires c).After-lent-numbers) (perm_is (goal.at.put_ds-requires c).After-lent-numbers);
+      received =
+          c.requires.received;
+    }
 
 pub returns : goal.returns
 returns c =
     let m : ℕ → List ℕ = letter c.args.incoming.now c.args.mail in
-    ap₂ ◌++◌ (c.put_ds.ensures ∙ ap₂ (λ (x y : List ℕ). d_row c.args.f x y m c.args.j) (recs-are (goal.at.returns c).After-lent-numbers) (perm_is (goal.at.returns c).After-lent-numbers))
+    ap₂ ◌++◌ (c.put_ds.ensures ∙ ap₂ (λ (x y : List ℕ). d_row c.args.f x y m c.args.j) (recs-are (goal.at.returns c).After-lent-numbers)
+    (perm_is (goal.at.returns c).After-lent-numbers))
     (drop-replicate c.later-due.result 4 0 ∙ ap (λ k. replicate (4 - k) 0) c.later-due.ensures)
 
 pub slice_bounds-row-end : goal.slice_bounds-row-end

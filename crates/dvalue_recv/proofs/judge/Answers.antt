@@ -12,5 +12,6 @@ by_party-requires c k l ne =
 pub returns : goal.returns
 returns c =
     rw (← c.section-perm.ensures, ← c.section-recs.ensures, ← c.delta-delta.ensures, faults-by)
-    (c.by_party.ensures (d_fault c.args.f c.delta-delta.result.0 c.section-recs.result.now c.section-perm.result.now (letter c.args.incoming.now c.args.mail))
+    (c.by_party.ensures (d_fault c.args.f c.delta-delta.result.0 c.section-recs.result.now c.section-perm.result.now
+    (letter c.args.incoming.now c.args.mail))
     (λ k r l ne h. search rules))

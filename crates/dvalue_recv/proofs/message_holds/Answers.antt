@@ -9,10 +9,16 @@ loop-j-init c = (sym (all-zero _))
 
 pub bucket_holds-ok-requires : goal.bucket_holds-ok-requires
 bucket_holds-ok-requires c =
-    record { ranged = c.requires.ranged; permuted = c.requires.permuted; j_lt_l = (c.loop-j-test.true, c.requires.k_lt_n.0, c.requires.k_lt_n.1) }
+    record {
+      ranged = c.requires.ranged;
+      permuted = c.requires.permuted;
+      j_lt_l =
+          (c.loop-j-test.true, c.requires.k_lt_n.0, c.requires.k_lt_n.1);
+    }
 
 pub loop-j-preserved : goal.loop-j-preserved
-loop-j-preserved c = (all_more (bucket_holds c.args.f c.args.delta.0 c.args.recs.now c.args.perm.now c.args.m.now c.args.k) c.loop-j.j c.loop-j.ok _ c.loop-j.invariant
+loop-j-preserved c = (all_more (bucket_holds c.args.f c.args.delta.0 c.args.recs.now c.args.perm.now c.args.m.now c.args.k) c.loop-j.j
+    c.loop-j.ok _ c.loop-j.invariant
     c.bucket_holds-ok.ensures)
 
 pub returns : goal.returns

@@ -13,7 +13,20 @@ loop-e-init c = (refl, tab-zero _ _)
 
 pub d_opened-requires : goal.d_opened-requires
 d_opened-requires c =
-    record { ranged = (c.requires.ranged.0, c.requires.ranged.1, omega (arith, c.loop-e-test.true, c.loop-e.invariant.0, c.requires.ranged.2)); permuted = c.requires.permuted; received = c.requires.received }
+    record {
+      ranged = (
+        c.requires.ranged.0,
+        c.requires.ranged.1,
+        omega (
+          arith,
+          c.loop-e-test.true,
+          c.loop-e.invariant.0,
+          c.requires.ranged.2,
+        ),
+      );
+      permuted = c.requires.permuted;
+      received = c.requires.received;
+    }
 
 pub loop-e-preserved : goal.loop-e-preserved
 loop-e-preserved c =
@@ -31,6 +44,7 @@ shape_of-row c = c.loop-e.invariant.0
 pub returns : goal.returns
 unfolding d_row
 returns c =
-    tab-end c.loop-e.e (later c.args.f) (bit c.args.recs.now c.args.perm.now c.args.incoming.now c.args.mail c.args.f c.args.j) c.args.row.now c.loop-e.row
+    tab-end c.loop-e.e (later c.args.f) (bit c.args.recs.now c.args.perm.now c.args.incoming.now c.args.mail c.args.f c.args.j)
+    c.args.row.now c.loop-e.row
     c.loop-e.invariant.1
     (omega (arith, c.loop-e-test.false, c.loop-e.invariant.0, c.requires.ranged.2)) (sym c.requires.ranged.2)

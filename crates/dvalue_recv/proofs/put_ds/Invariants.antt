@@ -14,4 +14,5 @@ abbrev pub bit : List ℕ → List ℕ → List ℕ → Mail → Frame → ℕ �
 bit recs perm incoming mail f j e = num (d_opened f recs perm (letter incoming mail) j e)
 
 abbrev pub invariant-loop-e : goal.invariant-loop-e
-invariant-loop-e l = (length l.row ≡ length l.initial.row) × (l.row ≡ tab l.e (bit l.recs l.perm l.incoming l.mail l.f l.j) ++ drop l.e l.initial.row)
+invariant-loop-e l = (length l.row ≡ length l.initial.row) × (l.row ≡ tab l.e (bit l.recs l.perm l.incoming l.mail l.f l.j) ++ drop l.e
+    l.initial.row)

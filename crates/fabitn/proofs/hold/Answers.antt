@@ -19,24 +19,35 @@ full f = refl
 
 pub loop-k-init : goal.loop-k-init
 loop-k-init c =
-    (filled_none c.requires KEY_SUMS ROW (omega arith) (row_of (c.args.f).i ROW (held_row (c.args.f).i c.args.keys.now)) (c.args.f).n (full (c.args.f)))
+    (filled_none c.requires KEY_SUMS ROW (omega arith) (row_of (c.args.f).i ROW (held_row (c.args.f).i c.args.keys.now)) (c.args.f).n
+    (full (c.args.f)))
 
 pub hold_row-requires : goal.hold_row-requires
 hold_row-requires c =
-    record { work = filled-work c.requires KEY_SUMS ROW (omega arith) (row_of (c.args.f).i ROW (held_row (c.args.f).i c.args.keys.now)) (c.args.f).n (full (c.args.f)) c.loop-k.k c.loop-k.work c.loop-k.invariant; k_lt_n = c.loop-k-test.true }
+    record {
+      work = filled-work c.requires KEY_SUMS ROW (omega arith) (row_of (c.args.f).i ROW (held_row (c.args.f).i c.args.keys.now))
+          (c.args.f).n (full (c.args.f)) c.loop-k.k c.loop-k.work c.loop-k.invariant;
+      k_lt_n = c.loop-k-test.true;
+    }
 
 pub loop-k-preserved : goal.loop-k-preserved
 loop-k-preserved c =
     let a = off (size_of (c.args.f)) KEY_SUMS + c.loop-k.k * ROW in
     let long : a + ROW - a ≡ ROW = omega arith in
-    let kept : put a (a + ROW - a) ((row_of (c.args.f).i ROW (held_row (c.args.f).i c.args.keys.now)) c.loop-k.k) c.loop-k.work ≡ c.hold_row.new.work = ap (λ m. put a m ((row_of (c.args.f).i ROW (held_row (c.args.f).i c.args.keys.now)) c.loop-k.k) c.loop-k.work) long ∙ sym c.hold_row.ensures in (subst (Filled (c.args.f) KEY_SUMS ROW (row_of (c.args.f).i ROW (held_row (c.args.f).i c.args.keys.now)) (c.loop-k.k + 1) c.args.work.now) kept
-    (filled_put c.requires KEY_SUMS ROW (omega arith) (row_of (c.args.f).i ROW (held_row (c.args.f).i c.args.keys.now)) (c.args.f).n (full (c.args.f)) c.loop-k.k c.loop-k.work c.loop-k.invariant (off (size_of (c.args.f)) KEY_SUMS)
-    ROW refl refl c.loop-k-test.true ((row_of (c.args.f).i ROW (held_row (c.args.f).i c.args.keys.now)) c.loop-k.k) refl (length-row_of (c.args.f).i ROW _ c.loop-k.k (λ ne. length-held (c.args.f).i _ c.loop-k.k))))
+    let kept : put a (a + ROW - a) ((row_of (c.args.f).i ROW (held_row (c.args.f).i c.args.keys.now)) c.loop-k.k) c.loop-k.work ≡
+    c.hold_row.new.work = ap (λ m. put a m ((row_of (c.args.f).i ROW (held_row (c.args.f).i c.args.keys.now)) c.loop-k.k)
+    c.loop-k.work) long ∙ sym c.hold_row.ensures in (subst (Filled (c.args.f) KEY_SUMS ROW
+    (row_of (c.args.f).i ROW (held_row (c.args.f).i c.args.keys.now)) (c.loop-k.k + 1) c.args.work.now) kept
+    (filled_put c.requires KEY_SUMS ROW (omega arith) (row_of (c.args.f).i ROW (held_row (c.args.f).i c.args.keys.now)) (c.args.f).n
+    (full (c.args.f)) c.loop-k.k c.loop-k.work c.loop-k.invariant (off (size_of (c.args.f)) KEY_SUMS)
+    ROW refl refl c.loop-k-test.true ((row_of (c.args.f).i ROW (held_row (c.args.f).i c.args.keys.now)) c.loop-k.k) refl
+    (length-row_of (c.args.f).i ROW _ c.loop-k.k (λ ne. length-held (c.args.f).i _ c.loop-k.k))))
 
 pub shape_of-work : goal.shape_of-work
 shape_of-work c = c.loop-k.invariant.same
 
 pub returns : goal.returns
 returns c =
-    filled-end c.requires KEY_SUMS ROW (omega arith) (row_of (c.args.f).i ROW (held_row (c.args.f).i c.args.keys.now)) (c.args.f).n (full (c.args.f)) c.loop-k.k c.loop-k.work c.loop-k.invariant (omega arith)
+    filled-end c.requires KEY_SUMS ROW (omega arith) (row_of (c.args.f).i ROW (held_row (c.args.f).i c.args.keys.now)) (c.args.f).n
+    (full (c.args.f)) c.loop-k.k c.loop-k.work c.loop-k.invariant (omega arith)
     ∙ ap (λ (x : List ℕ). keep (c.args.f) KEY_SUMS x c.args.work.now) (rows_of (c.args.f) ROW _)

@@ -48,13 +48,20 @@ overflow_mul-place c = omega (arith, below (goal.at.overflow_mul-place c).After-
 
 pub write_blocks-requires : goal.write_blocks-requires
 write_blocks-requires c =
-    record { out_len = lent-part (c.section_at.result + c.args.k * ROW) ROW ROW c.args.work.now refl (inside (goal.at.write_blocks-requires c).After-section_at); base_bound = omega (arith, below (goal.at.write_blocks-requires c).After-place) }
+    record {
+      out_len = lent-part (c.section_at.result + c.args.k * ROW) ROW ROW c.args.work.now refl
+          (inside (goal.at.write_blocks-requires c).After-section_at);
+      base_bound = omega
+          (arith, below (goal.at.write_blocks-requires c).After-place);
+    }
 
 -- what is put there
 
 put-row : (c : After-section_at) → (x : List ℕ) → x ≡ row_of c.args.f.i ROW (held_row c.args.f.i c.args.keys.now) c.args.k
-    → put (c.section_at.result + c.args.k * ROW) ((c.section_at.result + c.args.k * ROW) + ROW - (c.section_at.result + c.args.k * ROW)) x c.args.work.now
-    ≡ put (off (size_of c.args.f) KEY_SUMS + c.args.k * ROW) ROW (row_of c.args.f.i ROW (held_row c.args.f.i c.args.keys.now) c.args.k) c.args.work.now
+    → put (c.section_at.result + c.args.k * ROW) ((c.section_at.result + c.args.k * ROW) + ROW - (c.section_at.result + c.args.k * ROW)) x
+    c.args.work.now
+    ≡ put (off (size_of c.args.f) KEY_SUMS + c.args.k * ROW) ROW (row_of c.args.f.i ROW (held_row c.args.f.i c.args.keys.now) c.args.k)
+    c.args.work.now
 put-row c x e =
     let long : (c.section_at.result + c.args.k * ROW) + ROW - (c.section_at.result + c.args.k * ROW) ≡ ROW = omega arith in
     λ t. put (c.section_at.ensures t + c.args.k * ROW) (long t) (e t) c.args.work.now
@@ -63,7 +70,8 @@ pub returns-then-i-k : goal.returns-then-i-k
 returns-then-i-k c =
     put-row (goal.at.returns-then-i-k c).After-section_at _
     (c.clear.ensures
-    ∙ ap (λ m. replicate m 0) (lent-part (c.section_at.result + c.args.k * ROW) ROW ROW c.args.work.now refl (inside (goal.at.returns-then-i-k c).After-section_at))
+    ∙ ap (λ m. replicate m 0) (lent-part (c.section_at.result + c.args.k * ROW) ROW ROW c.args.work.now refl
+    (inside (goal.at.returns-then-i-k c).After-section_at))
     ∙ sym (row-own c.args.f.i ROW (held_row c.args.f.i c.args.keys.now) c.args.k c.if-i-k.true))
 
 pub returns-else-i-k : goal.returns-else-i-k

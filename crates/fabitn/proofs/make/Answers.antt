@@ -20,7 +20,15 @@ long n l x h = h
 
 pub write-requires : goal.write-requires
 write-requires c =
-    record { le_n = (c.requires.work.ranges.range.two, c.requires.work.ranges.range.eight, ap length c.sums-s.ensures.bits_value ∙ length-tab STRINGS _); out_len = long c.args.f.n c.args.f.l c.args.out.now c.requires.out_len }
+    record {
+      le_n = (
+        c.requires.work.ranges.range.two,
+        c.requires.work.ranges.range.eight,
+        ap length c.sums-s.ensures.bits_value ∙
+            length-tab STRINGS _,
+      );
+      out_len = long c.args.f.n c.args.f.l c.args.out.now c.requires.out_len;
+    }
 
 pub returns : goal.returns
 returns c =
@@ -28,11 +36,13 @@ returns c =
     record {
       work_after = c.hold.ensures
           ∙ ap (λ (x : List ℕ). keep c.args.f KEY_SUMS x c.args.work.now)
-          (sums_kept c.requires.work.ranges c.args.r.now recs c.bits_count.result c.r_blocks.result c.bits_count.ensures c.r_blocks.ensures _
+          (sums_kept c.requires.work.ranges c.args.r.now recs c.bits_count.result c.r_blocks.result c.bits_count.ensures
+          c.r_blocks.ensures _
           c.sums-s.ensures.keys_value
           ∙ ap (Fabitn.key_sums c.args.f c.args.r.now) c.section.ensures);
       out_after = c.write.ensures
-          ∙ sums-sent c.requires.work.ranges c.args.r.now recs c.bits_count.result c.r_blocks.result c.bits_count.ensures c.r_blocks.ensures _ _
+          ∙ sums-sent c.requires.work.ranges c.args.r.now recs c.bits_count.result c.r_blocks.result c.bits_count.ensures
+          c.r_blocks.ensures _ _
           c.sums-s.ensures.bits_value c.sums-s.ensures.macs_value
           ∙ ap (λ (x : List ℕ). to_others c.args.f.n c.args.f.i (Fabitn.abit_msg c.args.f c.args.r.now x)) c.section.ensures;
     }

@@ -12,10 +12,22 @@ loop-q-init c = (even-zero _ MSG _)
 
 pub write_items-requires : goal.write_items-requires
 write_items-requires c =
-    record { out_len = (omega (arith, length-take-drop (c.loop-q.q * MSG) (c.loop-q.q * MSG + MSG) c.loop-q.out, c.loop-q.invariant.same, c.requires.out_len), c.requires.le_n.2); base_bound = omega (arith, c.requires.le_n.1) }
+    record {
+      out_len = (
+        omega (
+          arith,
+          length-take-drop (c.loop-q.q * MSG) (c.loop-q.q * MSG + MSG) c.loop-q.out,
+          c.loop-q.invariant.same,
+          c.requires.out_len,
+        ),
+        c.requires.le_n.2,
+      );
+      base_bound = omega (arith, c.requires.le_n.1);
+    }
 
 pub loop-q-preserved : goal.loop-q-preserved
-loop-q-preserved c = (even-put (message c.args.bits.now c.args.macs.now) (c.args.n - 1) MSG c.args.out.now c.requires.out_len c.loop-q.q (c.loop-q.q * MSG + MSG) c.loop-q.out
+loop-q-preserved c = (even-put (message c.args.bits.now c.args.macs.now) (c.args.n - 1) MSG c.args.out.now c.requires.out_len c.loop-q.q
+    (c.loop-q.q * MSG + MSG) c.loop-q.out
     c.write_items.new.out c.loop-q-test.true c.loop-q.invariant
     (length-encode ITEM STRINGS _ (λ t h. length-bit_block _ _)) c.write_items.ensures refl)
 

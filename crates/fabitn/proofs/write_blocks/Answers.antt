@@ -13,7 +13,8 @@ loop-j-init c = (written-zero _ _)
 
 pub loop-j-preserved : goal.loop-j-preserved
 loop-j-preserved c =
-    let j = c.loop-j.j in (even-put (λ j. bytes_of (pair_at c.args.words.now (c.args.base + j))) STRINGS 16 c.args.out.now c.requires.out_len j
+    let j = c.loop-j.j in (even-put (λ j. bytes_of (pair_at c.args.words.now (c.args.base + j))) STRINGS 16 c.args.out.now
+    c.requires.out_len j
     (j * 16 + 16) c.loop-j.out c.store.new.out
     (omega arith) c.loop-j.invariant (length-bytes_of _) c.store.ensures refl)
 

@@ -18,7 +18,8 @@ loop-j-init c =
 pub loop-j-preserved : goal.loop-j-preserved
 loop-j-preserved c = (
   c.loop-j.invariant.0,
-  even-turn STRINGS (item c.args.bits.now c.args.macs.now c.args.base) ITEM (λ t h. length-bit_block _ _) c.loop-j.j (8 + c.loop-j.j * ITEM + ITEM) _
+  even-turn STRINGS (item c.args.bits.now c.args.macs.now c.args.base) ITEM (λ t h. length-bit_block _ _) c.loop-j.j
+      (8 + c.loop-j.j * ITEM + ITEM) _
       c.loop-j.out c.put_bit_block.new.out
       c.loop-j.invariant.0 c.loop-j-test.true c.loop-j.invariant.1
       (c.put_bit_block.ensures ∙ ap (λ x. bit_block x (pair_at c.args.macs.now (c.args.base + c.loop-j.j))) c.bit.ensures) refl,

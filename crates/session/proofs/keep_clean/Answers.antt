@@ -13,4 +13,5 @@ returns-in-Ok c = zero-takes (told c.args.found).code _ _ c.args.work.now (ap (�
 
 pub returns-in-Err : goal.returns-in-Err
 returns-in-Err c =
-    other-leaves (told c.args.found).code _ c.args.work.now (λ z. number-some c.in-Err.field-0.reason (sym (ap (λ v. (told v).code) c.in-Err.is) ∙ z))
+    other-leaves (told c.args.found).code _ c.args.work.now (λ z. number-some c.in-Err.field-0.reason
+    (sym (ap (λ v. (told v).code) c.in-Err.is) ∙ z))

@@ -18,11 +18,14 @@ pub returns-in-Err : goal.returns-in-Err
 unfolding reply_of
 returns-in-Err c =
     rw (c.silent.ensures.0, c.silent.ensures.1, c.silent.ensures.2)
-    (call-refused c.args.s c.args.k (given c.args.incoming.now c.args.starts.now c.args.lens.now c.args.missing.now c.args.r.now c.args.out.now) c.args.work.now (number c.in-Err.reason) c.in-Err.ensures (number-some c.in-Err.reason))
+    (call-refused c.args.s c.args.k (given c.args.incoming.now c.args.starts.now c.args.lens.now c.args.missing.now c.args.r.now
+    c.args.out.now) c.args.work.now (number c.in-Err.reason) c.in-Err.ensures (number-some c.in-Err.reason))
 
-let-in : (c : In_default) → Admitted c.args.s c.args.k (given c.args.incoming.now c.args.starts.now c.args.lens.now c.args.missing.now c.args.r.now c.args.out.now) c.args.work.now
+let-in : (c : In_default) → Admitted c.args.s c.args.k (given c.args.incoming.now c.args.starts.now c.args.lens.now c.args.missing.now
+    c.args.r.now c.args.out.now) c.args.work.now
 let-in c =
-    reason-zero c.args.s c.args.k (given c.args.incoming.now c.args.starts.now c.args.lens.now c.args.missing.now c.args.r.now c.args.out.now) c.args.work.now (sym c.in_default.ensures)
+    reason-zero c.args.s c.args.k (given c.args.incoming.now c.args.starts.now c.args.lens.now c.args.missing.now c.args.r.now
+    c.args.out.now) c.args.work.now (sym c.in_default.ensures)
 
 pub mail_of-mail-requires : goal.mail_of-mail-requires
 mail_of-mail-requires c = let A = let-in (goal.at.mail_of-mail-requires c).In_default in (A.starts-n, A.lens-n, A.ranges.range.eight)
@@ -30,8 +33,10 @@ mail_of-mail-requires c = let A = let-in (goal.at.mail_of-mail-requires c).In_de
 -- the parts, by the mail
 parts : (c : After-mail_of-mail) → parts_in c.args.s.party (posted c.args.incoming.now c.mail_of-mail.result c.args.missing.now) ≡ true
 parts c =
-    let A : Admitted c.args.s c.args.k (given c.args.incoming.now c.args.starts.now c.args.lens.now c.args.missing.now c.args.r.now c.args.out.now) c.args.work.now =
-    reason-zero c.args.s c.args.k (given c.args.incoming.now c.args.starts.now c.args.lens.now c.args.missing.now c.args.r.now c.args.out.now) c.args.work.now (sym c.in_default.ensures) in
+    let A : Admitted c.args.s c.args.k (given c.args.incoming.now c.args.starts.now c.args.lens.now c.args.missing.now c.args.r.now
+    c.args.out.now) c.args.work.now =
+    reason-zero c.args.s c.args.k (given c.args.incoming.now c.args.starts.now c.args.lens.now c.args.missing.now c.args.r.now
+    c.args.out.now) c.args.work.now (sym c.in_default.ensures) in
     subst (λ (x : Mail). parts_in c.args.s.party (posted c.args.incoming.now x c.args.missing.now) ≡ true) (sym c.mail_of-mail.ensures)
     (parts-posted c.args.s.party c.args.incoming.now c.args.starts.now c.args.lens.now c.args.missing.now c.args.r.now
     c.args.out.now A.parts-in)
@@ -47,7 +52,8 @@ fault-requires c =
     }
 
 -- ---- what is found by the mail is what the definition says
-found : (c : After-fault) → Finds c.fault.result (fault_of (rule_of table c.args.k) c.args.s.party (given c.args.incoming.now c.args.starts.now c.args.lens.now c.args.missing.now c.args.r.now c.args.out.now) c.args.work.now)
+found : (c : After-fault) → Finds c.fault.result (fault_of (rule_of table c.args.k) c.args.s.party
+    (given c.args.incoming.now c.args.starts.now c.args.lens.now c.args.missing.now c.args.r.now c.args.out.now) c.args.work.now)
 found c =
     subst (Finds c.fault.result)
     (ap (λ (m : Mail). fault_of (rule_of table c.args.k) c.args.s.party
@@ -60,7 +66,8 @@ pub returns-in-Err-fault : goal.returns-in-Err-fault
 unfolding reply_of
 returns-in-Err-fault c =
     rw (c.silent-in-Err-fault.ensures.0, c.silent-in-Err-fault.ensures.1, c.silent-in-Err-fault.ensures.2)
-    (call-faulted c.args.s c.args.k (given c.args.incoming.now c.args.starts.now c.args.lens.now c.args.missing.now c.args.r.now c.args.out.now) c.args.work.now (sym c.in_default.ensures)
+    (call-faulted c.args.s c.args.k (given c.args.incoming.now c.args.starts.now c.args.lens.now c.args.missing.now c.args.r.now
+    c.args.out.now) c.args.work.now (sym c.in_default.ensures)
     c.in-Err-fault.refusal c.ended.result c.clear.new.out (rw c.in-Err-fault.is at (found (goal.at.returns-in-Err-fault c).After-fault))
     c.ended.ensures c.clear.ensures)
 
@@ -88,7 +95,8 @@ told_after-requires c =
 pub returns : goal.returns
 unfolding reply_of
 returns c =
-    call-accepted c.args.s c.args.k (given c.args.incoming.now c.args.starts.now c.args.lens.now c.args.missing.now c.args.r.now c.args.out.now) c.args.work.now (sym c.in_default.ensures)
+    call-accepted c.args.s c.args.k (given c.args.incoming.now c.args.starts.now c.args.lens.now c.args.missing.now c.args.r.now
+    c.args.out.now) c.args.work.now (sym c.in_default.ensures)
     (rw c.in_default-fault.is at (found (goal.at.returns c).After-fault))
     c.next_round-due.result c.next_round-due.ensures c.told_after.result c.told_after.ensures
     (mask c.args.s.party (letter c.args.incoming.now c.mail_of-mail.result))

@@ -6,7 +6,8 @@ use Rattle.toss_recv.proofs.joint_seed.Goals as goal
 use Rattle.toss_recv.proofs.joint_seed.Goals.{then-k-f, else-k-f}
 
 pub loop-k-init : goal.loop-k-init
-loop-k-init c = tossed-zero c.args.f.i c.args.seed.now (letter c.args.incoming.now c.args.mail) c.xor_inplace.new.a c.requires.n_bound.1 c.xor_inplace.ensures
+loop-k-init c = tossed-zero c.args.f.i c.args.seed.now (letter c.args.incoming.now c.args.mail) c.xor_inplace.new.a c.requires.n_bound.1
+    c.xor_inplace.ensures
 
 pub loop-k-preserved : goal.loop-k-preserved
 loop-k-preserved c =
@@ -23,4 +24,5 @@ loop-k-preserved c =
 
 pub returns : goal.returns
 returns c =
-    tossed-end c.args.f.i c.args.seed.now (letter c.args.incoming.now c.args.mail) c.args.f.n c.args.f.l c.loop-k.k c.loop-k.x c.loop-k.invariant (omega arith)
+    tossed-end c.args.f.i c.args.seed.now (letter c.args.incoming.now c.args.mail) c.args.f.n c.args.f.l c.loop-k.k c.loop-k.x
+    c.loop-k.invariant (omega arith)

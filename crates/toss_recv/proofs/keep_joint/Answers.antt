@@ -10,7 +10,14 @@ use Rattle.toss_recv.proofs.keep_joint.Goals as goal
 
 pub joint_seed-seed-requires : goal.joint_seed-seed-requires
 joint_seed-seed-requires c =
-    record { n_bound = (c.requires.work.ranges.range.eight, lent_length c.requires.work SEED _ _ (omega arith) (size-seed c.args.f) c.section.ensures); arrived = c.requires.arrived }
+    record {
+      n_bound = (
+        c.requires.work.ranges.range.eight,
+        lent_length c.requires.work SEED _ _ (omega arith) (size-seed c.args.f)
+            c.section.ensures,
+      );
+      arrived = c.requires.arrived;
+    }
 
 pub slice_bounds-copy_from_slice-end : goal.slice_bounds-copy_from_slice-end
 slice_bounds-copy_from_slice-end c =

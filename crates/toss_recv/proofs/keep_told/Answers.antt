@@ -8,7 +8,14 @@ slice_bounds-told_rows-end c = place_in c.requires.work.0 c.args.s _ _ c.require
 
 pub told_rows-requires : goal.told_rows-requires
 told_rows-requires c =
-    record { n_bound = (c.requires.work.0.ranges.range.eight, place-length c.requires.work.0 c.args.s _ _ _ c.requires.work.1.section c.place-p.ensures c.requires.work.1.rows); arrived = c.requires.arrived }
+    record {
+      n_bound = (
+        c.requires.work.0.ranges.range.eight,
+        place-length c.requires.work.0 c.args.s _ _ _ c.requires.work.1.section
+            c.place-p.ensures c.requires.work.1.rows,
+      );
+      arrived = c.requires.arrived;
+    }
 
 pub returns : goal.returns
 returns c =
