@@ -10,7 +10,7 @@ ghost use Rattle.aes_key.specs.Words.{words_bytes};
 ghost use Rattle.aes.specs.Columns.{block_of, columns_of, column_of, last_of, state_of};
 
 use aes_key::Key;
-use aes_tables::Tables;
+use aes_tables::{ENTRIES, Tables};
 use block::Block;
 
 // The State: four columns, the first byte of each lowest.
@@ -45,13 +45,13 @@ impl From<Columns> for Block {
 
 // A column after SubBytes, ShiftRows, MixColumns and AddRoundKey: its bytes come from the columns a, b, c and d, one of each, and k is
 // the key's word.
-pub fn column(t: &Tables, a: u32, b: u32, c: u32, d: u32, k: u32) -> u32
-    ensures { result ≡ column_of t.now.words a b c d k }
+pub fn column(t: &[u32; ENTRIES], a: u32, b: u32, c: u32, d: u32, k: u32) -> u32
+    ensures { result ≡ column_of t.now a b c d k }
 {
-    t.words[(a % 256) as usize]
-        ^ t.words[256 + ((b >> 8) % 256) as usize]
-        ^ t.words[512 + ((c >> 16) % 256) as usize]
-        ^ t.words[768 + ((d >> 24) % 256) as usize]
+    t[(a % 256) as usize]
+        ^ t[256 + ((b >> 8) % 256) as usize]
+        ^ t[512 + ((c >> 16) % 256) as usize]
+        ^ t[768 + ((d >> 24) % 256) as usize]
         ^ k
 }
 
@@ -72,7 +72,7 @@ pub fn round(key: &Key, k: usize, s: Columns) -> Columns
     requires { k ≤ 10 }
     ensures { state_of result ≡ C.add_round_key (words_bytes 44 key.now.words) k (C.mix_columns (C.shift_rows (C.sub_bytes (state_of s)))) }
 {
-    let t = &key.tables;
+    let t = &key.tables.words;
     let w = &key.words;
     let i = k * 4;
     Columns(

@@ -46,7 +46,7 @@ fn rest(key: &Key) -> Columns
 {
     let t = &key.tables;
     let w = &key.words;
-    let q = pieces(t, aes::column(t, w[1], w[2], w[3], w[0], w[5]));
+    let q = pieces(t, aes::column(&t.words, w[1], w[2], w[3], w[0], w[5]));
     Columns(q.1 ^ w[8], q.0 ^ w[9], q.3 ^ w[10], q.2 ^ w[11])
 }
 
@@ -59,20 +59,20 @@ fn part(key: &Key, z: Columns, p: usize, x: u32) -> Columns
     let w = &key.words;
     match p {
         0 => {
-            let q = pieces(t, aes::column(t, x ^ w[0], w[1], w[2], w[3], w[4]));
+            let q = pieces(t, aes::column(&t.words, x ^ w[0], w[1], w[2], w[3], w[4]));
             Columns(q.0 ^ z.0, q.3 ^ z.1, q.2 ^ z.2, q.1 ^ z.3)
         }
         1 => {
             let q = pieces(
                 t,
-                aes::column(t, w[3], (x * 0x100) ^ w[0], w[1], w[2], w[7]),
+                aes::column(&t.words, w[3], (x * 0x100) ^ w[0], w[1], w[2], w[7]),
             );
             Columns(q.3, q.2, q.1, q.0)
         }
         _ => {
             let q = pieces(
                 t,
-                aes::column(t, w[2], w[3], (x * 0x1_0000) ^ w[0], w[1], w[6]),
+                aes::column(&t.words, w[2], w[3], (x * 0x1_0000) ^ w[0], w[1], w[6]),
             );
             Columns(q.2, q.1, q.0, q.3)
         }
@@ -80,6 +80,7 @@ fn part(key: &Key, z: Columns, p: usize, x: u32) -> Columns
 }
 
 // The parts, two words each: 256 for the lowest byte, then for the next, then for the third.
+#[inline(never)]
 pub fn starts(key: &Key) -> [u64; PARTS]
     ensures { result ≡ starts_of key.now.words }
 {
@@ -95,6 +96,7 @@ pub fn starts(key: &Key) -> [u64; PARTS]
 
 impl Cipher {
     // Under the key `seed`.
+    #[inline(never)]
     pub fn new(seed: &[u8]) -> Cipher
         requires { length seed.now ≡ 16 }
         ensures { words_bytes 44 result.key.words ≡ key_expansion seed.now }

@@ -60,6 +60,7 @@ fn load(s: &[u8], at: usize) -> u32
 
 impl Key {
     // The words of a key: its own four, and 40 more.
+    #[inline(never)]
     pub fn expand(key: &[u8]) -> Key
         requires { length key.now ≡ 16 }
         ensures { words_bytes 44 result.words ≡ key_expansion key.now }

@@ -71,6 +71,7 @@ fn entry(q: usize, s: u8) -> u32
 
 impl Tables {
     // All of them: 256 for each place, then the S-box.
+    #[inline(never)]
     pub fn new() -> Tables {
         let s = sbox();
         let mut words = [0u32; ENTRIES];

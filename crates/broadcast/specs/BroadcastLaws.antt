@@ -1,15 +1,15 @@
 -- What is kept for an echo, and what the echo's call finds: the definitions look at other parties' messages alone.
-use Rattle.std.specs.Prelude.{◌≡◌, Ok, Err, length, Bool, true, false, ◌&&◌, ◌||◌, ◌≢◌, ℕ, zero, suc, ◌-◌, ◌≤◌, replicate, eqb}
+use Rattle.std.specs.Prelude.{◌≡◌, Ok, Err, Bool, true, false, ◌&&◌, ◌||◌, ◌≢◌, ℕ, zero, suc, ◌-◌, ◌≤◌, replicate, eqb}
 use Rattle.std.proofs.Math.Path.{refl, ap, ap₂}
 use Rattle.std.proofs.Common.{sym, ◌∙◌, arith}
 use mathlib.Core.List.{List, [], ◌∷◌}
 use Rattle.std.proofs.Math.ListN.{get_or}
 use Rattle.std.proofs.Math.Dec.{ltb}
-use borrow.Author.Tests.{ne_eqb}
+use borrow.Author.Tests.{ne_eqb, eqb-true}
 use Rattle.lists.specs.Pick.{pick}
 use Rattle.refusals.specs.declared.Reason.{Reason}
 use Rattle.refusals.specs.declared.Reason.TheVariants as V
-use Rattle.refusals.specs.Reason.{number, number-some}
+use Rattle.refusals.specs.Reason.{number}
 use Rattle.refusals.specs.contracts.Reason.{the_type}
 use denote.Enum.Declared.{tag_of}
 use denote.Enum.Bare.{sameb}
@@ -198,10 +198,12 @@ faults-no_reason k x ne = go (mem x (faults k)) refl
     go false e = refl
 
 -- number and party in two bytes
-pub waits-refused : (r : Reason) (party : ℕ) → number r ∷ party ∷ [] ≡ waits (record { code = number r; party = party })
+pub waits-is : (code party p : ℕ) → p ≡ pick (eqb code 0) 0 party → code ∷ p ∷ [] ≡ waits (record { code = code; party = party })
 unfolding waits
-waits-refused r party = rw (ne_eqb (number r) 0 (number-some r)) refl
-
-pub waits-accepted : (x : List ℕ) → length x ≡ 2 → replicate (length x) 0 ≡ waits none?
-unfolding waits
-waits-accepted x h = rw h refl
+waits-is code party p e = go (eqb code 0) refl
+  where
+    go : (b : Bool) → eqb code 0 ≡ b → code ∷ p ∷ [] ≡ pick (eqb code 0) (0 ∷ 0 ∷ []) (code ∷ party ∷ [])
+    go true q =
+        ap₂ (λ c d. c ∷ d ∷ []) (eqb-true code 0 q) (e ∙ ap (λ b. pick b 0 party) q)
+        ∙ sym (ap (λ b. pick b (0 ∷ 0 ∷ []) (code ∷ party ∷ [])) q)
+    go false q = ap (λ d. code ∷ d ∷ []) (e ∙ ap (λ b. pick b 0 party) q) ∙ sym (ap (λ b. pick b (0 ∷ 0 ∷ []) (code ∷ party ∷ [])) q)

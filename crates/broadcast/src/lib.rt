@@ -4,7 +4,8 @@
 // reads and writes the messages.
 #![tactic(auto)]
 
-ghost use Rattle.std.specs.Prelude.{◌≡◌, ◌-◌, ◌*◌, ◌<◌, ◌≤◌, length};
+ghost use Rattle.std.specs.Prelude.{◌≡◌, ◌≢◌, ◌-◌, ◌*◌, ◌<◌, ◌≤◌, length, eqb};
+ghost use Rattle.lists.specs.Pick.{pick};
 ghost use Rattle.refusals.specs.Reason.{number};
 ghost use Rattle.plan.specs.Plan.{kind_of, count_due, msg_len};
 ghost use Rattle.engine.specs.Step.{mask};
@@ -35,32 +36,64 @@ fn keep_hashes(work: &mut [u8], incoming: &[u8], mail: Mail, f: Frame, k: usize)
     echo::keep_hashes(&mut work[p.0..p.1], incoming, mail, f, k);
 }
 
-// Number and party of a fault, 0 0 for none.
-fn put_fault(out: &mut [u8], verdict: Verdict)
-    requires { (length out.old ≡ 2) × Names verdict 256 }
-    ensures { out.new ≡ waits (told verdict) }
+// The party of a fault in a byte, 0 for none.
+fn party_byte(code: u8, party: usize) -> u8
+    requires { code ≢ 0 → party < 256 }
+    ensures { result ≡ pick (eqb code 0) 0 party }
 {
-    match verdict {
-        Ok(_) => out.fill(0),
-        Err(r) => {
-            out[0] = r.reason.number();
-            out[1] = r.party as u8;
-        }
-    }
+    if code == 0 { 0 } else { party as u8 }
+}
+
+// Number and party of a fault, 0 0 for none.
+fn put_fault(out: &mut [u8], code: u8, party: usize)
+    requires { (length out.old ≡ 2) × (code ≢ 0 → party < 256) }
+    ensures { out.new ≡ waits (record { code = code; party = party }) }
+{
+    out[0] = code;
+    out[1] = party_byte(code, party);
 }
 
 // Keeps a fault.
-fn keep_fault(work: &mut [u8], verdict: Verdict, f: Frame)
+fn keep_fault(work: &mut [u8], code: u8, party: usize, f: Frame)
     requires work { Work f work.old }
-    requires party_lt_n { Names verdict f.n }
-    ensures { work.new ≡ keep f PENDING (waits (told verdict)) work.old }
+    requires party_lt_n { code ≢ 0 → party < f.n }
+    ensures { work.new ≡ keep f PENDING (waits (record { code = code; party = party })) work.old }
 {
     let p = area::place(f, area::PENDING);
-    put_fault(&mut work[p.0..p.1], verdict);
+    put_fault(&mut work[p.0..p.1], code, party);
 }
 
-// Keeps what the echo of round k is about: the hashes, and the fault that was found, if one was, with a party of the session.
-pub fn note(work: &mut [u8], verdict: Verdict, incoming: &[u8], mail: Mail, f: Frame, k: usize)
+// Keeps what the echo of round k is about: the hashes, and the fault that was found, if one was, by its number and a party of the
+// session; 0 for none.
+pub fn note(
+    work: &mut [u8],
+    code: u8,
+    party: usize,
+    incoming: &[u8],
+    mail: Mail,
+    f: Frame,
+    k: usize,
+)
+    requires work { Work f work.old }
+    requires party_lt_n { code ≢ 0 → party < f.n }
+    requires received { Received (kind_of f.l k) (count_due f.n f.l k) f incoming.now mail }
+    ensures { work.new ≡ keep f PENDING (waits (record { code = code; party = party }))
+        (keep f HASHES (digests table k f
+        (mask f (letter incoming.now mail))) work.old) }
+{
+    keep_hashes(work, incoming, mail, f, k);
+    keep_fault(work, code, party, f);
+}
+
+// The same, of a verdict.
+pub fn note_verdict(
+    work: &mut [u8],
+    verdict: Verdict,
+    incoming: &[u8],
+    mail: Mail,
+    f: Frame,
+    k: usize,
+)
     requires work { Work f work.old }
     requires party_lt_n { Names verdict f.n }
     requires received { Received (kind_of f.l k) (count_due f.n f.l k) f incoming.now mail }
@@ -68,8 +101,10 @@ pub fn note(work: &mut [u8], verdict: Verdict, incoming: &[u8], mail: Mail, f: F
         (keep f HASHES (digests table k f
         (mask f (letter incoming.now mail))) work.old) }
 {
-    keep_hashes(work, incoming, mail, f, k);
-    keep_fault(work, verdict, f);
+    match verdict {
+        Ok(()) => note(work, 0, 0, incoming, mail, f, k),
+        Err(r) => note(work, r.reason.number(), r.party, incoming, mail, f, k),
+    }
 }
 
 // Whether the content check of round k can find this.

@@ -149,9 +149,6 @@ pub fn make(work: &mut [u8], out: &mut [u8], r: &[u8], f: Frame)
         r,
         plan::r_blocks(l),
     );
-    let bits = s.bits;
-    let macs = s.macs;
-    let keys = s.keys;
-    hold(work, &keys, f);
-    write(out, &bits, &macs, n);
+    hold(work, &s.keys, f);
+    write(out, &s.bits, &s.macs, n);
 }

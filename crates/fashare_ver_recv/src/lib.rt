@@ -73,6 +73,7 @@ fn check_strings(incoming: &[u8], mail: Mail, f: Frame) -> Verdict
 }
 
 // All dms against the third commitments, which "come before any dm length or dm bit".
+#[tactic(auto, using(crate::specs::JudgeLaws::shut_first, crate::specs::JudgeLaws::odd_next))]
 pub fn judge(work: &[u8], incoming: &[u8], mail: Mail, f: Frame) -> Verdict
     requires work { Work f work.now }
     requires received { Received Kind.Dms Fashare.STRINGS f incoming.now mail }

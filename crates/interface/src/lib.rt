@@ -94,12 +94,20 @@ pub fn told_reason(s: Session, k: usize) -> Reason
     Reason::WrongBuffer
 }
 
+// Number and party in one.
+pub fn packed(code: u8, party: usize) -> u64
+    requires { party ≤ Interface.NO_PARTY }
+    ensures { result ≡ packed_of (Refused code party) }
+{
+    code as u64 + 256 * party as u64
+}
+
 // The number of a reason and a party in one.
-pub fn packed(reason: Reason, party: usize) -> u64
+pub fn packed_refusal(reason: Reason, party: usize) -> u64
     requires { party ≤ Interface.NO_PARTY }
     ensures { result ≡ packed_of (Refused (number reason) party) }
 {
-    reason.number() as u64 + 256 * party as u64
+    packed(reason.number(), party)
 }
 
 pub fn answer(v: Verdict) -> u64
@@ -108,7 +116,7 @@ pub fn answer(v: Verdict) -> u64
 {
     match v {
         Ok(()) => 0,
-        Err(Refusal { reason, party }) => packed(reason, party),
+        Err(Refusal { reason, party }) => packed_refusal(reason, party),
     }
 }
 
@@ -120,7 +128,7 @@ pub fn sum(counts: &[u32]) -> u64
 {
     match batches::fault(counts) {
         Ok(()) => batches::sum(counts) as u64,
-        Err(reason) => packed(reason, NO_PARTY),
+        Err(reason) => packed_refusal(reason, NO_PARTY),
     }
 }
 

@@ -48,8 +48,8 @@ pub extern "C" fn nuzsdike_open(
         };
         let refused = batches::fault(counts);
         return match inputs::check_lengths(f, refused, bits.len(), alpha.len(), beta.len(), false) {
-            Ok(()) => interface::packed(Reason::WrongBuffer, own),
-            Err(reason) => interface::packed(reason, own),
+            Ok(()) => interface::packed_refusal(Reason::WrongBuffer, own),
+            Err(reason) => interface::packed_refusal(reason, own),
         };
     }
     let a = opening::open(
@@ -60,7 +60,7 @@ pub extern "C" fn nuzsdike_open(
             interface::store(session, a.session);
             0
         }
-        Err(refusal) => interface::packed(refusal.reason, own),
+        Err(refusal) => interface::packed_refusal(refusal.reason, own),
     }
 }
 
@@ -83,11 +83,11 @@ pub extern "C" fn nuzsdike_round(
         work.old told.old }
 {
     if session.len() != interface::SESSION {
-        return interface::packed(Reason::NoSession, interface::NO_PARTY);
+        return interface::packed_refusal(Reason::NoSession, interface::NO_PARTY);
     }
     let s = interface::load(session);
     if told.len() != batches::TOLD {
-        return interface::packed(interface::told_reason(s, round as usize), s.party.i);
+        return interface::packed_refusal(interface::told_reason(s, round as usize), s.party.i);
     }
     let step = session::round(
         s,

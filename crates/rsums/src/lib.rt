@@ -12,6 +12,7 @@ ghost use Rattle.draw.specs.Strings.{strings};
 ghost use Rattle.rsums.specs.Sums.{Given, party_sums, grown};
 
 use rbits::WINDOW;
+use window::Strings;
 
 // The words of a Block for each string and each of seven other parties.
 pub const WORDS: usize = 1680;
@@ -65,9 +66,20 @@ fn add_group(
     }
 }
 
-// The sums over `count` records among n parties, as box i has them; a string has `blocks` Blocks.
-pub fn sums(s: &[u8], n: usize, i: usize, count: usize, r: &[u8], blocks: usize) -> AllSums
-    requires { Given n i count blocks s.now r.now }
+// The sums over `count` records among n parties, as box i has them; a string has `blocks` Blocks. Not inlined, so that the sums are on
+// the stack only once the strings are made.
+#[inline(never)]
+fn sums_of(
+    made: &Strings,
+    s: &[u8],
+    n: usize,
+    i: usize,
+    count: usize,
+    r: &[u8],
+    blocks: usize,
+) -> AllSums
+    requires given { Given n i count blocks s.now r.now }
+    requires made_of { made.now.r.now ≡ r.now }
     ensures bits_value { result.bits ≡ tab 120 (λ j. num (bit_sum s.now (record_len n) (strings (120 * blocks) r.now)
         (16 * blocks) count j)) }
     ensures macs_value { result.macs ≡ words_of 840 (party_sums mac_off n i s.now (strings (120 * blocks) r.now)
@@ -75,14 +87,13 @@ pub fn sums(s: &[u8], n: usize, i: usize, count: usize, r: &[u8], blocks: usize)
     ensures keys_value { result.keys ≡ words_of 840 (party_sums key_off n i s.now (strings (120 * blocks) r.now)
         (16 * blocks) count) }
 {
-    let strings = window::prepare(r);
     let stride = share::record_len(n);
     let mut bits = [0u64; 120];
     let mut macs = [0u64; WORDS];
     let mut keys = [0u64; WORDS];
     let mut win = [0u64; WINDOW];
     for g in 0..count.div_ceil(64) {
-        strings.turn(&mut win, blocks, g);
+        made.turn(&mut win, blocks, g);
         let h = g % 2;
         let b = rbits::pack(s, stride, count, g * 64);
         rbits::add_bits(&mut bits, &win, h, b);
@@ -93,4 +104,17 @@ pub fn sums(s: &[u8], n: usize, i: usize, count: usize, r: &[u8], blocks: usize)
         macs,
         keys,
     }
+}
+
+// The same, of strings that are lent, or drawn from a seed.
+pub fn sums(s: &[u8], n: usize, i: usize, count: usize, r: &[u8], blocks: usize) -> AllSums
+    requires { Given n i count blocks s.now r.now }
+    ensures bits_value { result.bits ≡ tab 120 (λ j. num (bit_sum s.now (record_len n) (strings (120 * blocks) r.now)
+        (16 * blocks) count j)) }
+    ensures macs_value { result.macs ≡ words_of 840 (party_sums mac_off n i s.now (strings (120 * blocks) r.now)
+        (16 * blocks) count) }
+    ensures keys_value { result.keys ≡ words_of 840 (party_sums key_off n i s.now (strings (120 * blocks) r.now)
+        (16 * blocks) count) }
+{
+    sums_of(&window::prepare(r), s, n, i, count, r, blocks)
 }

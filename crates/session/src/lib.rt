@@ -68,7 +68,7 @@ fn hold_echo(work: &mut [u8], incoming: &[u8], mail: Mail, f: Frame, k: usize)
 {
     let found = plain::judge(work, incoming, mail, f, k);
     keep_clean(work, found, incoming, mail, f, k);
-    broadcast::note(work, found, incoming, mail, f, k);
+    broadcast::note_verdict(work, found, incoming, mail, f, k);
 }
 
 // What is received for round k is kept; an echo is only compared.

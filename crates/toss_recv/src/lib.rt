@@ -47,7 +47,7 @@ fn told_rows(section: &mut [u8], incoming: &[u8], mail: Mail, f: Frame)
 
 // Refused if the seed that party k told doesn't open its commitment.
 fn check_opens(comms: &[u8], incoming: &[u8], mail: Mail, f: Frame, k: usize) -> Result<(), Reason>
-    requires n_bound { (f.n ≤ 8) × (k < f.n) × (f.i ≢ k) × (length comms.now ≡ f.n * 32) }
+    requires n_bound { (f.n ≤ 8) × (f.i < f.n) × (k < f.n) × (f.i ≢ k) × (length comms.now ≡ f.n * 32) }
     requires arrived { Arrived f 40 incoming.now mail }
     ensures { code_of result ≡ open_fault comms.now (letter incoming.now mail) k }
 {

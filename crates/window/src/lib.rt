@@ -21,7 +21,9 @@ pub struct Strings<'a> {
     pub ghost ready: { Ready r.now cipher },
 }
 
-// 16 bytes are a seed.
+// 16 bytes are a seed. Not inlined, as what it calls isn't: what is made on the way to a cipher (17 KB, and each part of it by itself) lies
+// on the stack no longer than that takes.
+#[inline(never)]
 pub fn prepare(r: &[u8]) -> Strings
     ensures { result.r.now ≡ r.now }
 {

@@ -2,7 +2,6 @@ use Rattle.lists.specs.Kit.{ap, ◌∙◌, List, ℕ, arith}
 use Rattle.rounds.specs.Area.{PENDING, keep}
 use Rattle.area.specs.GivenLaws.{place_in, place-length, place-keeps}
 use Rattle.area.specs.Sizes.{size-pending}
-use Rattle.broadcast.specs.Told.{names-most}
 use Rattle.broadcast.proofs.keep_fault.Goals as goal
 
 pub slice_bounds-put_fault-end : goal.slice_bounds-put_fault-end
@@ -11,7 +10,7 @@ slice_bounds-put_fault-end c = place_in c.requires.work PENDING _ _ (omega arith
 pub put_fault-requires : goal.put_fault-requires
 put_fault-requires c = (
   place-length c.requires.work PENDING _ _ _ (omega arith) c.place-p.ensures (size-pending c.args.f),
-  names-most _ _ 256 c.requires.party_lt_n (omega (arith, c.requires.work.ranges.range.eight)),
+  λ ne. omega (arith, c.requires.party_lt_n ne, c.requires.work.ranges.range.eight),
 )
 
 pub returns : goal.returns

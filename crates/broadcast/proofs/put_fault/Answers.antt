@@ -1,15 +1,22 @@
 use Rattle.std.specs.Prelude.{◌∷◌}
-use Rattle.lists.specs.Kit.{sym, ap, ◌∙◌, []}
+use Rattle.lists.specs.Kit.{◌∙◌, [], rules}
 use Rattle.lists.specs.Over.{sets-all}
-use Rattle.engine.specs.Plain.{waits}
-use Rattle.broadcast.specs.Told.{told}
-use Rattle.broadcast.specs.BroadcastLaws.{waits-refused, waits-accepted}
+use Rattle.broadcast.specs.BroadcastLaws.{waits-is}
 use Rattle.broadcast.proofs.put_fault.Goals as goal
 
-pub returns-in-Ok : goal.returns-in-Ok
-returns-in-Ok c = c.fill.ensures.after (λ y e. e) ∙ waits-accepted c.args.out.now c.requires.0 ∙ ap (λ v. waits (told v)) (sym c.in-Ok.is)
+pub bounds-out-0 : goal.bounds-out-0
+bounds-out-0 c = search rules
 
-pub returns-in-Err : goal.returns-in-Err
-returns-in-Err c =
-    sets-all (c.number.result ∷ c.in-Err.r.party ∷ []) c.args.out.now c.requires.0 ∙ ap (λ n. n ∷ c.in-Err.r.party ∷ []) c.number.ensures
-    ∙ waits-refused c.in-Err.r.reason c.in-Err.r.party ∙ ap (λ v. waits (told v)) (sym c.in-Err.is)
+pub party_byte-requires : goal.party_byte-requires
+party_byte-requires c = search rules
+
+pub bounds-out-1 : goal.bounds-out-1
+bounds-out-1 c = search rules
+
+pub shape_of-out : goal.shape_of-out
+shape_of-out c = search rules
+
+pub returns : goal.returns
+returns c =
+    sets-all (c.args.code ∷ c.party_byte.result ∷ []) c.args.out.now c.requires.0
+    ∙ waits-is c.args.code c.args.party c.party_byte.result c.party_byte.ensures

@@ -5,8 +5,8 @@ use Rattle.interface.proofs.sum.Goals as goal
 
 pub returns-in-Err : goal.returns-in-Err
 returns-in-Err c =
-    sum-refused c.args.counts.now (number c.in-Err.reason) c.packed.result (sym (ap code_of c.in-Err.is) ∙ c.fault.ensures)
-    (number-some c.in-Err.reason) c.packed.ensures
+    sum-refused c.args.counts.now (number c.in-Err.reason) c.packed_refusal.result (sym (ap code_of c.in-Err.is) ∙ c.fault.ensures)
+    (number-some c.in-Err.reason) c.packed_refusal.ensures
 
 pub returns-in-Ok : goal.returns-in-Ok
 returns-in-Ok c =

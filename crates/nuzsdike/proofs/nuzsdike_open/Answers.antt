@@ -38,11 +38,11 @@ returns-in-Err c =
     let a = (args c.args.n c.args.i c.args.counts.now c.args.delta.now c.args.seed.now c.args.pairs.now c.args.bits.now c.args.alpha.now
     c.args.beta.now c.args.masks.now
     c.args.work.now c.args.out.now) in
-    opens_not c.args.session.now a c.if-session-ne-SESSION.true c.packed-in-Err.result (code_of c.check_lengths.result)
+    opens_not c.args.session.now a c.if-session-ne-SESSION.true c.packed_refusal-in-Err.result (code_of c.check_lengths.result)
     (c.check_lengths.ensures
     ∙ lengths-as a.n a.i a.counts c.sum.result (code_of c.fault-refused.result) (length a.bits) (length a.alpha) (length a.beta) false
     c.sum.ensures c.fault-refused.ensures)
-    (c.packed-in-Err.ensures ∙ ap (λ r. packed_of (Refused (code_of r) a.i)) (sym c.in-Err.is))
+    (c.packed_refusal-in-Err.ensures ∙ ap (λ r. packed_of (Refused (code_of r) a.i)) (sym c.in-Err.is))
 
 pub returns-in-Ok-verdict : goal.returns-in-Ok-verdict
 unfolding reply_of
@@ -60,4 +60,4 @@ returns-in-Err-verdict c =
     c.args.bits.now c.args.alpha.now c.args.beta.now c.args.masks.now
     c.args.work.now c.args.out.now) c.if-session-ne-SESSION.false c.open-a.result.session (reply_of c.open-a.result.verdict)
     c.open-a.result.told c.open-a.new.work c.open-a.new.out c.open-a.ensures
-    _ _ (ap reply_of c.in-Err-verdict.is) c.packed-in-Err-verdict.result c.packed-in-Err-verdict.ensures
+    _ _ (ap reply_of c.in-Err-verdict.is) c.packed_refusal-in-Err-verdict.result c.packed_refusal-in-Err-verdict.ensures

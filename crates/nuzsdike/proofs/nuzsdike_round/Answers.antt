@@ -15,15 +15,15 @@ pub returns-then-session-ne-SESSION : goal.returns-then-session-ne-SESSION
 returns-then-session-ne-SESSION c =
     rounds-not c.args.session.now c.args.round (given c.args.incoming.now c.args.starts.now c.args.lens.now c.args.missing.now c.args.r.now
     c.args.out.now) c.args.work.now c.args.told.now c.if-session-ne-SESSION.true
-    c.packed.result c.packed.ensures
+    c.packed_refusal.result c.packed_refusal.ensures
 
 pub returns-then-told-ne-TOLD : goal.returns-then-told-ne-TOLD
 returns-then-told-ne-TOLD c =
     rounds-short c.args.session.now c.args.round
     (given c.args.incoming.now c.args.starts.now c.args.lens.now c.args.missing.now c.args.r.now
     c.args.out.now) c.args.work.now c.args.told.now c.if-session-ne-SESSION.false
-    c.if-told-ne-TOLD.true c.load-s.result c.load-s.ensures.0 c.packed-then-told-ne-TOLD.result (number c.told_reason.result)
-    c.told_reason.ensures c.packed-then-told-ne-TOLD.ensures
+    c.if-told-ne-TOLD.true c.load-s.result c.load-s.ensures.0 c.packed_refusal-then-told-ne-TOLD.result (number c.told_reason.result)
+    c.told_reason.ensures c.packed_refusal-then-told-ne-TOLD.ensures
 
 pub store-requires : goal.store-requires
 store-requires c =

@@ -11,8 +11,8 @@ use Rattle.rounds.specs.Table.{table}
 use Rattle.session.specs.HeldLaws.{judge-names, told-code, held-is, hashes-kept}
 use Rattle.session.proofs.hold_echo.Goals as goal
 
-pub note-requires : goal.note-requires
-note-requires c =
+pub note_verdict-requires : goal.note_verdict-requires
+note_verdict-requires c =
     let m = mask c.args.f (letter c.args.incoming.now c.args.mail) in record {
       work = record { ranges = c.requires.work.ranges; whole = c.keep_clean.auto.work ∙ c.requires.work.whole };
       party_lt_n = judge-names c.args.f c.requires.work.ranges.own c.args.k c.args.work.now m c.judge-found.result c.judge-found.ensures;
@@ -25,7 +25,7 @@ returns c =
     let m = mask c.args.f (letter c.args.incoming.now c.args.mail) in
     let e = Table.judge c.args.k c.args.f w m in
     let noted =
-    c.note.ensures
+    c.note_verdict.ensures
     ∙ ap (λ (x : List ℕ). keep c.args.f PENDING x (keep c.args.f HASHES (digests table c.args.k c.args.f m) c.keep_clean.new.work))
     (waits-told c.judge-found.result e c.judge-found.ensures) in (
       noted
